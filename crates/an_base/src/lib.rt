@@ -1,0 +1,20 @@
+//! What every crate of the annotation server speaks of: texts, lists, names, moments and trees.
+#![tactic(auto)]
+
+pub use bytes::Bytes;
+pub use code::Code;
+pub use copy::TryCopy;
+pub use list::List;
+pub use name::{Name, NameError};
+pub use span::{Prefer, Span, TermTotal};
+pub use steps::Steps;
+pub use text::Text;
+
+mod bytes;
+mod code;
+mod copy;
+mod list;
+mod name;
+mod span;
+mod steps;
+mod text;
