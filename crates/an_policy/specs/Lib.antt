@@ -1,0 +1,2 @@
+pub mod Audience
+pub mod Reader

@@ -1,0 +1,12 @@
+//! Who may read what: groups, audiences, readers, and how callers are known.
+#![tactic(auto)]
+
+pub use group::{Audience, Group};
+pub use permission::may;
+pub use reader::{Reader, ReaderError, Role, read_reader};
+pub use who::{Caller, Who};
+
+mod group;
+mod permission;
+mod reader;
+mod who;
