@@ -1,0 +1,35 @@
+ghost use Rattle.std.specs.Prelude.{◌≡◌};
+ghost use Rattle.std.specs.Option.{option_copied};
+ghost use Rattle.an_keyed.specs.Key.{Key, same_key, same_owner};
+
+use an_base::Name;
+
+/// What is kept under a key: an owner, where it has one, and a name.
+pub trait Keyed {
+    ghost key: { Self → Key };
+
+    fn owner(&self) -> Option<&Name>
+        ensures owner { option_copied result ≡ (key self.now).owner };
+
+    fn name(&self) -> &Name
+        ensures name { result.now ≡ (key self.now).name };
+}
+
+/// Whether the row stands under this key.
+pub(crate) fn has_key<R: Keyed>(row: &R, owner: Option<&Name>, name: &Name) -> bool
+    ensures { result ≡ same_key (R.key row.now) (record { owner = option_copied owner.entry; name = name.now }) }
+{
+    is_same_owner(row.owner(), owner) && row.name() == name
+}
+
+fn is_same_owner(one: Option<&Name>, other: Option<&Name>) -> bool
+    ensures { result ≡ same_owner (option_copied one.entry) (option_copied other.entry) }
+{
+    match one {
+        None => other.is_none(),
+        Some(one) => match other {
+            None => false,
+            Some(other) => one == other,
+        },
+    }
+}
