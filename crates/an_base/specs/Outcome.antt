@@ -1,5 +1,5 @@
 -- How a definition says which of several refusals comes, and how a contract ties a call to a definition.
-use Rattle.std.specs.Prelude.{◌≡◌, Bool, List, [], ◌∷◌, if◌then◌else◌, Option, Some, None, Result, Ok, Err, MatchResult}
+use Rattle.std.specs.Prelude.{◌≡◌, Bool, false, List, [], ◌∷◌, if◌then◌else◌, Option, Some, None, Result, Ok, Err, MatchResult}
 
 -- the refusal, where its cause holds
 abbrev pub when : {E : Type 0} → Bool → E → Option E
@@ -15,6 +15,20 @@ first_of (Some refusal ∷ refusals) = Some refusal
 abbrev pub unless : {A E : Type 0} → Option E → A → Result A E
 unless None value = Ok value
 unless (Some refusal) value = Err refusal
+
+-- the value, where it passes the test
+abbrev pub only_if : {A : Type 0} → (A → Bool) → A → Option A
+only_if test value = if test value then Some value else None
+
+-- there is a value, and it passes the test
+abbrev pub passes : {A : Type 0} → (A → Bool) → Option A → Bool
+passes test None = false
+passes test (Some value) = test value
+
+-- what comes of the value, or this refusal where there is none
+abbrev pub or_refuse : {A B E : Type 0} → E → Option A → (A → Result B E) → Result B E
+or_refuse refusal None next = Err refusal
+or_refuse refusal (Some value) next = next value
 
 -- The call gives what the definition means. Want of memory alone may stand in place of any answer.
 abbrev pub Gives : {A B E : Type 0} → (A → B) → E → Result A E → Result B E → Type 0

@@ -12,6 +12,8 @@ pub enum Code {
     Unbuilt,
     /// There is no such thing that the caller may read.
     Absent,
+    /// A group is malformed, or one that a manifest can't have.
+    Group,
     /// A reader's token isn't 8 to 64 letters, digits, `-` and `_`.
     ReaderToken,
     /// A reader's role is none of `reader`, `writer` and `curator`.
@@ -32,6 +34,7 @@ impl Code {
             Code::Input => "input",
             Code::Unbuilt => "unbuilt",
             Code::Absent => "absent",
+            Code::Group => "group",
             Code::ReaderToken => "reader_token",
             Code::ReaderRole => "reader_role",
             Code::ReaderUser => "reader_user",

@@ -4,20 +4,14 @@ use Rattle.std.specs.List.{list_all}
 use Rattle.serde_json.specs.Data.{Data, Items, no_items, item, null, boolean, number, string, array, object}
 use Rattle.serde_json.specs.Find.{get, as_str}
 use Rattle.serde_json.specs.Events.{items_len}
+use Rattle.an_base.specs.Outcome.{only_if, or_refuse}
+use Rattle.an_base.specs.Member.{text_in}
 use Rattle.an_policy.specs.Audience.{is_among, is_group_name}
 use Rattle.an_policy.specs.declared.reader.Reader.{Reader}
 use Rattle.an_policy.specs.declared.reader.ReaderError.{ReaderError}
 use Rattle.an_policy.specs.declared.reader.ReaderError.TheVariants as error
 use Rattle.an_policy.specs.declared.reader.Role.{Role}
 use Rattle.an_policy.specs.declared.reader.Role.TheVariants as role
-
--- the value, where it passes the test
-abbrev pub only_if : {A : Type 0} → (A → Bool) → A → Option A
-only_if test value = if test value then Some value else None
-
--- a text in a member of an object
-abbrev pub text_in : List ℕ → Data → Option (List ℕ)
-text_in name tree = option_and_then as_str (get name tree)
 
 -- a sign of a token: a letter, a digit, `-` or `_`
 abbrev pub is_token_sign : ℕ → Bool
@@ -68,11 +62,6 @@ groups_of_tree (object ms) = None
 -- no member `groups` means no groups
 abbrev pub groups_in : Data → Option (List (List ℕ))
 groups_in tree = elim (get (codes "groups") tree) [ None ↦ Some [] | Some groups ↦ groups_of_tree groups ]
-
--- the value, or this refusal where there is none
-abbrev pub or_refuse : {A B E : Type 0} → E → Option A → (A → Result B E) → Result B E
-or_refuse refusal None next = Err refusal
-or_refuse refusal (Some value) next = next value
 
 -- The reader that a tree describes, under a name and with a version, or the first refusal. Further members mean nothing.
 abbrev pub reader_of : Data → List ℕ → ℕ → Result Reader ReaderError

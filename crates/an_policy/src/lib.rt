@@ -2,7 +2,7 @@
 #![tactic(auto)]
 
 pub use group::{Audience, Group};
-pub use permission::may;
+pub use permission::{is_member, is_named, may, may_read};
 pub use reader::{Reader, ReaderError, Role, read_reader};
 pub use who::{Caller, Who};
 

@@ -1,4 +1,5 @@
 ghost use Rattle.std.specs.Prelude.{◌≡◌};
+ghost use Rattle.std.specs.Option.{option_copied};
 ghost use Rattle.an_policy.specs.Audience.{identity, groups_of, is_among, is_in, is_named, is_owner, may};
 
 use crate::group::{Audience, Group};
@@ -9,7 +10,20 @@ use an_base::Name;
 pub fn may(who: &Who<'_>, audience: &Audience) -> bool
     ensures answer { result ≡ may (identity who.now) audience.now }
 {
-    is_in(who, &audience.outer) && (is_in(who, &audience.inner) || is_owner(who, &audience.owner))
+    may_read(
+        who,
+        &audience.outer,
+        &audience.inner,
+        audience.owner.as_ref(),
+    )
+}
+
+/// The same for an audience that is given in parts.
+pub fn may_read(who: &Who<'_>, outer: &Group, inner: &Group, owner: Option<&Name>) -> bool
+    ensures answer { result ≡ may (identity who.now)
+        (record { outer = outer.now; inner = inner.now; owner = option_copied owner.entry }) }
+{
+    is_in(who, outer) && (is_in(who, inner) || is_owner(who, owner))
 }
 
 fn is_in(who: &Who<'_>, group: &Group) -> bool
@@ -22,7 +36,8 @@ fn is_in(who: &Who<'_>, group: &Group) -> bool
     }
 }
 
-fn is_member(who: &Who<'_>, group: &Name) -> bool
+/// Whether the caller is a member of the group of this name.
+pub fn is_member(who: &Who<'_>, group: &Name) -> bool
     ensures { result ≡ is_among (groups_of (identity who.now)) group.now }
 {
     match who {
@@ -39,8 +54,8 @@ pub(crate) fn is_among(names: &[Name], name: &Name) -> bool
     names.iter().any(|other| other == name)
 }
 
-fn is_owner(who: &Who<'_>, owner: &Option<Name>) -> bool
-    ensures { result ≡ is_owner (identity who.now) owner.now }
+fn is_owner(who: &Who<'_>, owner: Option<&Name>) -> bool
+    ensures { result ≡ is_owner (identity who.now) (option_copied owner.entry) }
 {
     match owner {
         None => false,
@@ -48,7 +63,8 @@ fn is_owner(who: &Who<'_>, owner: &Option<Name>) -> bool
     }
 }
 
-fn is_named(who: &Who<'_>, name: &Name) -> bool
+/// Whether the caller is the reader of this name.
+pub fn is_named(who: &Who<'_>, name: &Name) -> bool
     ensures { result ≡ is_named (identity who.now) name.now }
 {
     match who {

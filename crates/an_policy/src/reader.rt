@@ -4,10 +4,10 @@ ghost use Rattle.std.specs.List.{list_all};
 ghost use Rattle.serde_json.specs.Data.{array};
 ghost use Rattle.serde_json.specs.View.{view, items_view};
 ghost use Rattle.an_base.specs.Outcome.{Gives};
-ghost use Rattle.an_policy.specs.Reader.{is_token, is_token_sign, is_user, is_user_sign, role_named, text_in, token_in, role_in, user_in, group_in, groups_in, groups_of_tree, groups_with, reader_of};
+ghost use Rattle.an_policy.specs.Reader.{is_token, is_token_sign, is_user, is_user_sign, role_named, token_in, role_in, user_in, group_in, groups_in, groups_of_tree, groups_with, reader_of};
 
 use crate::permission::is_among;
-use an_base::{List, Name, NameError, Text, TryCopy};
+use an_base::{List, Name, NameError, Text, TryCopy, text_in};
 use serde_json::Value;
 use std::alloc::{AllocError, Global};
 
@@ -124,16 +124,6 @@ fn user_in(tree: &Value) -> Option<&str>
 {
     match text_in(tree, "user") {
         Some(text) => if is_user(text) { Some(text) } else { None },
-        None => None,
-    }
-}
-
-/// The text in a member of an object.
-fn text_in<'a>(tree: &'a Value, name: &str) -> Option<&'a str>
-    ensures { option_map (λ s. s.now) result ≡ text_in name.now (view tree.now) }
-{
-    match tree.get(name) {
-        Some(value) => value.as_str(),
         None => None,
     }
 }
