@@ -1,3 +1,5 @@
 pub mod Outcome
 pub mod Name
 pub mod Code
+pub mod Tree
+pub mod TreeCode
