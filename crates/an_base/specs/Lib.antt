@@ -2,3 +2,5 @@ pub mod Outcome
 pub mod Name
 pub mod Code
 pub mod Member
+pub mod Tree
+pub mod TreeCode

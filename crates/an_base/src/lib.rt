@@ -10,6 +10,7 @@ pub use name::{Name, NameError};
 pub use span::{Prefer, Span, TermTotal};
 pub use steps::Steps;
 pub use text::Text;
+pub use tree::{Tree, TreeError, one_or_many, read_tree, tree_text};
 
 mod bytes;
 mod code;
@@ -20,3 +21,4 @@ mod name;
 mod span;
 mod steps;
 mod text;
+mod tree;
