@@ -1,0 +1,24 @@
+use Rattle.std.proofs.Common.{refl, ap, ◌∙◌}
+use Rattle.std.proofs.lemmas.Bool.{false≢true}
+use Rattle.unicode_segmentation.specs.Iter.{word_bounds_left}
+use Rattle.an_terms.proofs.TermsLemmas.{HasCome-start, HasCome-word, HasCome-other, HasCome-end}
+use Rattle.an_terms.proofs.words.occurrences.Goals as goal
+
+pub loop-piece-init : goal.loop-piece-init
+loop-piece-init c =
+    HasCome-start _ _ _ _ _ _ c.utf8.text c.new-found.ensures.items c.next-word.ensures.steps c.unicode_words-words.ensures.left
+    (ap word_bounds_left c.into_iter-piece-iterator.ensures.into_iter_gives ∙ c.split_word_bounds-piece-items.ensures.left)
+
+pub loop-piece-preserved-in_ok-push : goal.loop-piece-preserved-in_ok-push
+loop-piece-preserved-in_ok-push c =
+    rw c.in_ok-push.ensures.items
+    (HasCome-word _ _ _ _ _ _ _ _ _ c.loop-piece.invariant c.in-Some.ensures.steps (c.if-is_next.ensures.0 refl) c.char_count.ensures.count
+    c.char_count.ensures.bound _ _ _ c.in_ok-term.ensures.term c.next-word-then-is_next.ensures.steps)
+
+pub loop-piece-preserved : goal.loop-piece-preserved
+loop-piece-preserved c =
+    HasCome-other _ _ _ _ _ _ _ _ _ c.loop-piece.invariant c.in-Some.ensures.steps (λ is. false≢true (c.if-is_next.ensures.1 is))
+    c.char_count.ensures.count c.char_count.ensures.bound
+
+pub returns : goal.returns
+returns c = record { value = HasCome-end _ _ _ _ _ _ c.loop-piece.invariant c.in-None.ensures.steps.0 }

@@ -1,0 +1,30 @@
+-- The words of a text, each with the term that it is found by.
+use Rattle.std.specs.Prelude.{ℕ, ◌+◌, List, [], ◌∷◌, length, map, filter, encode_utf8_all}
+use Rattle.std.specs.Str.{chars}
+use Rattle.caseless.specs.Caseless.{default_case_fold}
+use Rattle.unicode_normalization.specs.Forms.{nfc, nfd}
+use Rattle.unicode_segmentation.specs.Segments.{has_alphanumeric}
+use Rattle.unicode_segmentation.specs.Word.{word_bounds}
+use Rattle.an_terms.specs.declared.occurrence.Occurrence.{Occurrence}
+
+-- the term of a word: decomposed, with full case folding, and composed again
+unfoldable pub term_of : List ℕ → List ℕ
+term_of word = encode_utf8_all (nfc (default_case_fold (nfd (chars word))))
+
+-- the pieces of a text, each with the code point at which it begins
+unfoldable pub placed : ℕ → List (List ℕ) → List (ℕ × List ℕ)
+placed start [] = []
+placed start (piece ∷ pieces) = (start, piece) ∷ placed (start + length (chars piece)) pieces
+
+-- the occurrence that a piece is which begins at a code point
+abbrev pub occurrence_of : ℕ × List ℕ → Occurrence
+occurrence_of (start, piece) =
+    record { term = term_of piece; span = record { start = start; end = start + length (chars piece) } }
+
+-- the words of a text: its pieces between word boundaries that have an alphanumeric character
+unfoldable pub occurrences_of : List ℕ → List Occurrence
+occurrences_of text = map occurrence_of (filter (λ p. has_alphanumeric p.1) (placed 0 (word_bounds text)))
+
+-- the terms of a text
+unfoldable pub terms_of : List ℕ → List (List ℕ)
+terms_of text = map (λ o. o.term) (occurrences_of text)

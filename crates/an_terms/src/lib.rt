@@ -1,0 +1,11 @@
+//! The words of a text (UAX #29), each with the term that it is found by and the span where it
+//! stands.
+#![tactic(auto)]
+
+pub use occurrence::Occurrence;
+pub use term::term_of;
+pub use words::occurrences;
+
+mod occurrence;
+mod term;
+mod words;
