@@ -1,0 +1,7 @@
+//! What the server meets outside: links that give bytes and take bytes, and two kinds of link that
+//! stand in memory.
+#![tactic(auto)]
+
+pub use link::{Link, LinkFault};
+
+mod link;
