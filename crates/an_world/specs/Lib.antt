@@ -1,1 +1,4 @@
 pub mod Link
+pub mod Input
+pub mod Calls
+pub mod Memory

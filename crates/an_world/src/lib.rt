@@ -3,5 +3,9 @@
 #![tactic(auto)]
 
 pub use link::{Link, LinkFault};
+pub use memory::MemLink;
 
+mod calls;
+mod input;
 mod link;
+mod memory;
