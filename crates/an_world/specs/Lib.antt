@@ -2,3 +2,4 @@ pub mod Link
 pub mod Input
 pub mod Calls
 pub mod Memory
+pub mod Sure

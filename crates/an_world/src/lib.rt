@@ -4,8 +4,11 @@
 
 pub use link::{Link, LinkFault};
 pub use memory::MemLink;
+pub use sure::SureLink;
 
 mod calls;
 mod input;
 mod link;
 mod memory;
+mod sure;
+mod written;
