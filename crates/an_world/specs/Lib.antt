@@ -1,0 +1,5 @@
+pub mod Link
+pub mod Input
+pub mod Calls
+pub mod Memory
+pub mod Sure

@@ -1,0 +1,44 @@
+-- What a link tells of its bytes, and how a call may change that and the counts of faults.
+use Rattle.std.specs.Prelude.{◌≡◌, ℕ, ◌-◌, ◌^◌, ◌<◌, ◌↔◌, List, [], ◌++◌, Option, Some, None}
+
+-- the bytes that a link has read, those that it has left to read, and those that it has written
+pub record Traffic : Type 0 where
+  pub read : List ℕ
+  pub left : List ℕ
+  pub written : List ℕ
+
+-- one more fault was counted; a count stands still at its end
+abbrev pub Rises : ℕ → ℕ → Type 0
+Rises old new = old < 2 ^ 64 - 1 → old < new
+
+-- a link that told its bytes tells them still, and the change from old to new is this one; no other link begins to tell
+abbrev pub Tells : (Traffic → Traffic → Type 0) → Option Traffic → Option Traffic → Type 0
+Tells Change None None = Unit {0}
+Tells Change None (Some new) = ⊥
+Tells Change (Some old) None = ⊥
+Tells Change (Some old) (Some new) = Change old new
+
+-- these bytes moved from the front of those left to the end of those read
+pub record MovesRead (bytes : List ℕ) (old new : Traffic) : Type 0 where
+  pub left : old.left ≡ bytes ++ new.left
+  pub read : new.read ≡ old.read ++ bytes
+  pub written : new.written ≡ old.written
+
+-- these bytes were added to the end of those written
+pub record AddsWritten (bytes : List ℕ) (old new : Traffic) : Type 0 where
+  pub written : new.written ≡ old.written ++ bytes
+  pub read : new.read ≡ old.read
+  pub left : new.left ≡ old.left
+
+-- the read of bytes, where a link tells them
+abbrev pub Reads : List ℕ → Option Traffic → Option Traffic → Type 0
+Reads bytes = Tells (MovesRead bytes)
+
+-- the write of bytes, where a link tells them
+abbrev pub Writes : List ℕ → Option Traffic → Option Traffic → Type 0
+Writes bytes = Tells (AddsWritten bytes)
+
+-- where a link tells its bytes: none is left exactly where this number is 0
+abbrev pub IsNoneLeftAt : ℕ → Option Traffic → Type 0
+IsNoneLeftAt count None = Unit {0}
+IsNoneLeftAt count (Some traffic) = (count ≡ 0) ↔ (traffic.left ≡ [])
