@@ -4,3 +4,4 @@ pub mod Code
 pub mod Member
 pub mod Tree
 pub mod TreeCode
+pub mod Moment

@@ -1,0 +1,7 @@
+pub mod State
+pub mod Rows
+pub mod Plain
+pub mod View
+pub mod Step
+pub mod Entries
+pub mod Book

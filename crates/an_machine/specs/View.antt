@@ -1,0 +1,43 @@
+-- What a caller may read.
+use Rattle.std.specs.Prelude.{ℕ, ◌+◌, List, [], ◌∷◌, Bool, false, ◌&&◌, if◌then◌else◌, bytes_eq, filter, is_some, Option, Some, None, option_map, option_and_then, unwrap_or}
+use Rattle.an_policy.specs.declared.group.Audience.{Audience}
+use Rattle.an_policy.specs.declared.group.Group.TheVariants.{Public}
+use Rattle.an_policy.specs.Audience.{Identity, may}
+use Rattle.an_machine.specs.State.{State, KeptManifest, KeptNote, LiveNote, manifest_row}
+use Rattle.an_base.specs.Outcome.{passes}
+
+abbrev pub manifest_audience : KeptManifest → Audience
+manifest_audience row = record { outer = row.group; inner = Public; owner = None }
+
+-- an annotation's audience, below its manifest's row
+abbrev pub note_audience : KeptManifest → KeptNote → LiveNote → Audience
+note_audience manifest row live = record { outer = manifest.group; inner = live.group; owner = Some row.owner }
+
+-- the manifest is live, and the caller may read it
+abbrev pub shows_manifest : Identity → KeptManifest → Bool
+shows_manifest who row = is_some row.live && may who (manifest_audience row)
+
+-- the annotation is live, and the caller may read it
+abbrev pub shows_note : State → Identity → KeptNote → Bool
+shows_note s who row = passes (λ live. passes (λ manifest. may who (note_audience manifest row live)) (manifest_row s live.manifest)) row.live
+
+-- the live manifests and the live annotations that the caller may read, in their order
+pub record View : Type 0 where
+  pub manifests : List KeptManifest
+  pub notes : List KeptNote
+
+abbrev pub view_of : State → Identity → View
+view_of s who = record { manifests = filter (shows_manifest who) s.manifests; notes = filter (shows_note s who) s.notes }
+
+-- the annotation is live, and on this manifest
+abbrev pub is_on : List ℕ → KeptNote → Bool
+is_on manifest row = passes (λ live. bytes_eq live.manifest manifest) row.live
+
+-- where the rows stand that pass a test, when the first of them stands at `place`
+abbrev pub places_from : {A : Type 0} → (A → Bool) → ℕ → List A → List ℕ
+places_from test place [] = []
+places_from test place (row ∷ rows) = if test row then place ∷ places_from test (place + 1) rows else places_from test (place + 1) rows
+
+-- where the annotations on a manifest stand that the caller may read
+abbrev pub readable_places : State → Identity → List ℕ → List ℕ
+readable_places s who manifest = places_from (λ row. is_on manifest row && shows_note s who row) 0 s.notes

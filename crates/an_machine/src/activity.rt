@@ -1,0 +1,30 @@
+use an_base::{Moment, Name, TryCopy};
+use an_policy::Audience;
+use std::alloc::AllocError;
+
+/// A change of a manifest or of an annotation (IIIF Change Discovery 1.0, section 3.2), with who
+/// could read it before and who can after.
+#[derive(Debug, Drop, PartialEq, Eq)]
+pub struct Activity {
+    pub at: Moment,
+    /// Who did it; the operator has no name.
+    pub by: Option<Name>,
+    /// The owner of an annotation; a manifest has none.
+    pub owner: Option<Name>,
+    pub name: Name,
+    pub before: Option<Audience>,
+    pub after: Option<Audience>,
+}
+
+impl TryCopy for Activity {
+    fn copy(&self) -> Result<Activity, AllocError> {
+        Ok(Activity {
+            at: self.at,
+            by: self.by.copy()?,
+            owner: self.owner.copy()?,
+            name: self.name.copy()?,
+            before: self.before.copy()?,
+            after: self.after.copy()?,
+        })
+    }
+}

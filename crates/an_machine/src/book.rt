@@ -1,0 +1,170 @@
+ghost use Rattle.std.specs.Prelude.{◌≡◌, ◌+◌, ◌<◌, ◌≤◌, ◌++◌, OnOk, length};
+ghost use Rattle.std.specs.Option.{option_copied};
+ghost use Rattle.an_machine.specs.State.{empty, reader_row, manifest_row, note_row};
+ghost use Rattle.an_machine.specs.Entries.{with_row, with_rows, after, needs};
+
+use crate::activity::Activity;
+use crate::entry::{Entry, Row};
+use crate::row::{ManifestRow, NoteRow, ReaderRow};
+use an_base::Name;
+use an_keyed::Rows;
+use std::alloc::{AllocError, Global};
+use std::marker::Model;
+
+/// The state of the server. Contracts see the state, and for how many rows more each of its lists
+/// has room.
+#[derive(Drop)]
+pub struct Book {
+    readers: Rows<ReaderRow>,
+    manifests: Rows<ManifestRow>,
+    notes: Rows<NoteRow>,
+    activities: Vec<Activity>,
+    room: usize,
+}
+
+impl Model for Book {
+    ghost use Rattle.std.specs.Coded.{codes};
+    ghost use Rattle.an_base.specs.TreeCode.{tree_code};
+    ghost use Rattle.an_machine.specs.State.{Held};
+
+    ghost Value = { Held };
+
+    ghost coded = { Prim.hlevel (codes, tree_code) };
+
+    ghost use Rattle.an_machine.specs.Book.{held, HasRoom};
+
+    ghost view = { held };
+
+    ghost invariant = { HasRoom };
+}
+
+impl Book {
+    /// The empty state. It takes no memory.
+    pub fn new(alloc: Global) -> Book
+        ensures empty { result.state ≡ empty }
+    {
+        Book {
+            readers: Rows::new(alloc),
+            manifests: Rows::new(alloc),
+            notes: Rows::new(alloc),
+            activities: Vec::new(alloc),
+            room: 0,
+        }
+    }
+
+    /// The readers' rows in their order.
+    pub fn readers(&self) -> &[ReaderRow]
+        ensures rows { result.now ≡ self.now.state.readers }
+    {
+        self.readers.as_slice()
+    }
+
+    /// The annotations' rows in their order.
+    pub fn notes(&self) -> &[NoteRow]
+        ensures rows { result.now ≡ self.now.state.notes }
+    {
+        self.notes.as_slice()
+    }
+
+    /// The activities in their order.
+    pub fn activities(&self) -> &[Activity]
+        ensures rows { result.now ≡ self.now.state.activities }
+    {
+        self.activities.as_slice()
+    }
+
+    /// The row of a reader, live or a tombstone.
+    pub fn reader_row(&self, name: &Name) -> Option<&ReaderRow>
+        ensures row { option_copied result ≡ reader_row self.now.state name.now }
+    {
+        self.readers.find(None, name)
+    }
+
+    /// The row of a manifest, live or a tombstone.
+    pub fn manifest_row(&self, name: &Name) -> Option<&ManifestRow>
+        ensures row { option_copied result ≡ manifest_row self.now.state name.now }
+    {
+        self.manifests.find(None, name)
+    }
+
+    /// The row of an annotation, live or a tombstone.
+    pub fn note_row(&self, owner: &Name, name: &Name) -> Option<&NoteRow>
+        ensures row { option_copied result ≡ note_row self.now.state owner.now name.now }
+    {
+        self.notes.find(Some(owner), name)
+    }
+
+    /// Takes the memory that the entry needs.
+    pub fn room(&mut self, entry: &Entry) -> Result<(), AllocError>
+        ensures ok { OnOk result (needs entry.now ≤ self.new.room) }
+        ensures state { self.new.state ≡ self.old.state }
+    {
+        self.make_room(entry.size())
+    }
+
+    fn make_room(&mut self, more: usize) -> Result<(), AllocError>
+        ensures ok { OnOk result (more ≤ self.new.room) }
+        ensures state { self.new.state ≡ self.old.state }
+    {
+        if self.room < more {
+            self.readers.make_room(more)?;
+            self.manifests.make_room(more)?;
+            self.notes.make_room(more)?;
+            self.activities.reserve(more)?;
+            self.room = more;
+        }
+        Ok(())
+    }
+
+    /// The state with the entry. It takes no memory.
+    pub fn apply(&mut self, entry: Entry)
+        requires room { needs entry ≤ self.old.room }
+        ensures state { self.new.state ≡ after self.old.state entry }
+    {
+        match entry {
+            Entry::Done {
+                command: _,
+                moment: _,
+                by: _,
+                rows,
+                activities,
+            } => {
+                self.put_all(rows.into_vec());
+                self.add_all(activities.into_vec());
+            }
+        }
+    }
+
+    fn put_all(&mut self, rows: Vec<Row>)
+        requires room { length rows.items ≤ self.old.room }
+        ensures state { self.new.state ≡ with_rows rows.items self.old.state }
+        ensures room { self.old.room ≤ self.new.room + length rows.items }
+    {
+        for row in rows {
+            self.put(row);
+        }
+    }
+
+    fn add_all(&mut self, activities: Vec<Activity>)
+        requires room { length activities.items ≤ self.old.room }
+        ensures state { self.new.state ≡ record self.old.state { activities = self.old.state.activities ++ activities.items } }
+    {
+        for activity in activities {
+            self.put(Row::Activity(activity));
+        }
+    }
+
+    fn put(&mut self, row: Row)
+        requires room { 0 < self.old.room }
+        ensures state { self.new.state ≡ with_row self.old.state row }
+        ensures room { self.new.room + 1 ≡ self.old.room }
+    {
+        match row {
+            Row::Reader(row) => self.readers.put(row),
+            Row::Manifest(row) => self.manifests.put(row),
+            Row::Note(row) => self.notes.put(row),
+            Row::Activity(activity) => self.activities.push_reserved(activity),
+        }
+        self.room -= 1;
+    }
+}

@@ -1,0 +1,121 @@
+use crate::entry::Entry;
+use an_base::{Code, Name, Tree, TryCopy};
+use an_policy::Group;
+use std::alloc::AllocError;
+
+/// What a caller asks to be written. `version` is the number of the write on its object.
+#[derive(Debug, Drop)]
+pub enum Command {
+    PutReader {
+        name: Name,
+        version: u32,
+        tree: Tree,
+    },
+    PutManifest {
+        name: Name,
+        version: u32,
+        group: Group,
+        tree: Tree,
+    },
+    PutNote {
+        owner: Name,
+        name: Name,
+        version: u32,
+        manifest: Name,
+        group: Group,
+        tree: Tree,
+    },
+}
+
+impl TryCopy for Command {
+    fn copy(&self) -> Result<Command, AllocError> {
+        match self {
+            Command::PutReader {
+                name,
+                version,
+                tree,
+            } => Ok(Command::PutReader {
+                name: name.copy()?,
+                version: *version,
+                tree: tree.copy()?,
+            }),
+            Command::PutManifest {
+                name,
+                version,
+                group,
+                tree,
+            } => Ok(Command::PutManifest {
+                name: name.copy()?,
+                version: *version,
+                group: group.copy()?,
+                tree: tree.copy()?,
+            }),
+            Command::PutNote {
+                owner,
+                name,
+                version,
+                manifest,
+                group,
+                tree,
+            } => Ok(Command::PutNote {
+                owner: owner.copy()?,
+                name: name.copy()?,
+                version: *version,
+                manifest: manifest.copy()?,
+                group: group.copy()?,
+                tree: tree.copy()?,
+            }),
+        }
+    }
+}
+
+/// What a command writes.
+#[derive(Debug, Drop, PartialEq, Eq)]
+pub enum Object {
+    Reader(Name),
+    Manifest(Name),
+    Note { owner: Name, name: Name },
+}
+
+/// What a write is answered with.
+#[derive(Debug, Drop, PartialEq, Eq)]
+pub struct WriteReply {
+    pub object: Object,
+    pub version: u32,
+    /// Whether the object is there now and wasn't before.
+    pub made: bool,
+    /// Whether the write had been done already.
+    pub repeat: bool,
+}
+
+/// A write that is accepted.
+#[derive(Debug, Drop)]
+pub struct Decided {
+    /// What it changes; there is nothing where it had been done already.
+    pub entry: Option<Entry>,
+    pub reply: WriteReply,
+}
+
+/// Why a write is refused.
+#[derive(Clone, Copy, Debug, PartialEq, Eq)]
+pub enum Refused {
+    /// The caller is anonymous, or no live reader has its token or name.
+    NotSigned,
+    /// The caller may not write such an object.
+    NotWriter,
+    /// The annotation isn't the caller's.
+    NotOwn,
+    /// There is no such manifest that the caller may read.
+    NoManifest,
+    /// The caller is no member of the annotation's group.
+    NotMember,
+    /// The tree isn't of its shape.
+    Shape(Code),
+    /// The manifest has another group.
+    GroupFixed,
+    /// Another live reader has the token.
+    TokenTaken,
+    /// The number isn't the next one.
+    Version { current: u32 },
+    Memory,
+}

@@ -1,0 +1,85 @@
+ghost use Rattle.std.specs.Prelude.{◌≡◌};
+ghost use Rattle.an_machine.specs.Entries.{needs};
+
+use crate::activity::Activity;
+use crate::command::Command;
+use crate::row::{ManifestRow, NoteRow, ReaderRow};
+use an_base::{List, Moment, Name, TryCopy};
+use std::alloc::AllocError;
+
+/// A row of one of the four lists.
+#[derive(Debug, Drop)]
+pub enum Row {
+    Reader(ReaderRow),
+    Manifest(ManifestRow),
+    Note(NoteRow),
+    Activity(Activity),
+}
+
+impl TryCopy for Row {
+    fn copy(&self) -> Result<Row, AllocError> {
+        match self {
+            Row::Reader(row) => Ok(Row::Reader(row.copy()?)),
+            Row::Manifest(row) => Ok(Row::Manifest(row.copy()?)),
+            Row::Note(row) => Ok(Row::Note(row.copy()?)),
+            Row::Activity(row) => Ok(Row::Activity(row.copy()?)),
+        }
+    }
+}
+
+/// One step of the history: what was accepted, and what it changes.
+#[derive(Debug, Drop)]
+pub enum Entry {
+    /// A command that was accepted.
+    Done {
+        command: Command,
+        /// The moment of the write.
+        moment: Moment,
+        /// Who wrote; the operator has no name.
+        by: Option<Name>,
+        /// The new rows of readers, manifests and annotations, in the order in which they change.
+        rows: List<Row>,
+        /// The activities that are added.
+        activities: List<Activity>,
+    },
+}
+
+impl TryCopy for Entry {
+    fn copy(&self) -> Result<Entry, AllocError> {
+        match self {
+            Entry::Done {
+                command,
+                moment,
+                by,
+                rows,
+                activities,
+            } => Ok(Entry::Done {
+                command: command.copy()?,
+                moment: *moment,
+                by: by.copy()?,
+                rows: rows.copy()?,
+                activities: activities.copy()?,
+            }),
+        }
+    }
+}
+
+impl Entry {
+    /// How many rows it has, activities included.
+    pub(crate) fn size(&self) -> usize
+        ensures size { result ≡ needs self.now }
+    {
+        match self {
+            Entry::Done {
+                command: _,
+                moment: _,
+                by: _,
+                rows,
+                activities,
+            } => rows
+                .as_slice()
+                .len()
+                .saturating_add(activities.as_slice().len()),
+        }
+    }
+}

@@ -1,0 +1,16 @@
+//! The small machine: what the server knows, which writes are accepted, and what readers see of it.
+#![tactic(auto)]
+
+pub use activity::Activity;
+pub use book::Book;
+pub use command::{Command, Decided, Object, Refused, WriteReply};
+pub use entry::{Entry, Row};
+pub use look::Look;
+pub use row::{ManifestRow, NoteRow, ReaderRow};
+
+mod activity;
+mod book;
+mod command;
+mod entry;
+mod look;
+mod row;

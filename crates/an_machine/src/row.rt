@@ -1,0 +1,182 @@
+ghost use Rattle.std.specs.Prelude.{◌≡◌};
+ghost use Rattle.std.specs.Option.{option_copied};
+
+use an_base::{Moment, Name, Text, Tree, TryCopy};
+use an_keyed::Keyed;
+use an_policy::{Group, Reader};
+use std::alloc::AllocError;
+use std::marker::Model;
+
+/// What is kept of a reader. Without `reader` it is a tombstone.
+#[derive(Debug, Drop)]
+pub struct ReaderRow {
+    pub name: Name,
+    pub version: u32,
+    /// It has this row's name and version.
+    pub reader: Option<Reader>,
+}
+
+impl Model for ReaderRow {
+    ghost use Rattle.std.specs.Prelude.{IsTrue};
+    ghost use Rattle.an_machine.specs.State.{KeptReader};
+    ghost use Rattle.an_machine.specs.Rows.{reader_agrees};
+
+    ghost Value = { KeptReader };
+
+    ghost view = { λ r. record { name = r.name; version = r.version; live = r.reader } };
+
+    ghost invariant = { λ r. IsTrue (reader_agrees r.name r.version r.reader) };
+}
+
+impl Keyed for ReaderRow {
+    ghost use Rattle.an_machine.specs.State.{reader_key};
+
+    ghost key = { reader_key };
+
+    fn owner(&self) -> Option<&Name> {
+        None
+    }
+
+    fn name(&self) -> &Name {
+        &self.name
+    }
+}
+
+impl TryCopy for ReaderRow {
+    fn copy(&self) -> Result<ReaderRow, AllocError> {
+        Ok(ReaderRow {
+            name: self.name.copy()?,
+            version: self.version,
+            reader: self.reader.copy()?,
+        })
+    }
+}
+
+impl ReaderRow {
+    /// The live reader.
+    pub fn reader(&self) -> Option<&Reader>
+        ensures live { option_copied result ≡ self.now.live }
+    {
+        self.reader.as_ref()
+    }
+}
+
+/// What is kept of a manifest. A tombstone keeps its name, version and group; a live row has
+/// `created` and `tree` too, and `modified` where it was changed.
+#[derive(Debug, Drop)]
+pub struct ManifestRow {
+    pub name: Name,
+    pub version: u32,
+    pub live: bool,
+    pub group: Group,
+    pub created: Option<Moment>,
+    pub modified: Option<Moment>,
+    pub tree: Option<Tree>,
+}
+
+impl Model for ManifestRow {
+    ghost use Rattle.std.specs.Prelude.{IsTrue};
+    ghost use Rattle.std.specs.Coded.{codes};
+    ghost use Rattle.an_base.specs.TreeCode.{tree_code};
+    ghost use Rattle.an_machine.specs.State.{KeptManifest};
+    ghost use Rattle.an_machine.specs.Rows.{live_manifest, manifest_agrees};
+
+    ghost Value = { KeptManifest };
+
+    ghost coded = { Prim.hlevel (codes, tree_code) };
+
+    ghost view = { λ m. record { name = m.name; version = m.version; group = m.group; live = live_manifest m.created m.modified m.tree } };
+
+    ghost invariant = { λ m. IsTrue (manifest_agrees m.live m.created m.modified m.tree) };
+}
+
+impl Keyed for ManifestRow {
+    ghost use Rattle.an_machine.specs.State.{manifest_key};
+
+    ghost key = { manifest_key };
+
+    fn owner(&self) -> Option<&Name> {
+        None
+    }
+
+    fn name(&self) -> &Name {
+        &self.name
+    }
+}
+
+impl TryCopy for ManifestRow {
+    fn copy(&self) -> Result<ManifestRow, AllocError> {
+        Ok(ManifestRow {
+            name: self.name.copy()?,
+            version: self.version,
+            live: self.live,
+            group: self.group.copy()?,
+            created: self.created,
+            modified: self.modified,
+            tree: self.tree.copy()?,
+        })
+    }
+}
+
+/// What is kept of an annotation. A tombstone keeps its owner, name and version; a live row has all
+/// the rest too, but `modified` only where it was changed.
+#[derive(Debug, Drop)]
+pub struct NoteRow {
+    pub owner: Name,
+    pub name: Name,
+    pub version: u32,
+    pub live: bool,
+    pub manifest: Option<Name>,
+    pub group: Option<Group>,
+    pub creator: Option<Text>,
+    pub created: Option<Moment>,
+    pub modified: Option<Moment>,
+    pub tree: Option<Tree>,
+}
+
+impl Model for NoteRow {
+    ghost use Rattle.std.specs.Prelude.{IsTrue};
+    ghost use Rattle.std.specs.Coded.{codes};
+    ghost use Rattle.an_base.specs.TreeCode.{tree_code};
+    ghost use Rattle.an_machine.specs.State.{KeptNote};
+    ghost use Rattle.an_machine.specs.Rows.{live_note, note_agrees};
+
+    ghost Value = { KeptNote };
+
+    ghost coded = { Prim.hlevel (codes, tree_code) };
+
+    ghost view = { λ n. record { owner = n.owner; name = n.name; version = n.version; live = live_note n.manifest n.group n.creator n.created n.modified n.tree } };
+
+    ghost invariant = { λ n. IsTrue (note_agrees n.live n.manifest n.group n.creator n.created n.modified n.tree) };
+}
+
+impl Keyed for NoteRow {
+    ghost use Rattle.an_machine.specs.State.{note_key};
+
+    ghost key = { note_key };
+
+    fn owner(&self) -> Option<&Name> {
+        Some(&self.owner)
+    }
+
+    fn name(&self) -> &Name {
+        &self.name
+    }
+}
+
+impl TryCopy for NoteRow {
+    fn copy(&self) -> Result<NoteRow, AllocError> {
+        Ok(NoteRow {
+            owner: self.owner.copy()?,
+            name: self.name.copy()?,
+            version: self.version,
+            live: self.live,
+            manifest: self.manifest.copy()?,
+            group: self.group.copy()?,
+            creator: self.creator.copy()?,
+            created: self.created,
+            modified: self.modified,
+            tree: self.tree.copy()?,
+        })
+    }
+}
