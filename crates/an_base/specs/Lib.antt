@@ -3,3 +3,4 @@ pub mod Name
 pub mod Code
 pub mod Tree
 pub mod TreeCode
+pub mod TreeSame
