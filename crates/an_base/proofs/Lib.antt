@@ -1,1 +1,4 @@
 pub mod TreeLemmas
+pub mod TreeTexts
+pub mod TreeEquality
+mod TreeRows

@@ -5,3 +5,4 @@ pub mod Member
 pub mod Tree
 pub mod TreeCode
 pub mod Moment
+pub mod TreeSame

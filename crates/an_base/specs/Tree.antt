@@ -70,7 +70,7 @@ unfoldable pub tree_of : List ℕ → Result Data TreeError
 tree_of bytes = tree_if_json (json_of bytes)
 
 -- two trees have the same text
-unfoldable pub same_text : Data → Data → Bool
+abbrev pub same_text : Data → Data → Bool
 same_text tree other = bytes_eq (compact_text tree) (compact_text other)
 
 -- an array's items, or the value alone

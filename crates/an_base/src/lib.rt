@@ -11,7 +11,10 @@ pub use name::{Name, NameError};
 pub use span::{Prefer, Span, TermTotal};
 pub use steps::Steps;
 pub use text::Text;
-pub use tree::{Tree, TreeError, one_or_many, read_tree, tree_text};
+pub use tree::{
+    Tree, TreeError, equal_texts_are_equal_trees, one_or_many, read_tree, tree_text,
+    trees_read_back,
+};
 
 mod bytes;
 mod code;

@@ -1,0 +1,41 @@
+-- For private clauses: whether two values are the same, level by level. Where every number is whole, this tells whether they have one text.
+use Rattle.std.specs.Prelude.{Bool, true, false, not, ◌&&◌, nat_eq, bytes_eq, is_some, Option, Some, None}
+use Rattle.std.specs.Ordering.{int_eq}
+use Rattle.std.specs.Option.{option_eq}
+use Rattle.serde_json.specs.Data.{Num, Data, null, boolean, number, string, array, object, Items, no_items, item, Members, no_members, member}
+use Rattle.serde_json.specs.Find.{as_null, as_bool, as_number, as_str, as_array, as_object, as_u64, as_i64}
+
+-- the value is there, and passes the test
+abbrev pub is_there_and : {A : Type 0} → Option A → (A → Bool) → Bool
+is_there_and None test = false
+is_there_and (Some value) test = test value
+
+-- the same whole number
+abbrev pub same_number : Num → Num → Bool
+same_number n m = option_eq nat_eq (as_u64 n) (as_u64 m) && option_eq int_eq (as_i64 n) (as_i64 m)
+
+-- the same truth value
+abbrev pub same_flag : Bool → Bool → Bool
+same_flag true b = b
+same_flag false b = not b
+
+abbrev mutual
+  pub same : Data → Data → Bool
+  same null other = is_some (as_null other)
+  same (boolean b) other = is_there_and (as_bool other) (same_flag b)
+  same (number n) other = is_there_and (as_number other) (same_number n)
+  same (string text) other = is_there_and (as_str other) (bytes_eq text)
+  same (array items) other = is_there_and (as_array other) (same_items items)
+  same (object fields) other = is_there_and (as_object other) (same_members fields)
+
+  pub same_items : Items → Items → Bool
+  same_items no_items no_items = true
+  same_items no_items (item other others) = false
+  same_items (item value items) no_items = false
+  same_items (item value items) (item other others) = same value other && same_items items others
+
+  pub same_members : Members → Members → Bool
+  same_members no_members no_members = true
+  same_members no_members (member name other others) = false
+  same_members (member name value more) no_members = false
+  same_members (member name value more) (member other_name other others) = bytes_eq name other_name && same value other && same_members more others
