@@ -1,5 +1,5 @@
 //! Each kind of link, called through its bound.
-ghost use Rattle.std.specs.Prelude.{◌≡◌, ◌<◌, ◌≤◌, length, IsTrue, IsOk, OnOk, OnErr};
+ghost use Rattle.std.specs.Prelude.{IsTrue, IsOk, OnOk, OnErr};
 ghost use Rattle.an_world.specs.Link.{Writes, Rises};
 
 use crate::{Link, LinkFault, MemLink, SureLink};
@@ -8,7 +8,11 @@ use std::alloc::{AllocError, Global};
 use std::test::Fail;
 
 /// What so many reads with room for four bytes give, each followed by `|`. A failed read is `!`.
-fn pieces_of<L: Link>(alloc: Global, link: &mut L, times: usize) -> Result<Vec<u8>, AllocError> {
+fn pieces_of<L: Link + Send>(
+    alloc: Global,
+    mut link: L,
+    times: usize,
+) -> Result<Vec<u8>, AllocError> {
     let mut seen = Vec::new(alloc);
     let mut into = [0u8; 4];
     for _ in 0..times {
@@ -18,6 +22,7 @@ fn pieces_of<L: Link>(alloc: Global, link: &mut L, times: usize) -> Result<Vec<u
         }
         seen.push(b'|')?;
     }
+    link.close();
     Ok(seen)
 }
 
@@ -35,8 +40,9 @@ fn put<L: Link>(link: &mut L, bytes: &[u8]) -> Result<(), LinkFault>
 }
 
 #[test]
-fn links(rt: HostRuntime) -> Result<(), Fail> {
+fn reads_pieces(rt: HostRuntime) -> Result<(), Fail> {
     let alloc = rt.alloc();
+    let input = b"abcdefghij";
     let rows: [(&[usize], &[u64], &[u8]); 6] = [
         (&[], &[], b"abcd|efgh|ij|||"),
         (&[2, 0, 3], &[], b"ab|cde|fghi|j||"),
@@ -46,19 +52,29 @@ fn links(rt: HostRuntime) -> Result<(), Fail> {
         (&[0], &[9], b"abcd|efgh|ij|||"),
     ];
     for (cut, fail_reads, want) in rows {
-        let input = Bytes::new(alloc, b"abcdefghij")?;
-        let cut = Vec::from_slice(alloc, cut)?;
         let fails = Vec::from_slice(alloc, fail_reads)?;
-        let mut link = MemLink::new(alloc, input, cut, fails, Vec::new(alloc), 0)?;
-        let seen = pieces_of(alloc, &mut link, 5)?;
-        assert_eq!(rt; seen.as_slice(), want);
-        link.close();
+        let pieces = Vec::from_slice(alloc, cut)?;
+        let link = MemLink::new(
+            alloc,
+            Bytes::new(alloc, input)?,
+            pieces,
+            fails,
+            Vec::new(alloc),
+            0,
+        )?;
+        assert_eq!(rt; pieces_of(alloc, link, 5)?.as_slice(), want);
     }
+    let pieces = Vec::from_slice(alloc, &[2, 0, 3])?;
+    let link = SureLink::new(Bytes::new(alloc, input)?, pieces);
+    assert_eq!(rt;
+        pieces_of(alloc, link, 5)?.as_slice(),
+        b"ab|cde|fghi|j||".as_slice()
+    );
     Ok(())
 }
 
 #[test]
-fn writes(rt: HostRuntime) -> Result<(), Fail> {
+fn writes_into_room(rt: HostRuntime) -> Result<(), Fail> {
     let alloc = rt.alloc();
     let rows: [(&[u64], usize, &[u8], u64); 5] = [
         (&[], 9, b"abcdef", 0),
@@ -78,17 +94,7 @@ fn writes(rt: HostRuntime) -> Result<(), Fail> {
         assert_eq!(rt; link.write_faults(), faults);
         assert_eq!(rt; link.read_faults(), 0);
     }
-    Ok(())
-}
-
-#[test]
-fn sure_links(rt: HostRuntime) -> Result<(), Fail> {
-    let alloc = rt.alloc();
-    let cut = Vec::from_slice(alloc, &[2, 0, 3])?;
-    let mut link = SureLink::new(Bytes::new(alloc, b"abcdefghij")?, cut);
-    let seen = pieces_of(alloc, &mut link, 5)?;
-    assert_eq!(rt; seen.as_slice(), b"ab|cde|fghi|j||".as_slice());
+    let mut link = SureLink::new(Bytes::new(alloc, b"")?, Vec::new(alloc));
     assert!(rt; put(&mut link, b"abc").is_ok());
-    link.close();
     Ok(())
 }
