@@ -38,7 +38,7 @@ Reads bytes = Tells (MovesRead bytes)
 abbrev pub Writes : List ℕ → Option Traffic → Option Traffic → Type 0
 Writes bytes = Tells (AddsWritten bytes)
 
--- where a link tells its bytes: none is left exactly where this number is 0
-abbrev pub IsNoneLeftAt : ℕ → Option Traffic → Type 0
-IsNoneLeftAt count None = Unit {0}
-IsNoneLeftAt count (Some traffic) = (count ≡ 0) ↔ (traffic.left ≡ [])
+-- where a link tells its bytes: so many were given, which is none exactly where none is left
+abbrev pub IsZeroAtEnd : ℕ → Option Traffic → Type 0
+IsZeroAtEnd count None = Unit {0}
+IsZeroAtEnd count (Some traffic) = (count ≡ 0) ↔ (traffic.left ≡ [])

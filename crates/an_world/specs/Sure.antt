@@ -17,9 +17,9 @@ abbrev pub sure_traffic : Sure → Traffic
 sure_traffic link = record { read = link.input.read; left = link.input.left; written = link.written }
 
 -- the link behind a read with room for `size` bytes
-abbrev pub behind_read : ℕ → Sure → Sure
-behind_read size link = record link { input = pieces_behind (count_for size link.input) link.input }
+abbrev pub sure_after_read : ℕ → Sure → Sure
+sure_after_read size link = record link { input = pieces_behind (count_for size link.input) link.input }
 
 -- the link behind a write of these bytes, all of which it takes
-abbrev pub behind_write : List ℕ → Sure → Sure
-behind_write bytes link = record link { written = link.written ++ bytes }
+abbrev pub sure_after_write : List ℕ → Sure → Sure
+sure_after_write bytes link = record link { written = link.written ++ bytes }

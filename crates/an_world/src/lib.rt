@@ -11,4 +11,6 @@ mod input;
 mod link;
 mod memory;
 mod sure;
+#[cfg(test)]
+mod tests;
 mod written;

@@ -1,5 +1,5 @@
 ghost use Rattle.std.specs.Prelude.{◌≡◌, ◌<◌, ◌≤◌, length, take, IfOk, OnErr};
-ghost use Rattle.an_world.specs.Link.{Rises, Reads, Writes, IsNoneLeftAt};
+ghost use Rattle.an_world.specs.Link.{Rises, Reads, Writes, IsZeroAtEnd};
 
 /// A read or a write that a link failed. The link has counted it.
 #[derive(Clone, Copy, Debug, PartialEq, Eq)]
@@ -23,14 +23,14 @@ pub trait Link: Drop {
     // Whether the counts of this kind of link are 0 for good.
     ghost is_sure: { Bool };
 
-    /// Gives bytes into the front of `into`, and answers how many. It is 0 at the end of the input
-    /// alone.
+    /// Gives bytes into the front of `into`, and answers how many: 0 at the end of the input alone.
+    /// What stands in `into` behind them is open.
     fn read(&mut self, into: &mut [u8]) -> Result<usize, LinkFault>
         requires { 0 < length into.old }
         ensures within { IfOk result (λ count. count ≤ length into.old) }
         ensures moves { IfOk result
             (λ count. Reads (take count into.new) (traffic self.old) (traffic self.new)) }
-        ensures end { IfOk result (λ count. IsNoneLeftAt count (traffic self.old)) }
+        ensures end { IfOk result (λ count. IsZeroAtEnd count (traffic self.old)) }
 
         // A failed read moves no bytes.
         ensures fault_still { OnErr result (traffic self.new ≡ traffic self.old) }

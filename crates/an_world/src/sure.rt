@@ -1,7 +1,7 @@
 ghost use Rattle.std.specs.Prelude.{◌≡◌, ◌<◌, ◌≤◌, ◌↔◌, [], length, take, Ok, IfOk, IsOk};
 ghost use Rattle.an_world.specs.Link.{MovesRead, AddsWritten};
 ghost use Rattle.an_world.specs.Input.{count_for};
-ghost use Rattle.an_world.specs.Sure.{sure_of, sure_traffic, behind_read, behind_write};
+ghost use Rattle.an_world.specs.Sure.{sure_of, sure_traffic, sure_after_read, sure_after_write};
 
 use crate::input::Input;
 use crate::link::{Link, LinkFault};
@@ -57,7 +57,7 @@ impl Link for SureLink {
     fn read(&mut self, into: &mut [u8]) -> Result<usize, LinkFault>
         requires { 0 < length into.old }
         ensures gives { result ≡ Ok (count_for (length into.old) self.old.input) }
-        ensures after { self.new ≡ behind_read (length into.old) self.old }
+        ensures after { self.new ≡ sure_after_read (length into.old) self.old }
 
         // What each link ensures.
         ensures within { IfOk result (λ count. count ≤ length into.old) }
@@ -72,7 +72,7 @@ impl Link for SureLink {
     fn write(&mut self, from: &[u8]) -> Result<usize, LinkFault>
         requires { 0 < length from.now }
         ensures takes { result ≡ Ok (length from.now) }
-        ensures after { self.new ≡ behind_write from.now self.old }
+        ensures after { self.new ≡ sure_after_write from.now self.old }
     {
         self.written.add(from);
         Ok(from.len())

@@ -17,6 +17,9 @@ impl Model for Written {
     ghost also_owns = { λ _. ftrue };
 }
 
+// It owns nothing.
+unsafe impl Send for Written {}
+
 impl Written {
     pub(crate) fn new() -> Written
         ensures { result.bytes ≡ [] }

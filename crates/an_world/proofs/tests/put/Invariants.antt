@@ -1,0 +1,13 @@
+use Rattle.std.proofs.Common.{length, take, ◌-◌, ◌≤◌}
+use Rattle.an_world.specs.Link.{Writes}
+use Rattle.an_world.proofs.tests.put.Given as goal
+
+abbrev pub invariant-loop-at : goal.invariant-loop-at
+invariant-loop-at g l = record {
+  within : l.at ≤ length l.bytes;
+  written : Writes (take l.at l.bytes) (g.L.Link.traffic l.initial.link) (g.L.Link.traffic l.link);
+  kept : g.L.Link.write_faults l.initial.link ≤ g.L.Link.write_faults l.link;
+}
+
+abbrev pub decreases-loop-at : goal.decreases-loop-at
+decreases-loop-at g l = length l.bytes - l.at
