@@ -2,13 +2,17 @@
 use Rattle.std.proofs.Common.{◌≡◌, ◌≢◌, ℕ, ◌+◌, ◌≤◌, true, List, [], ◌∷◌, ◌++◌, Bor, length, map, filter, Option, Some, None, sym, ap, ap₂, ◌∙◌, append_assoc, append-nil, length-append, arith, subst}
 use Rattle.std.proofs.lemmas.Bool.{cond-true, false_from_ne_true, cond-false}
 use Rattle.std.proofs.lemmas.List.Elements.{All-head, filter_passes}
-use Rattle.std.proofs.lemmas.Str.{chars_from_encodes, encodes-chars, length-le-encodes}
+use Rattle.std.proofs.lemmas.Str.{chars_from_encodes, chars-IsAscii, encodes-chars, encodes-IsAscii, length-le-encodes}
+use Rattle.std.proofs.lemmas.Str.Ascii.{All-from_ascii, IsAscii-map, lowercase_ascii}
+use Rattle.std.specs.Char.{to_ascii_lowercase}
 use Rattle.std.specs.List.{All, concat}
 use Rattle.std.specs.Option.{MatchOption, option_copied}
 use Rattle.std.specs.Prelude.{encode_utf8_all}
-use Rattle.std.specs.Str.{chars, IsUtf8}
+use Rattle.std.specs.Str.{chars, IsUtf8, IsAscii, str_to_ascii_lowercase}
 use Rattle.caseless.specs.Caseless.{default_case_fold}
-use Rattle.unicode_normalization.specs.Forms.{nfc, nfd}
+use Rattle.caseless.proofs.CaselessLemmas.{default_case_fold-ascii}
+use Rattle.unicode_normalization.specs.Forms.{Nfc, Nfd, nfc, nfd}
+use Rattle.unicode_normalization.proofs.FormsLemmas.{normalize-ascii}
 use Rattle.unicode_segmentation.specs.Segments.{has_alphanumeric}
 use Rattle.unicode_segmentation.specs.Word.{is_word_break, word_bounds, words}
 use Rattle.unicode_segmentation.proofs.SegmentsLemmas.{concat-segments}
@@ -24,6 +28,17 @@ term_of_steps word decomposed folded term du fu d f t =
     let ds = chars_from_encodes _ _ du (sym d) in
     let fs = chars_from_encodes _ _ fu (sym f) in
     t ∙ ap (λ cs. encode_utf8_all (nfc cs)) (sym fs) ∙ ap (λ cs. encode_utf8_all (nfc (default_case_fold cs))) (sym ds)
+
+-- the term of an ASCII word is the word in lower case
+pub term_of-ascii : (word : List ℕ) → IsAscii word → term_of word ≡ str_to_ascii_lowercase word
+unfolding term_of
+term_of-ascii word ascii =
+    let all = All-from_ascii word ascii in
+    let lowered = IsAscii-map to_ascii_lowercase word lowercase_ascii ascii in
+    ap (λ cs. encode_utf8_all (nfc (default_case_fold (nfd cs)))) (chars-IsAscii word ascii)
+    ∙ ap (λ cs. encode_utf8_all (nfc (default_case_fold cs))) (normalize-ascii Nfd word all)
+    ∙ ap (λ cs. encode_utf8_all (nfc cs)) (default_case_fold-ascii word all)
+    ∙ ap encode_utf8_all (normalize-ascii Nfc _ (All-from_ascii _ lowered)) ∙ encodes-IsAscii _ lowered
 
 -- a text has no more code points than bytes
 pub length-chars : (text : List ℕ) → IsUtf8 text → length (chars text) ≤ length text

@@ -1,5 +1,5 @@
 -- The words of a text, each with the term that it is found by.
-use Rattle.std.specs.Prelude.{ℕ, ◌+◌, List, [], ◌∷◌, length, map, filter, encode_utf8_all}
+use Rattle.std.specs.Prelude.{◌≡◌, ℕ, ◌+◌, ◌<◌, ◌≤◌, List, [], ◌∷◌, length, slice_range, map, filter, encode_utf8_all}
 use Rattle.std.specs.Str.{chars}
 use Rattle.caseless.specs.Caseless.{default_case_fold}
 use Rattle.unicode_normalization.specs.Forms.{nfc, nfd}
@@ -28,3 +28,14 @@ occurrences_of text = map occurrence_of (filter (λ p. has_alphanumeric p.1) (pl
 -- the terms of a text
 unfoldable pub terms_of : List ℕ → List (List ℕ)
 terms_of text = map (λ o. o.term) (occurrences_of text)
+
+-- The occurrence is a word of the text: its span has a code point and lies in the text, and its term is that
+-- of what stands there.
+pub record IsWordOf (text : List ℕ) (o : Occurrence) : Type 0 where
+  pub some : o.span.start < o.span.end
+  pub within : o.span.end ≤ length (chars text)
+  pub term : o.term ≡ term_of (encode_utf8_all (slice_range (chars text) o.span.start o.span.end))
+
+-- the one ends before the other begins, or where it begins
+abbrev pub StandsBefore : Occurrence → Occurrence → Type 0
+StandsBefore earlier later = earlier.span.end ≤ later.span.start

@@ -8,4 +8,6 @@ pub use words::occurrences;
 
 mod occurrence;
 mod term;
+#[cfg(test)]
+mod tests;
 mod words;

@@ -1,6 +1,6 @@
-ghost use Rattle.std.specs.Prelude.{◌≡◌, ◌↔◌, ◌≤◌, chars, length, IfOk, IsTrue, Some};
+ghost use Rattle.std.specs.Prelude.{◌≡◌, ◌↔◌, ◌≤◌, chars, length, All, AllPairs, IfOk, IsTrue, Some};
 ghost use Rattle.std.specs.Option.{option_copied};
-ghost use Rattle.an_terms.specs.Terms.{occurrences_of};
+ghost use Rattle.an_terms.specs.Terms.{occurrences_of, IsWordOf, StandsBefore};
 
 use crate::occurrence::Occurrence;
 use crate::term::term_of;
@@ -12,6 +12,8 @@ use unicode_segmentation::UnicodeSegmentation;
 /// that have an alphanumeric character: the term of each, and its span in code points.
 pub fn occurrences(alloc: Global, text: &str) -> Result<Vec<Occurrence>, AllocError>
     ensures value { IfOk result (λ v. v.items ≡ occurrences_of text.now) }
+    ensures words { IfOk result (λ v. All (IsWordOf text.now) v.items) }
+    ensures ascending { IfOk result (λ v. AllPairs StandsBefore v.items) }
 {
     let mut found = Vec::new(alloc);
     let mut words = text.unicode_words();

@@ -1,11 +1,7 @@
-use Rattle.std.proofs.Common.{◌∙◌}
-use Rattle.an_terms.proofs.TermsLemmas.{term_of_steps}
+use Rattle.std.proofs.Common.{sym, ◌∙◌}
+use Rattle.an_terms.proofs.TermsLemmas.{term_of-ascii}
 use Rattle.an_terms.proofs.term.term_of.Goals as goal
 
-pub returns : goal.returns
-returns c =
-    record {
-      term = c.from_string.ensures.value
-          ∙ term_of_steps _ _ _ _ c.as_str.utf8 c.as_str-2.utf8 (c.as_str.ensures.value ∙ c.in_ok-decomposed.ensures)
-          (c.as_str-2.ensures.value ∙ c.in_ok-folded.ensures) c.in_ok-composed.ensures;
-    }
+pub returns-then-is_ascii-clause-term : goal.returns-then-is_ascii-clause-term
+returns-then-is_ascii-clause-term c =
+    c.from_string.ensures.value ∙ c.in_ok-to_ascii_lowercase.ensures.ok ∙ sym (term_of-ascii _ c.if-is_ascii.ensures.cases)

@@ -1,6 +1,10 @@
-use Rattle.std.proofs.Common.{refl, ap, ◌∙◌}
+use Rattle.std.proofs.Common.{refl, ap, ◌∙◌, sym, subst}
 use Rattle.std.proofs.lemmas.Bool.{false≢true}
 use Rattle.unicode_segmentation.specs.Iter.{word_bounds_left}
+use Rattle.std.proofs.lemmas.List.Elements.{All-same}
+use Rattle.std.specs.List.{AllPairs}
+use Rattle.an_terms.specs.Terms.{IsWordOf, StandsBefore}
+use Rattle.an_terms.proofs.SpanLemmas.{All-IsWordOf, AllPairs-StandsBefore}
 use Rattle.an_terms.proofs.TermsLemmas.{HasCome-start, HasCome-word, HasCome-other, HasCome-end}
 use Rattle.an_terms.proofs.words.occurrences.Goals as goal
 
@@ -21,4 +25,10 @@ loop-piece-preserved c =
     c.char_count.ensures.count c.char_count.ensures.bound
 
 pub returns : goal.returns
-returns c = record { value = HasCome-end _ _ _ _ _ _ c.loop-piece.invariant c.in-None.ensures.steps.0 }
+returns c =
+    let value = HasCome-end _ _ _ _ _ _ c.loop-piece.invariant c.in-None.ensures.steps.0 in
+    record {
+      value = value;
+      words = All-same (IsWordOf c.args.text.now) _ _ value (All-IsWordOf c.args.text.now c.utf8.text);
+      ascending = subst (AllPairs StandsBefore) (sym value) (AllPairs-StandsBefore c.args.text.now);
+    }
