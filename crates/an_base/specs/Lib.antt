@@ -1,3 +1,4 @@
 pub mod Outcome
 pub mod Name
 pub mod Code
+pub mod Moment

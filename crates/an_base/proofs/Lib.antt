@@ -1,0 +1,3 @@
+pub mod MomentCalendar
+pub mod MomentForm
+mod MomentRows
