@@ -1,3 +1,4 @@
 pub mod MomentCalendar
 pub mod MomentForm
+pub mod MomentDates
 mod MomentRows
