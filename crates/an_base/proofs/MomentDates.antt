@@ -80,7 +80,7 @@ year_of-ends day = elim (cases_lt (year_of day) (day / 365)) [
 
 -- ## Months
 
-days_of_months-suc : (year n : ℕ) → days_of_months year (suc n) ≡ days_of_months year n + days_in_month year (suc n)
+pub days_of_months-suc : (year n : ℕ) → days_of_months year (suc n) ≡ days_of_months year n + days_in_month year (suc n)
 unfolding days_of_months
 days_of_months-suc year n = refl
 
@@ -94,7 +94,7 @@ days_of_months-add year n (suc k) =
     let next : suc k + n ≡ suc (k + n) = omega arith in
     rw next (omega (arith, days_of_months-add year n k, days_of_months-suc year (k + n)))
 
-days_of_months-le : (year n later : ℕ) → n ≤ later → days_of_months year n ≤ days_of_months year later
+pub days_of_months-le : (year n later : ℕ) → n ≤ later → days_of_months year n ≤ days_of_months year later
 days_of_months-le year n later h =
     let same : later - n + n ≡ later = omega arith in rw same at (days_of_months-add year n (later - n))
 

@@ -1,0 +1,65 @@
+-- The seconds of a date and time give it back, and each number of seconds is that of one.
+use Rattle.std.proofs.Common.{◌≡◌, ℕ, zero, suc, ◌+◌, ◌-◌, ◌*◌, ◌/◌, ◌%◌, ◌<◌, ◌≤◌, Bool, true, ◌&&◌, nat_lt, refl, sym, ap, ◌∙◌, arith}
+use Rattle.std.proofs.lemmas.Bool.{and_parts, and_from, lt-ltb, ltb-true}
+use Rattle.an_base.specs.declared.moment.DateTime.{DateTime}
+use Rattle.an_base.specs.Moment.{days_in_month, days_before_year, days_of_months, is_time, days_before, seconds_before, year_of, months_before, date_time_after}
+use Rattle.an_base.proofs.MomentCalendar.{DateHolds, days_before_year-suc, days_of_months_all}
+use Rattle.an_base.proofs.MomentDates.{days_of_months-suc, days_of_months-le, year_of-is, months_before-is, year_of-begins, year_of-ends, months_before-begins, months_before-ends, months_before-within}
+
+-- the parts of a time of day
+pub record TimeHolds (t : DateTime) : Type 0 where
+  pub hour : t.hour < 24
+  pub minute : t.minute < 60
+  pub second : t.second < 60
+
+pub is_time-from : (t : DateTime) → TimeHolds t → is_time t ≡ true
+is_time-from t h =
+    and_from _ _ (and_from _ _ (lt-ltb _ _ h.hour) (lt-ltb _ _ h.minute)) (lt-ltb _ _ h.second)
+
+pub TimeHolds-from : (t : DateTime) → is_time t ≡ true → TimeHolds t
+TimeHolds-from t h =
+    let first : Bool = nat_lt t.hour 24 && nat_lt t.minute 60 in
+    let b : (first ≡ true) × (nat_lt t.second 60 ≡ true) = and_parts first (nat_lt t.second 60) h in
+    let a : (nat_lt t.hour 24 ≡ true) × (nat_lt t.minute 60 ≡ true) = and_parts (nat_lt t.hour 24) (nat_lt t.minute 60) b.0 in
+    record {
+      hour = ltb-true t.hour 24 a.0;
+      minute = ltb-true t.minute 60 a.1;
+      second = ltb-true t.second 60 b.1
+    }
+
+-- the months before this one, and this one
+month_ends : (t : DateTime) → DateHolds t → days_of_months t.year (suc (t.month - 1)) ≡ days_of_months t.year (t.month - 1) + days_in_month t.year t.month
+month_ends t h =
+    let e : suc (t.month - 1) ≡ t.month = omega (arith, h.month) in
+    days_of_months-suc t.year (t.month - 1) ∙ ap (λ m. days_of_months t.year (t.month - 1) + days_in_month t.year m) e
+
+year_found : (t : DateTime) → DateHolds t → year_of (days_before t) ≡ t.year
+year_found t h =
+    year_of-is t.year (days_before t) (omega arith) (omega (arith, h.month, h.months, h.day, h.days, month_ends t h, days_before_year-suc t.year, days_of_months-le t.year (suc (t.month - 1)) 12 (omega (arith, h.month, h.months)), days_of_months_all t.year))
+
+day_found : (t : DateTime) → days_before t - days_before_year t.year ≡ days_of_months t.year (t.month - 1) + (t.day - 1)
+day_found t = omega arith
+
+month_found : (t : DateTime) → DateHolds t → months_before t.year (days_before t - days_before_year t.year) ≡ t.month - 1
+month_found t h =
+    months_before-is t.year (t.month - 1) (days_before t - days_before_year t.year) (omega (arith, h.months)) (omega (arith, day_found t)) (omega (arith, day_found t, month_ends t h, h.day, h.days))
+
+-- date and times with equal parts are equal
+same_parts : (a b : DateTime) → a.year ≡ b.year → a.month ≡ b.month → a.day ≡ b.day → a.hour ≡ b.hour → a.minute ≡ b.minute → a.second ≡ b.second → a ≡ b
+same_parts a b year month day hour minute second = λ i. record {
+  year = year i;
+  month = month i;
+  day = day i;
+  hour = hour i;
+  minute = minute i;
+  second = second i
+}
+
+-- a date and time is found again from its seconds
+pub date_time_after-is : (t : DateTime) (seconds : ℕ) → DateHolds t → TimeHolds t → seconds ≡ seconds_before t → date_time_after seconds ≡ t
+unfolding date_time_after
+date_time_after-is t seconds date time e =
+    let day : seconds / 86_400 ≡ days_before t = omega (arith, time.hour, time.minute, time.second) in
+    let year : year_of (days_before t) ≡ t.year = year_found t date in
+    let months : months_before t.year (days_before t - days_before_year t.year) ≡ t.month - 1 = month_found t date in
+    same_parts (date_time_after seconds) t (rw (day, year)) (rw (day, year, months) (omega (arith, date.month))) (rw (day, year, months) (omega (arith, date.day))) (omega (arith, time.hour, time.minute, time.second)) (omega (arith, time.hour, time.minute, time.second)) (omega (arith, time.hour, time.minute, time.second))
