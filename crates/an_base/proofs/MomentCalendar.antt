@@ -1,11 +1,12 @@
 -- The calendar of `specs/Moment.antt`: how years and months follow each other, and that it is the calendar of `jiff_core`.
-use Rattle.std.proofs.Common.{◌≡◌, ℕ, zero, suc, ◌+◌, ◌-◌, ◌*◌, ◌<◌, ◌≤◌, Bool, true, ◌&&◌, nat_le, refl, arith, ℤ, pos, ◌+ℤ◌, if◌then◌else◌}
+use Rattle.std.proofs.Common.{◌≡◌, ℕ, zero, suc, ◌+◌, ◌-◌, ◌*◌, ◌<◌, ◌≤◌, Bool, true, ◌&&◌, nat_le, refl, arith, ℤ, pos, negsuc, unsigned_abs, ◌+ℤ◌, ◌≤ℤ◌, if◌then◌else◌}
 use Rattle.std.proofs.lemmas.Bool.{and_parts, and_from, le-leb, leb-true}
 use Rattle.std.proofs.lemmas.Bool.Decides.{nat_tests}
+use Rattle.std.proofs.lemmas.Int.{by_lt_z}
 use Rattle.jiff_core.specs.Calendar as civil
 use Rattle.jiff_core.proofs.SignedLemmas.{signed_arith}
 use Rattle.jiff_core.proofs.MarchLemmas.{day_count-early}
-use Rattle.jiff_core.proofs.CalendarLemmas.{day_count-next_year, day_count-day_of_year, days_from_civil-day_count}
+use Rattle.jiff_core.proofs.CalendarLemmas.{day_count-next_year, day_count-day_of_year, days_from_civil-day_count, day_count-lt_year}
 use Rattle.an_base.specs.Moment.{is_leap_year, days_in_month, is_date, days_before_year, days_of_months}
 use Rattle.an_base.specs.declared.moment.DateTime.{DateTime}
 
@@ -68,3 +69,19 @@ DateHolds-from t h =
       day = leb-true 1 t.day d.1;
       days = leb-true t.day (days_in_month t.year t.month) e.1;
     }
+
+pub days_in_month-le : (year month : ℕ) → days_in_month year month ≤ 31
+days_in_month-le year month = grind arith
+
+-- a date of the day 0000-01-01 or later has no negative year
+pub year_from_zero : (year : ℤ) (month day n : ℕ) → civil.IsCivilDate year month day → civil.days_from_civil year month day +ℤ pos 4_371_587 ≡ pos (n + 3_652_059) → pos 0 ≤ℤ year
+year_from_zero year month day n h e =
+    by_lt_z year (pos 0) (λ lt. absurd (omega (arith, signed_arith, day_count-lt_year year month day (pos 0) 1 1 h (omega arith) lt, days_from_civil-day_count year month day, day_count-year 0))) (λ ge. ge)
+
+pub not_negative : (z : ℤ) → pos 0 ≤ℤ z → z ≡ pos (unsigned_abs z)
+not_negative (pos n) h = refl
+not_negative (negsuc n) h = absurd (omega (arith, signed_arith))
+
+pub year_bound : (year : ℤ) → civil.IsYear year → unsigned_abs year ≤ 9999
+year_bound (pos n) h = omega (arith, signed_arith)
+year_bound (negsuc n) h = omega (arith, signed_arith)

@@ -15,35 +15,35 @@ greatest-no test n e = rw (e, greatest) refl
 greatest-is : (test : ℕ → Bool) (n k : ℕ) → k ≤ n → test k ≡ true → ((j : ℕ) → k < j → j ≤ n → test j ≡ false) → greatest test n ≡ k
 greatest-is test zero k low at above = omega arith
 greatest-is test (suc n) k low at above = elim (cases_order k (suc n)) [
-    | inl same ↦ greatest-yes test n (rw (← same) at) ∙ sym same
-    | inr (inl lt) ↦ greatest-no test n (above (suc n) lt (omega arith)) ∙ greatest-is test n k (omega arith) at (λ j from to. above j from (omega arith))
-    | inr (inr gt) ↦ absurd (omega arith)
-  ]
+  | inl same ↦ greatest-yes test n (rw (← same) at) ∙ sym same
+  | inr (inl lt) ↦ greatest-no test n (above (suc n) lt (omega arith)) ∙ greatest-is test n k (omega arith) at (λ j from to. above j from (omega arith))
+  | inr (inr gt) ↦ absurd (omega arith)
+]
 
 greatest-holds : (test : ℕ → Bool) (n : ℕ) → test 0 ≡ true → test (greatest test n) ≡ true
 greatest-holds test zero first = first
 greatest-holds test (suc n) first = elim (cases_Bool (test (suc n))) [
-    | inl passes ↦ rw (greatest-yes test n passes) passes
-    | inr fails ↦ rw (greatest-no test n fails) (greatest-holds test n first)
-  ]
+  | inl passes ↦ rw (greatest-yes test n passes) passes
+  | inr fails ↦ rw (greatest-no test n fails) (greatest-holds test n first)
+]
 
 greatest-le : (test : ℕ → Bool) (n : ℕ) → greatest test n ≤ n
 greatest-le test zero = omega arith
 greatest-le test (suc n) = elim (cases_Bool (test (suc n))) [
-    | inl passes ↦ omega (arith, greatest-yes test n passes)
-    | inr fails ↦ omega (arith, greatest-no test n fails, greatest-le test n)
-  ]
+  | inl passes ↦ omega (arith, greatest-yes test n passes)
+  | inr fails ↦ omega (arith, greatest-no test n fails, greatest-le test n)
+]
 
 greatest-above : (test : ℕ → Bool) (n j : ℕ) → greatest test n < j → j ≤ n → test j ≡ false
 greatest-above test zero j from to = absurd (omega arith)
 greatest-above test (suc n) j from to = elim (cases_Bool (test (suc n))) [
-    | inl passes ↦ absurd (omega (arith, greatest-yes test n passes))
-    | inr fails ↦ elim (cases_order j (suc n)) [
-        | inl same ↦ rw same fails
-        | inr (inl lt) ↦ greatest-above test n j (omega (arith, greatest-no test n fails)) (omega arith)
-        | inr (inr gt) ↦ absurd (omega arith)
-      ]
+  | inl passes ↦ absurd (omega (arith, greatest-yes test n passes))
+  | inr fails ↦ elim (cases_order j (suc n)) [
+    | inl same ↦ rw same fails
+    | inr (inl lt) ↦ greatest-above test n j (omega (arith, greatest-no test n fails)) (omega arith)
+    | inr (inr gt) ↦ absurd (omega arith)
   ]
+]
 
 -- ## Years
 
@@ -53,7 +53,7 @@ days_before_year-add year (suc k) =
     let next : suc k + year ≡ suc (k + year) = omega arith in
     rw next (omega (arith, days_before_year-add year k, days_before_year-suc (k + year)))
 
-days_before_year-le : (year later : ℕ) → year ≤ later → days_before_year year ≤ days_before_year later
+pub days_before_year-le : (year later : ℕ) → year ≤ later → days_before_year year ≤ days_before_year later
 days_before_year-le year later h =
     let same : later - year + year ≡ later = omega arith in
     rw same at (days_before_year-add year (later - year))
@@ -74,9 +74,9 @@ year_of-begins day =
 
 pub year_of-ends : (day : ℕ) → day < days_before_year (suc (year_of day))
 year_of-ends day = elim (cases_lt (year_of day) (day / 365)) [
-    | inl lt ↦ leb-false (days_before_year (suc (year_of day))) day (greatest-above (λ y. nat_le (days_before_year y) day) (day / 365) (suc (year_of day)) (omega arith) (omega arith))
-    | inr ge ↦ omega (arith, days_before_year-low (suc (year_of day)))
-  ]
+  | inl lt ↦ leb-false (days_before_year (suc (year_of day))) day (greatest-above (λ y. nat_le (days_before_year y) day) (day / 365) (suc (year_of day)) (omega arith) (omega arith))
+  | inr ge ↦ omega (arith, days_before_year-low (suc (year_of day)))
+]
 
 -- ## Months
 
@@ -113,6 +113,6 @@ months_before-begins year day =
 
 pub months_before-ends : (year day : ℕ) → day < days_in_year year → day < days_of_months year (suc (months_before year day))
 months_before-ends year day h = elim (cases_lt (months_before year day) 11) [
-    | inl lt ↦ leb-false (days_of_months year (suc (months_before year day))) day (greatest-above (λ k. nat_le (days_of_months year k) day) 11 (suc (months_before year day)) (omega arith) (omega arith))
-    | inr ge ↦ let last : months_before year day ≡ 11 = omega (arith, months_before-within year day) in rw last (omega (arith, days_of_months_all year))
-  ]
+  | inl lt ↦ leb-false (days_of_months year (suc (months_before year day))) day (greatest-above (λ k. nat_le (days_of_months year k) day) 11 (suc (months_before year day)) (omega arith) (omega arith))
+  | inr ge ↦ let last : months_before year day ≡ 11 = omega (arith, months_before-within year day) in rw last (omega (arith, days_of_months_all year))
+]

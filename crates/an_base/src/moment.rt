@@ -1,8 +1,10 @@
-ghost use Rattle.std.specs.Prelude.{◌≡◌, ◌↔◌, ◌+◌, ◌-◌, ◌<◌, ◌≤◌, ◌&&◌, if◌then◌else◌, length, slice_index, IsTrue, IfSome, IsSome};
+ghost use Rattle.std.specs.Prelude.{◌≡◌, ◌↔◌, ◌+◌, ◌-◌, ◌<◌, ◌≤◌, ◌&&◌, if◌then◌else◌, length, slice_index, IsTrue, IfOk, IfSome, IsSome};
 ghost use Rattle.std.specs.Char.{is_ascii_digit};
-ghost use Rattle.an_base.specs.Moment.{has_form, has_digits, fits, number_at, date_time_in, is_date, is_time, days_before, moment_at, moment_of};
+ghost use Rattle.an_base.specs.Moment.{has_form, has_digits, fits, number_at, date_time_in, is_date, is_time, days_before, moment_at, moment_of, date_time_text, date_time_after, moment_text};
 
+use crate::text::Text;
 use jiff_core::civil::Date;
+use std::alloc::{AllocError, Global};
 use std::marker::Model;
 
 /// Why a text is no moment.
@@ -185,4 +187,49 @@ fn days_before(t: DateTime) -> Option<u32>
         Ok(date) => Some(date.days_since_min() - YEAR_ZERO),
         Err(_) => None,
     }
+}
+
+/// The text of a moment, always 20 bytes: `YYYY-MM-DDThh:mm:ssZ`.
+#[tactic(auto, unfolding(crate::specs::Moment::moment_text))]
+pub fn moment_text(alloc: Global, moment: Moment) -> Result<Text, AllocError>
+    ensures text { IfOk result (λ text. text ≡ moment_text moment) }
+{
+    let seconds = (moment.seconds() + EPOCH) as u64;
+    date_time_text(alloc, date_time_after(seconds))
+}
+
+fn date_time_after(seconds: u64) -> DateTime
+    requires { seconds < 315_569_520_000 }
+    ensures value { result ≡ date_time_after seconds }
+    ensures date { IsTrue (is_date result) }
+    ensures time { IsTrue (is_time result) }
+{
+    let date = Date::from_days_since_min((seconds / 86_400) as u32 + YEAR_ZERO);
+    DateTime {
+        year: date.year as u16,
+        month: date.month,
+        day: date.day,
+        hour: (seconds % 86_400 / 3_600) as u8,
+        minute: (seconds % 3_600 / 60) as u8,
+        second: (seconds % 60) as u8,
+    }
+}
+
+fn date_time_text(alloc: Global, t: DateTime) -> Result<Text, AllocError>
+    requires date { IsTrue (is_date t) }
+    requires time { IsTrue (is_time t) }
+    ensures { IfOk result (λ text. text ≡ date_time_text t) }
+{
+    let DateTime {
+        year,
+        month,
+        day,
+        hour,
+        minute,
+        second,
+    } = t;
+    let text = format!(in alloc;
+        "{year:04}-{month:02}-{day:02}T{hour:02}:{minute:02}:{second:02}Z"
+    )?;
+    Ok(Text::from_string(text))
 }
