@@ -3,4 +3,5 @@ pub mod MomentForm
 pub mod MomentDates
 pub mod MomentParts
 pub mod MomentTexts
+pub mod MomentLaws
 mod MomentRows

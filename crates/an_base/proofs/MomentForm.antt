@@ -39,6 +39,14 @@ digit_at text k h zero_there =
     let fit_zero : fits (slice_index text k) 48 ≡ true = subst (λ (s : ℕ). fits (slice_index text k) s ≡ true) zero_there fit in
     fit_zero
 
+-- and every other sign as it stands in the form
+pub sign_at : (text : List ℕ) (k : ℕ) → has_form text ≡ true → k < 20 → (slice_index form k == 48) ≡ false → slice_index text k ≡ slice_index form k
+sign_at text k h low other =
+    let long : length text ≡ 20 = form_length text h in
+    let fit : fits (slice_index text k) (slice_index form k) ≡ true = fits_at text form k (form_fits text h) (omega arith) low in
+    let same : (slice_index text k == slice_index form k) ≡ true = rw other at fit in
+    eqb-true (slice_index text k) (slice_index form k) same
+
 digit_bounds : (b : ℕ) → IsTrue (is_ascii_digit b) → (48 ≤ b) × (b ≤ 57)
 digit_bounds b h =
     let parts : (nat_le 48 b ≡ true) × (nat_le b 57 ≡ true) = and_parts (nat_le 48 b) (nat_le b 57) h in

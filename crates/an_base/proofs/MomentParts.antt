@@ -46,7 +46,7 @@ month_found t h =
     months_before-is t.year (t.month - 1) (days_before t - days_before_year t.year) (omega (arith, h.months)) (omega (arith, day_found t)) (omega (arith, day_found t, month_ends t h, h.day, h.days))
 
 -- date and times with equal parts are equal
-same_parts : (a b : DateTime) → a.year ≡ b.year → a.month ≡ b.month → a.day ≡ b.day → a.hour ≡ b.hour → a.minute ≡ b.minute → a.second ≡ b.second → a ≡ b
+pub same_parts : (a b : DateTime) → a.year ≡ b.year → a.month ≡ b.month → a.day ≡ b.day → a.hour ≡ b.hour → a.minute ≡ b.minute → a.second ≡ b.second → a ≡ b
 same_parts a b year month day hour minute second = λ i. record {
   year = year i;
   month = month i;
@@ -84,7 +84,7 @@ month_length year day h =
     let e : suc (months_before year day) ≡ months_before year day + 1 = omega arith in
     omega (arith, months_before-ends year day h, days_of_months-suc year (months_before year day), ap (days_in_month year) e)
 
-date_holds : (seconds : ℕ) → seconds < all_seconds → DateHolds (date_time_after seconds)
+pub date_holds : (seconds : ℕ) → seconds < all_seconds → DateHolds (date_time_after seconds)
 unfolding date_time_after
 date_holds seconds h =
     let day = seconds / 86_400 in
@@ -98,7 +98,7 @@ date_holds seconds h =
       days = omega (arith, months_before-begins year of_year, month_length year of_year (day_within day));
     }
 
-time_holds : (seconds : ℕ) → TimeHolds (date_time_after seconds)
+pub time_holds : (seconds : ℕ) → TimeHolds (date_time_after seconds)
 unfolding date_time_after
 time_holds seconds = record { hour = omega arith; minute = omega arith; second = omega arith }
 
@@ -114,7 +114,7 @@ days_again seconds =
     let before : days_of_months year (months + 1 - 1) ≡ days_of_months year months = ap (days_of_months year) back in
     omega (arith, year_of-begins day, before, begins)
 
-seconds_again : (seconds : ℕ) → seconds_before (date_time_after seconds) ≡ seconds
+pub seconds_again : (seconds : ℕ) → seconds_before (date_time_after seconds) ≡ seconds
 unfolding date_time_after
 seconds_again seconds =
     let t = date_time_after seconds in
