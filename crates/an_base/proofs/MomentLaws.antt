@@ -1,14 +1,16 @@
 -- Texts and moments stand for each other: what is written is read again, and nothing else is read.
-use Rattle.std.proofs.Common.{◌≡◌, ℕ, zero, suc, ◌+◌, ◌-◌, ◌*◌, ◌/◌, ◌%◌, ◌<◌, ◌≤◌, ◌==◌, Bool, true, false, ◌&&◌, List, [], ◌∷◌, ◌++◌, length, slice_index, drop, drop-cons, length-drop, refl, sym, ap, ◌∙◌, arith, inl, inr, ℤ, pos, ◌+ℤ◌, ◌-ℤ◌, ◌≤ℤ◌, unsigned_abs, Result, Ok, Err, IsTrue, nat_le}
+use Rattle.std.proofs.Common.{◌≡◌, ℕ, zero, suc, ◌+◌, ◌-◌, ◌*◌, ◌/◌, ◌%◌, ◌<◌, ◌≤◌, ◌==◌, Bool, true, false, ◌&&◌, List, [], ◌∷◌, ◌++◌, length, slice_index, drop, drop-cons, length-drop, refl, sym, ap, ◌∙◌, arith, inl, inr, ℤ, pos, ◌+ℤ◌, ◌-ℤ◌, ◌≤ℤ◌, unsigned_abs, Result, Ok, Err, IsTrue, nat_le, subst}
 use Rattle.std.specs.Char.{is_ascii_digit}
 use Rattle.std.proofs.lemmas.List.{nil_from_length}
 use Rattle.std.proofs.lemmas.Bool.{and_from, le-leb, cases_Bool, and_parts, eqb-true}
 use Rattle.jiff_core.proofs.SignedLemmas.{signed_arith}
 use Rattle.an_base.specs.declared.moment.DateTime.{DateTime}
-use Rattle.an_base.specs.Moment.{has_form, has_digits, form, number_at, date_time_in, date_time_text, date_time_after, two_digits}
-use Rattle.an_base.proofs.MomentCalendar.{DateHolds, days_in_month-le}
+use Rattle.an_base.specs.Moment.{has_form, has_digits, form, number_at, date_time_in, date_time_text, date_time_after, is_date, is_time, seconds_before, epoch, IsMoment, moment_at, moment_of, moment_text}
+use Rattle.an_base.specs.declared.moment.MomentError.{MomentError}
+use Rattle.an_base.specs.declared.moment.MomentError.TheVariants.{Form, Range}
+use Rattle.an_base.proofs.MomentCalendar.{DateHolds, DateHolds-from, is_date-from, days_in_month-le, not_negative}
 use Rattle.an_base.proofs.MomentForm.{form_length, digits_at, sign_at}
-use Rattle.an_base.proofs.MomentParts.{TimeHolds, same_parts}
+use Rattle.an_base.proofs.MomentParts.{TimeHolds, TimeHolds-from, is_time-from, same_parts, all_seconds, date_holds, time_holds, seconds_again, date_time_after-is, days_high}
 
 -- ## What is written
 
@@ -103,3 +105,73 @@ text_written text h =
     let last = sign_at text 19 h (omega arith) refl in
     let bytes = text_bytes text h in
     cc
+
+-- ## Moments
+
+since_year_zero : (m : ℤ) → IsMoment m → m +ℤ pos epoch ≡ pos (unsigned_abs (m +ℤ pos epoch))
+since_year_zero m h = not_negative (m +ℤ pos epoch) (omega (arith, signed_arith))
+
+seconds_small : (m : ℤ) → IsMoment m → unsigned_abs (m +ℤ pos epoch) < all_seconds
+seconds_small m h = let same = since_year_zero m h in omega (arith, signed_arith)
+
+moment_again : (m : ℤ) → IsMoment m → pos (unsigned_abs (m +ℤ pos epoch)) -ℤ pos epoch ≡ m
+moment_again m h = let same = since_year_zero m h in omega (arith, signed_arith)
+
+seconds_of_moment : (seconds : ℕ) → unsigned_abs (pos seconds -ℤ pos epoch +ℤ pos epoch) ≡ seconds
+seconds_of_moment seconds =
+    let same : pos seconds -ℤ pos epoch +ℤ pos epoch ≡ pos seconds = omega (arith, signed_arith) in ap unsigned_abs same
+
+moment_of_text : (t : DateTime) → DateHolds t → TimeHolds t → moment_of (date_time_text t) ≡ Ok (pos (seconds_before t) -ℤ pos epoch)
+unfolding moment_of
+moment_of_text t date time =
+    let formed : moment_of (date_time_text t) ≡ moment_at (date_time_in (date_time_text t)) = rw (text_has_form t date time) refl in
+    let holds : moment_at t ≡ Ok (pos (seconds_before t) -ℤ pos epoch) = rw (is_date-from t date, is_time-from t time) refl in
+    formed ∙ ap moment_at (text_read t) ∙ holds
+
+-- each moment is read from its text
+pub moment_read : (m : ℤ) → IsMoment m → moment_of (moment_text m) ≡ Ok m
+unfolding moment_text
+moment_read m h =
+    let seconds = unsigned_abs (m +ℤ pos epoch) in
+    let read = moment_of_text (date_time_after seconds) (date_holds seconds (seconds_small m h)) (time_holds seconds) in
+    read ∙ ap (λ n. Ok (pos n -ℤ pos epoch)) (seconds_again seconds) ∙ ap Ok (moment_again m h)
+
+-- what stands behind a moment that is read
+record IsReadAs (text : List ℕ) (m : ℤ) : Type 0 where
+  form : has_form text ≡ true
+  date : is_date (date_time_in text) ≡ true
+  time : is_time (date_time_in text) ≡ true
+  value : pos (seconds_before (date_time_in text)) -ℤ pos epoch ≡ m
+
+read_at : (t : DateTime) (m : ℤ) → moment_at t ≡ Ok m → ((is_date t && is_time t) ≡ true) × (pos (seconds_before t) -ℤ pos epoch ≡ m)
+read_at t m h = elim (cases_Bool (is_date t && is_time t)) [
+    | inl holds ↦
+      let same : Ok (pos (seconds_before t) -ℤ pos epoch) ≡ Ok m = rw holds at h in
+      (holds, cc)
+    | inr fails ↦ let never : Err Range ≡ Ok m = rw fails at h in cc
+  ]
+
+read_as : (text : List ℕ) (m : ℤ) → moment_of text ≡ Ok m → IsReadAs text m
+unfolding moment_of
+read_as text m h = elim (cases_Bool (has_form text)) [
+    | inl holds ↦
+      let at : moment_at (date_time_in text) ≡ Ok m = rw holds at h in
+      let read = read_at (date_time_in text) m at in
+      let parts : (is_date (date_time_in text) ≡ true) × (is_time (date_time_in text) ≡ true) = and_parts (is_date (date_time_in text)) (is_time (date_time_in text)) read.0 in
+      record { form = holds; date = parts.0; time = parts.1; value = read.1 }
+    | inr fails ↦ let never : Err Form ≡ Ok m = rw fails at h in cc
+  ]
+
+-- what is read is a moment, and its text is the one that was read
+pub moment_written : (text : List ℕ) (m : ℤ) → moment_of text ≡ Ok m → IsMoment m × (text ≡ moment_text m)
+unfolding moment_text
+moment_written text m h =
+    let read : IsReadAs text m = read_as text m h in
+    let t = date_time_in text in
+    let date : DateHolds t = DateHolds-from t read.date in
+    let time : TimeHolds t = TimeHolds-from t read.time in
+    let range : IsMoment (pos (seconds_before t) -ℤ pos epoch) = (omega (arith, signed_arith), omega (arith, signed_arith, days_high t date, time.hour, time.minute, time.second)) in
+    let seconds : unsigned_abs (m +ℤ pos epoch) ≡ seconds_before t = rw (← read.value) (seconds_of_moment (seconds_before t)) in
+    let found : date_time_after (unsigned_abs (m +ℤ pos epoch)) ≡ t = date_time_after-is t (unsigned_abs (m +ℤ pos epoch)) date time seconds in
+    let P : ℤ → Type 0 = λ z. IsMoment z in
+    (subst P read.value range, text_written text read.form ∙ ap date_time_text (sym found))

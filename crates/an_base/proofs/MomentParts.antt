@@ -127,3 +127,8 @@ seconds_again seconds =
 pub date_time_after-civil : (t : DateTime) (seconds : ℕ) → DateHolds t → TimeHolds t → civil.days_from_civil (pos t.year) t.month t.day +ℤ pos 4_371_587 ≡ pos (seconds / 86_400 + 3_652_059) → t.hour ≡ seconds % 86_400 / 3_600 → t.minute ≡ seconds % 3_600 / 60 → t.second ≡ seconds % 60 → date_time_after seconds ≡ t
 date_time_after-civil t seconds date time day hour minute second =
     date_time_after-is t seconds date time (omega (arith, days_since_min-days t.year t.month t.day (seconds / 86_400 + 3_652_059) date.day day))
+
+-- no date comes after 9999-12-31
+pub days_high : (t : DateTime) → DateHolds t → days_before t < 3_652_425
+days_high t h =
+    omega (arith, h.month, h.months, h.day, h.days, h.year, month_ends t h, days_before_year-suc t.year, days_of_months-le t.year (suc (t.month - 1)) 12 (omega (arith, h.month, h.months)), days_of_months_all t.year, days_before_year-le (suc t.year) 10000 (omega (arith, h.year)))
