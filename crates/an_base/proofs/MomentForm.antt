@@ -52,6 +52,9 @@ digit_bounds b h =
     let parts : (nat_le 48 b ≡ true) × (nat_le b 57 ≡ true) = and_parts (nat_le 48 b) (nat_le b 57) h in
     (leb-true 48 b parts.0, leb-true b 57 parts.1)
 
+pub digit_below : (text : List ℕ) (k : ℕ) → has_form text ≡ true → slice_index form k ≡ 48 → slice_index text k ≤ 57
+digit_below text k h zero_there = (digit_bounds (slice_index text k) (digit_at text k h zero_there)).1
+
 -- two digits stand where the form has two
 pub digits_at : (text : List ℕ) (at : ℕ) → IsTrue (has_form text) → IsTrue (has_digits at) → (at + 1 < length text) × (48 ≤ slice_index text at) × (slice_index text at ≤ 57) × (48 ≤ slice_index text (at + 1)) × (slice_index text (at + 1) ≤ 57)
 digits_at text at h digits =

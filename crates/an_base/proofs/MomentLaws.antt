@@ -1,15 +1,17 @@
 -- Texts and moments stand for each other: what is written is read again, and nothing else is read.
-use Rattle.std.proofs.Common.{◌≡◌, ℕ, zero, suc, ◌+◌, ◌-◌, ◌*◌, ◌/◌, ◌%◌, ◌<◌, ◌≤◌, ◌==◌, Bool, true, false, ◌&&◌, List, [], ◌∷◌, ◌++◌, length, slice_index, drop, drop-cons, length-drop, refl, sym, ap, ◌∙◌, arith, inl, inr, ℤ, pos, ◌+ℤ◌, ◌-ℤ◌, ◌≤ℤ◌, unsigned_abs, Result, Ok, Err, IsTrue, nat_le, subst}
+use Rattle.std.proofs.Common.{◌≡◌, ℕ, zero, suc, ◌+◌, ◌-◌, ◌*◌, ◌/◌, ◌%◌, ◌<◌, ◌≤◌, ◌==◌, Bool, true, false, ◌&&◌, List, [], ◌∷◌, ◌++◌, length, slice_index, drop, drop-cons, length-drop, refl, sym, ap, ◌∙◌, arith, inl, inr, ℤ, pos, ◌+ℤ◌, ◌-ℤ◌, ◌≤ℤ◌, unsigned_abs, Result, Ok, Err, IsTrue, nat_lt, subst}
 use Rattle.std.specs.Char.{is_ascii_digit}
-use Rattle.std.proofs.lemmas.List.{nil_from_length}
-use Rattle.std.proofs.lemmas.Bool.{and_from, le-leb, cases_Bool, and_parts, eqb-true}
+use Rattle.std.proofs.lemmas.List.{nil_from_length, get_or_past}
+use Rattle.std.proofs.lemmas.List.Folds.{list_all_at}
+use Rattle.std.specs.Str.{IsAscii}
+use Rattle.std.proofs.lemmas.Bool.{true≢false, le-ltb, and_from, le-leb, cases_Bool, cases_lt, and_parts, eqb-true}
 use Rattle.jiff_core.proofs.SignedLemmas.{signed_arith}
 use Rattle.an_base.specs.declared.moment.DateTime.{DateTime}
 use Rattle.an_base.specs.Moment.{has_form, has_digits, form, number_at, date_time_in, date_time_text, date_time_after, is_date, is_time, seconds_before, epoch, IsMoment, moment_at, moment_of, moment_text}
 use Rattle.an_base.specs.declared.moment.MomentError.{MomentError}
 use Rattle.an_base.specs.declared.moment.MomentError.TheVariants.{Form, Range}
 use Rattle.an_base.proofs.MomentCalendar.{DateHolds, DateHolds-from, is_date-from, days_in_month-le, not_negative}
-use Rattle.an_base.proofs.MomentForm.{form_length, digits_at, sign_at}
+use Rattle.an_base.proofs.MomentForm.{form_length, digits_at, digit_below, sign_at}
 use Rattle.an_base.proofs.MomentParts.{TimeHolds, TimeHolds-from, is_time-from, same_parts, all_seconds, date_holds, time_holds, seconds_again, date_time_after-is, days_high}
 
 -- ## What is written
@@ -175,3 +177,32 @@ moment_written text m h =
     let found : date_time_after (unsigned_abs (m +ℤ pos epoch)) ≡ t = date_time_after-is t (unsigned_abs (m +ℤ pos epoch)) date time seconds in
     let P : ℤ → Type 0 = λ z. IsMoment z in
     (subst P read.value range, text_written text read.form ∙ ap date_time_text (sym found))
+
+-- a sign of the form is ASCII
+form_ascii : (k : ℕ) → k < 20 → slice_index form k < 128
+form_ascii k low = elim (cases_lt (slice_index form k) 128) [
+    | inl ascii ↦ ascii
+    | inr beyond ↦ absurd (true≢false (list_all_at (λ b. nat_lt b 128) form k 0 low (le-ltb (slice_index form k) 128 beyond)))
+  ]
+
+form_byte_ascii : (text : List ℕ) (k : ℕ) → has_form text ≡ true → k < 20 → slice_index text k < 128
+form_byte_ascii text k h low = elim (cases_Bool (slice_index form k == 48)) [
+    | inl digit ↦ omega (arith, digit_below text k h (eqb-true (slice_index form k) 48 digit))
+    | inr other ↦ omega (arith, sign_at text k h low other, form_ascii k low)
+  ]
+
+pub form_is_ascii : (text : List ℕ) → has_form text ≡ true → IsAscii text
+form_is_ascii text h = λ k. elim (cases_lt k 20) [
+    | inl low ↦ form_byte_ascii text k h low
+    | inr past ↦ omega (arith, get_or_past text k 0 (omega (arith, form_length text h)))
+  ]
+
+pub moment_text-length : (m : ℤ) → length (moment_text m) ≡ 20
+unfolding moment_text
+moment_text-length m = refl
+
+pub moment_text-ascii : (m : ℤ) → IsMoment m → IsAscii (moment_text m)
+unfolding moment_text
+moment_text-ascii m h =
+    let seconds = unsigned_abs (m +ℤ pos epoch) in
+    form_is_ascii (moment_text m) (text_has_form (date_time_after seconds) (date_holds seconds (seconds_small m h)) (time_holds seconds))

@@ -1,6 +1,7 @@
-ghost use Rattle.std.specs.Prelude.{◌≡◌, ◌↔◌, ◌+◌, ◌-◌, ◌<◌, ◌≤◌, ◌&&◌, if◌then◌else◌, length, slice_index, IsTrue, IfOk, IfSome, IsSome};
+ghost use Rattle.std.specs.Prelude.{◌≡◌, ◌↔◌, ◌+◌, ◌-◌, ◌<◌, ◌≤◌, ◌&&◌, if◌then◌else◌, length, slice_index, IsTrue, List, ℕ, ℤ, Ok, IfOk, IfSome, IsSome};
+ghost use Rattle.std.specs.Str.{IsAscii};
 ghost use Rattle.std.specs.Char.{is_ascii_digit};
-ghost use Rattle.an_base.specs.Moment.{has_form, has_digits, fits, number_at, date_time_in, is_date, is_time, days_before, moment_at, moment_of, date_time_text, date_time_after, moment_text};
+ghost use Rattle.an_base.specs.Moment.{has_form, has_digits, fits, number_at, date_time_in, is_date, is_time, days_before, moment_at, moment_of, date_time_text, date_time_after, moment_text, IsMoment};
 
 use crate::text::Text;
 use jiff_core::civil::Date;
@@ -48,6 +49,7 @@ impl Model for Moment {
 }
 
 impl Moment {
+    ghost use Rattle.std.specs.Int.{int_max};
     ghost use Rattle.an_base.specs.Moment.{IsMoment};
 
     /// The moment so many seconds after 1970-01-01T00:00:00Z, if it is one.
@@ -68,6 +70,37 @@ impl Moment {
     {
         self.seconds
     }
+
+    /// The later of two moments.
+    pub fn later(self, other: Moment) -> Moment
+        ensures { result ≡ int_max self other }
+    {
+        if other.seconds < self.seconds {
+            self
+        } else {
+            other
+        }
+    }
+}
+
+/// Each moment is read again from its text.
+pub fn moments_read_back()
+    ensures { (m : ℤ) → IsMoment m → moment_of (moment_text m) ≡ Ok m }
+{
+}
+
+/// What is read is a moment, and the text that it was read from is its only one.
+pub fn moment_texts_are_unique()
+    ensures moment { (text : List ℕ) (m : ℤ) → moment_of text ≡ Ok m → IsMoment m }
+    ensures unique { (text : List ℕ) (m : ℤ) → moment_of text ≡ Ok m → text ≡ moment_text m }
+{
+}
+
+/// The text of a moment is 20 bytes of ASCII.
+pub fn moment_texts_are_ascii()
+    ensures length { (m : ℤ) → length (moment_text m) ≡ 20 }
+    ensures ascii { (m : ℤ) → IsMoment m → IsAscii (moment_text m) }
+{
 }
 
 /// 0000-01-01T00:00:00Z.
