@@ -1,6 +1,6 @@
 -- A day number is that of one date, which is the one that `specs/Moment.antt` finds.
-use Rattle.std.proofs.Common.{◌≡◌, ℕ, zero, suc, ◌+◌, ◌-◌, ◌*◌, ◌/◌, ◌%◌, ◌<◌, ◌≤◌, Bool, true, false, nat_le, refl, sym, ◌∙◌, arith, inl, inr}
-use Rattle.std.proofs.lemmas.Bool.{cases_order, cases_Bool, cases_lt, le-leb, lt-leb, leb-true, leb-false, both_ways}
+use Rattle.std.proofs.Common.{◌≡◌, ℕ, zero, suc, ◌+◌, ◌-◌, ◌*◌, ◌/◌, ◌<◌, ◌≤◌, Bool, true, false, nat_le, refl, sym, ◌∙◌, arith, inl, inr}
+use Rattle.std.proofs.lemmas.Bool.{cases_order, cases_Bool, cases_lt, le-leb, lt-leb, leb-true, leb-false}
 use Rattle.an_base.specs.Moment.{days_in_month, days_before_year, days_of_months, greatest, year_of, months_before}
 use Rattle.an_base.proofs.MomentCalendar.{days_in_year, days_before_year-suc, days_of_months_all}
 

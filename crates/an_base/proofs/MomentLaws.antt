@@ -1,5 +1,5 @@
 -- Texts and moments stand for each other: what is written is read again, and nothing else is read.
-use Rattle.std.proofs.Common.{◌≡◌, ℕ, zero, suc, ◌+◌, ◌-◌, ◌*◌, ◌/◌, ◌%◌, ◌<◌, ◌≤◌, ◌==◌, Bool, true, false, ◌&&◌, List, [], ◌∷◌, ◌++◌, length, slice_index, drop, drop-cons, length-drop, refl, sym, ap, ◌∙◌, arith, inl, inr, ℤ, pos, ◌+ℤ◌, ◌-ℤ◌, ◌≤ℤ◌, unsigned_abs, Result, Ok, Err, IsTrue, nat_lt, subst}
+use Rattle.std.proofs.Common.{◌≡◌, ℕ, suc, ◌+◌, ◌*◌, ◌/◌, ◌%◌, ◌<◌, ◌==◌, true, ◌&&◌, List, [], ◌∷◌, length, slice_index, drop, drop-cons, length-drop, refl, sym, ap, ◌∙◌, arith, inl, inr, ℤ, pos, ◌+ℤ◌, ◌-ℤ◌, unsigned_abs, Ok, Err, IsTrue, nat_lt, subst}
 use Rattle.std.specs.Char.{is_ascii_digit}
 use Rattle.std.proofs.lemmas.List.{nil_from_length, get_or_past}
 use Rattle.std.proofs.lemmas.List.Folds.{list_all_at}
@@ -8,7 +8,6 @@ use Rattle.std.proofs.lemmas.Bool.{true≢false, le-ltb, and_from, le-leb, cases
 use Rattle.jiff_core.proofs.SignedLemmas.{signed_arith}
 use Rattle.an_base.specs.declared.moment.DateTime.{DateTime}
 use Rattle.an_base.specs.Moment.{has_form, has_digits, form, number_at, date_time_in, date_time_text, date_time_after, is_date, is_time, seconds_before, epoch, IsMoment, moment_at, moment_of, moment_text}
-use Rattle.an_base.specs.declared.moment.MomentError.{MomentError}
 use Rattle.an_base.specs.declared.moment.MomentError.TheVariants.{Form, Range}
 use Rattle.an_base.proofs.MomentCalendar.{DateHolds, DateHolds-from, is_date-from, days_in_month-le, not_negative}
 use Rattle.an_base.proofs.MomentForm.{form_length, digits_at, digit_below, sign_at}
@@ -147,22 +146,22 @@ record IsReadAs (text : List ℕ) (m : ℤ) : Type 0 where
 
 read_at : (t : DateTime) (m : ℤ) → moment_at t ≡ Ok m → ((is_date t && is_time t) ≡ true) × (pos (seconds_before t) -ℤ pos epoch ≡ m)
 read_at t m h = elim (cases_Bool (is_date t && is_time t)) [
-    | inl holds ↦
+  | inl holds ↦
       let same : Ok (pos (seconds_before t) -ℤ pos epoch) ≡ Ok m = rw holds at h in
       (holds, cc)
-    | inr fails ↦ let never : Err Range ≡ Ok m = rw fails at h in cc
-  ]
+  | inr fails ↦ let never : Err Range ≡ Ok m = rw fails at h in cc
+]
 
 read_as : (text : List ℕ) (m : ℤ) → moment_of text ≡ Ok m → IsReadAs text m
 unfolding moment_of
 read_as text m h = elim (cases_Bool (has_form text)) [
-    | inl holds ↦
+  | inl holds ↦
       let at : moment_at (date_time_in text) ≡ Ok m = rw holds at h in
       let read = read_at (date_time_in text) m at in
       let parts : (is_date (date_time_in text) ≡ true) × (is_time (date_time_in text) ≡ true) = and_parts (is_date (date_time_in text)) (is_time (date_time_in text)) read.0 in
       record { form = holds; date = parts.0; time = parts.1; value = read.1 }
-    | inr fails ↦ let never : Err Form ≡ Ok m = rw fails at h in cc
-  ]
+  | inr fails ↦ let never : Err Form ≡ Ok m = rw fails at h in cc
+]
 
 -- what is read is a moment, and its text is the one that was read
 pub moment_written : (text : List ℕ) (m : ℤ) → moment_of text ≡ Ok m → IsMoment m × (text ≡ moment_text m)
@@ -181,21 +180,21 @@ moment_written text m h =
 -- a sign of the form is ASCII
 form_ascii : (k : ℕ) → k < 20 → slice_index form k < 128
 form_ascii k low = elim (cases_lt (slice_index form k) 128) [
-    | inl ascii ↦ ascii
-    | inr beyond ↦ absurd (true≢false (list_all_at (λ b. nat_lt b 128) form k 0 low (le-ltb (slice_index form k) 128 beyond)))
-  ]
+  | inl ascii ↦ ascii
+  | inr beyond ↦ absurd (true≢false (list_all_at (λ b. nat_lt b 128) form k 0 low (le-ltb (slice_index form k) 128 beyond)))
+]
 
 form_byte_ascii : (text : List ℕ) (k : ℕ) → has_form text ≡ true → k < 20 → slice_index text k < 128
 form_byte_ascii text k h low = elim (cases_Bool (slice_index form k == 48)) [
-    | inl digit ↦ omega (arith, digit_below text k h (eqb-true (slice_index form k) 48 digit))
-    | inr other ↦ omega (arith, sign_at text k h low other, form_ascii k low)
-  ]
+  | inl digit ↦ omega (arith, digit_below text k h (eqb-true (slice_index form k) 48 digit))
+  | inr other ↦ omega (arith, sign_at text k h low other, form_ascii k low)
+]
 
 pub form_is_ascii : (text : List ℕ) → has_form text ≡ true → IsAscii text
 form_is_ascii text h = λ k. elim (cases_lt k 20) [
-    | inl low ↦ form_byte_ascii text k h low
-    | inr past ↦ omega (arith, get_or_past text k 0 (omega (arith, form_length text h)))
-  ]
+  | inl low ↦ form_byte_ascii text k h low
+  | inr past ↦ omega (arith, get_or_past text k 0 (omega (arith, form_length text h)))
+]
 
 pub moment_text-length : (m : ℤ) → length (moment_text m) ≡ 20
 unfolding moment_text

@@ -1,5 +1,5 @@
 -- The seconds of a date and time give it back, and each number of seconds is that of one.
-use Rattle.std.proofs.Common.{◌≡◌, ℕ, zero, suc, ◌+◌, ◌-◌, ◌*◌, ◌/◌, ◌%◌, ◌<◌, ◌≤◌, Bool, true, ◌&&◌, nat_lt, refl, sym, ap, ◌∙◌, arith, inl, inr, pos, ◌+ℤ◌}
+use Rattle.std.proofs.Common.{◌≡◌, ℕ, suc, ◌+◌, ◌-◌, ◌/◌, ◌%◌, ◌<◌, ◌≤◌, Bool, true, ◌&&◌, nat_lt, refl, ap, ◌∙◌, arith, inl, inr, pos, ◌+ℤ◌}
 use Rattle.jiff_core.specs.Calendar as civil
 use Rattle.std.proofs.lemmas.Bool.{and_parts, and_from, lt-ltb, ltb-true, cases_lt}
 use Rattle.an_base.specs.declared.moment.DateTime.{DateTime}

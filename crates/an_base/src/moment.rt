@@ -86,22 +86,19 @@ impl Moment {
 /// Each moment is read again from its text.
 pub fn moments_read_back()
     ensures { (m : ℤ) → IsMoment m → moment_of (moment_text m) ≡ Ok m }
-{
-}
+{}
 
 /// What is read is a moment, and the text that it was read from is its only one.
 pub fn moment_texts_are_unique()
     ensures moment { (text : List ℕ) (m : ℤ) → moment_of text ≡ Ok m → IsMoment m }
     ensures unique { (text : List ℕ) (m : ℤ) → moment_of text ≡ Ok m → text ≡ moment_text m }
-{
-}
+{}
 
 /// The text of a moment is 20 bytes of ASCII.
 pub fn moment_texts_are_ascii()
     ensures length { (m : ℤ) → length (moment_text m) ≡ 20 }
     ensures ascii { (m : ℤ) → IsMoment m → IsAscii (moment_text m) }
-{
-}
+{}
 
 /// 0000-01-01T00:00:00Z.
 const FIRST: i64 = -62_167_219_200;
@@ -266,3 +263,6 @@ fn date_time_text(alloc: Global, t: DateTime) -> Result<Text, AllocError>
     )?;
     Ok(Text::from_string(text))
 }
+
+#[cfg(test)]
+mod tests;

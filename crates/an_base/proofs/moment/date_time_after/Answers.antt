@@ -1,8 +1,7 @@
 -- The date has the day number of the seconds, so it is the one that the definition finds.
-use Rattle.std.proofs.Common.{◌≡◌, ◌<◌, ◌≤◌, ◌/◌, ◌%◌, ◌≤ℤ◌, ◌+ℤ◌, ℤ, pos, unsigned_abs, to_z, of_z, w16, sym, subst, refl, arith}
+use Rattle.std.proofs.Common.{◌≡◌, ◌≤◌, ◌/◌, ◌%◌, ◌≤ℤ◌, ℤ, pos, unsigned_abs, to_z, of_z, w16, sym, subst, refl, arith}
 use Rattle.jiff_core.specs.Calendar as civil
 use Rattle.jiff_core.proofs.SignedLemmas.{signed_casts}
-use Rattle.an_base.specs.Moment.{days_in_month, date_time_after}
 use Rattle.an_base.specs.declared.moment.DateTime.{DateTime}
 use Rattle.an_base.proofs.MomentCalendar.{DateHolds, year_from_zero, not_negative, year_bound}
 use Rattle.an_base.proofs.MomentParts.{TimeHolds, date_time_after-civil}

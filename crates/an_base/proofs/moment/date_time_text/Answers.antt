@@ -1,7 +1,6 @@
 -- Each number is written in its width, by what `format!` says of the six.
 use Rattle.std.proofs.Common.{◌≡◌, ◌<◌, ◌++◌, string_bytes, codes, arith}
 use Rattle.std.specs.Fmt.{styled_decimal}
-use Rattle.an_base.specs.declared.moment.DateTime.{DateTime}
 use Rattle.an_base.proofs.MomentCalendar.{DateHolds, DateHolds-from, days_in_month-le}
 use Rattle.an_base.proofs.MomentParts.{TimeHolds, TimeHolds-from}
 use Rattle.an_base.proofs.MomentTexts.{padded_two, padded_four}

@@ -1,10 +1,9 @@
 -- The date has the parts of `t`, so its day number is that of `t`.
-use Rattle.std.proofs.Common.{◌≡◌, ◌≤◌, ℕ, ◌+◌, ℤ, pos, subst, arith, ap, Some, true}
+use Rattle.std.proofs.Common.{◌≡◌, ◌≤◌, ◌+◌, ℤ, pos, subst, arith, ap, Some, true}
 use Rattle.jiff_core.proofs.SignedLemmas.{signed_casts}
 use Rattle.jiff_core.specs.Calendar as civil
 use Rattle.an_base.specs.Moment.{days_in_month, is_date, days_before}
-use Rattle.an_base.specs.declared.moment.DateTime.{DateTime}
-use Rattle.an_base.proofs.MomentCalendar.{days_since_min-days, DateHolds, is_date-from}
+use Rattle.an_base.proofs.MomentCalendar.{days_since_min-days, is_date-from}
 use Rattle.an_base.proofs.moment.days_before.Goals as goal
 
 same_year : (c : goal.After-days_since_min) → c.in-Ok.date.year ≡ pos c.args.t.year

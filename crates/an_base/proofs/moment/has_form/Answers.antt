@@ -1,6 +1,4 @@
 use Rattle.std.proofs.Common.{◌≡◌, ◌==◌, true, length, eq-eqb, rules, tests}
-use Rattle.std.specs.Iterator.Adapters.{zip_first, zip_second}
-use Rattle.std.specs.List.{zip, list_all}
 use Rattle.std.proofs.lemmas.Iterator.{YieldsList-from_slice, YieldsList-from_zip}
 use Rattle.std.proofs.lemmas.Iterator.Search.{all_from_yields_List}
 use Rattle.an_base.specs.Moment.{has_form, fits, form}
