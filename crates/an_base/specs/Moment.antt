@@ -16,11 +16,13 @@ days_in_month year month =
     if month == 2 then (if is_leap_year year then 29 else 28)
     else (if (month == 4) || (month == 6) || (month == 9) || (month == 11) then 30 else 31)
 
--- how many of the years from 0 to the one before this are leap years
+-- how many of the years from 0 to the one before this are leap years: each fourth, without each
+-- hundredth, with each four hundredth, from the year 0 on
 abbrev pub leap_years_before : ℕ → ℕ
 leap_years_before year = (year + 3) / 4 - (year + 99) / 100 + (year + 399) / 400
 
--- the days from 1 January of the year 0 to 1 January of this year
+-- the days from 1 January of the year 0 to 1 January of this year; each year's days bring the next,
+-- by `days_before_year-suc` of `proofs/MomentCalendar.antt`
 abbrev pub days_before_year : ℕ → ℕ
 days_before_year year = 365 * year + leap_years_before year
 
@@ -47,7 +49,7 @@ days_before t = days_before_year t.year + days_of_months t.year (t.month - 1) + 
 abbrev pub seconds_before : DateTime → ℕ
 seconds_before t = 86_400 * days_before t + 3_600 * t.hour + 60 * t.minute + t.second
 
--- the greatest number up to n that passes the test, or 0
+-- the greatest number up to n that passes the test, or 0; by `elim`, so that it computes no further
 abbrev pub greatest : (ℕ → Bool) → ℕ → ℕ
 greatest test zero = 0
 greatest test (suc n) = elim (test (suc n)) [ true ↦ suc n | false ↦ greatest test n ]
@@ -115,8 +117,12 @@ two_digits n = (48 + n / 10) ∷ (48 + n % 10) ∷ []
 abbrev pub date_time_text : DateTime → List ℕ
 date_time_text t =
     two_digits (t.year / 100) ++ (two_digits (t.year % 100)
-    ++ (45 ∷ two_digits t.month ++ (45 ∷ two_digits t.day
-    ++ (84 ∷ two_digits t.hour ++ (58 ∷ two_digits t.minute ++ (58 ∷ two_digits t.second ++ (90 ∷ [])))))))
+    ++ (codes "-" ++ (two_digits t.month
+    ++ (codes "-" ++ (two_digits t.day
+    ++ (codes "T" ++ (two_digits t.hour
+    ++ (codes ":" ++ (two_digits t.minute
+    ++ (codes ":" ++ (two_digits t.second
+    ++ codes "Z")))))))))))
 
 -- the seconds from 0000-01-01T00:00:00Z to 1970-01-01T00:00:00Z
 abbrev pub epoch : ℕ
