@@ -2,3 +2,10 @@ pub mod TreeLemmas
 pub mod TreeTexts
 pub mod TreeEquality
 mod TreeRows
+pub mod MomentCalendar
+pub mod MomentForm
+pub mod MomentDates
+pub mod MomentParts
+pub mod MomentTexts
+pub mod MomentLaws
+mod MomentRows
