@@ -28,5 +28,7 @@ mod moment;
 mod name;
 mod span;
 mod steps;
+#[cfg(test)]
+mod tests;
 mod text;
 mod tree;
