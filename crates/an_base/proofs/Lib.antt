@@ -2,3 +2,4 @@ pub mod TreeLemmas
 pub mod TreeTexts
 pub mod TreeEquality
 mod TreeRows
+pub mod DecimalLemmas

@@ -1,6 +1,7 @@
 pub mod Outcome
 pub mod Name
 pub mod Code
+pub mod Decimal
 pub mod Member
 pub mod Tree
 pub mod TreeCode

@@ -4,6 +4,7 @@
 pub use bytes::Bytes;
 pub use code::Code;
 pub use copy::TryCopy;
+pub use decimal::read_decimal;
 pub use list::List;
 pub use member::{member_count, text_in};
 pub use moment::Moment;
@@ -19,6 +20,7 @@ pub use tree::{
 mod bytes;
 mod code;
 mod copy;
+mod decimal;
 mod list;
 mod member;
 mod moment;
