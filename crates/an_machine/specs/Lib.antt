@@ -5,3 +5,4 @@ pub mod View
 pub mod Step
 pub mod Entries
 pub mod Book
+pub mod Live

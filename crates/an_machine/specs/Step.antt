@@ -1,8 +1,7 @@
 -- The small machine: which writes are accepted, and what they come to.
-use Rattle.std.specs.Prelude.{ℕ, ◌+◌, ℤ, List, [], ◌∷◌, Bool, true, false, ◌&&◌, ◌||◌, ◌==◌, not, bytes_eq, is_some, if◌then◌else◌, Option, Some, None, option_map, option_and_then, unwrap_or, Result, Ok, Err}
+use Rattle.std.specs.Prelude.{ℕ, ◌-◌, ℤ, int_lt, length, slice_get, List, [], ◌∷◌, Bool, true, false, ◌&&◌, ◌||◌, ◌==◌, not, bytes_eq, is_some, if◌then◌else◌, Option, Some, None, option_map, option_and_then, option_to_list, unwrap_or, Result, Ok, Err}
 use Rattle.std.specs.List.{list_any}
 use Rattle.std.specs.Result.{result_ok}
-use Rattle.std.specs.Int.{int_max}
 use Rattle.serde_json.specs.Data.{Data}
 use Rattle.an_base.specs.Outcome.{when, first_of, unless}
 use Rattle.an_base.specs.declared.code.Code.{Code}
@@ -17,7 +16,7 @@ use Rattle.an_policy.specs.declared.reader.Role.{Role}
 use Rattle.an_policy.specs.declared.reader.Role.TheVariants as role
 use Rattle.an_policy.specs.declared.who.Caller.{Caller}
 use Rattle.an_policy.specs.Audience.{Identity, anonymous, operator, signed, is_among, is_named, groups_of}
-use Rattle.an_policy.specs.Reader.{reader_of, token_in}
+use Rattle.an_policy.specs.Reader.{reader_of}
 use Rattle.an_machine.specs.State.{State, KeptReader, KeptManifest, KeptNote, reader_row, manifest_row, note_row, live_readers, who_of}
 use Rattle.an_base.specs.Outcome.{passes}
 use Rattle.an_machine.specs.Plain.{is_plain_manifest, is_plain_note}
@@ -60,20 +59,25 @@ only_reads (signed reader) = elim reader.role [ role.Reader ↦ true | role.Writ
 
 -- ---- what is refused, in the order of the refusals
 
-abbrev pub reader_code : ReaderError → Code
-reader_code error.Token = code.ReaderToken
-reader_code error.Role = code.ReaderRole
-reader_code error.User = code.ReaderUser
-reader_code error.Groups = code.ReaderGroups
-reader_code error.Memory = code.ReaderGroups
+-- the code of a tree that describes no reader; want of memory has none
+abbrev pub reader_code : ReaderError → Option Code
+reader_code error.Token = Some code.ReaderToken
+reader_code error.Role = Some code.ReaderRole
+reader_code error.User = Some code.ReaderUser
+reader_code error.Groups = Some code.ReaderGroups
+reader_code error.Memory = None
 
 abbrev pub reader_shape : Result Reader ReaderError → Option Refused
 reader_shape (Ok reader) = None
-reader_shape (Err e) = Some (Shape (reader_code e))
+reader_shape (Err e) = option_map Shape (reader_code e)
+
+-- the reader has another name and this token
+abbrev pub is_taken_from : List ℕ → List ℕ → Reader → Bool
+is_taken_from name token reader = bytes_eq reader.token token && not (bytes_eq reader.name name)
 
 -- another live reader has the token
 abbrev pub is_token_taken : State → List ℕ → List ℕ → Bool
-is_token_taken s name token = list_any (λ reader. bytes_eq reader.token token && not (bytes_eq reader.name name)) (live_readers s)
+is_token_taken s name token = list_any (is_taken_from name token) (live_readers s)
 
 -- So far a put makes what isn't there yet: its number is 1, and the object has no row.
 abbrev pub version_refusal : Option ℕ → ℕ → Option Refused
@@ -83,7 +87,7 @@ abbrev pub reader_refusals : State → Identity → List ℕ → ℕ → Data �
 reader_refusals s who name version tree =
     when (not (may_manage who)) NotWriter
     ∷ reader_shape (reader_of tree name version)
-    ∷ when (passes (is_token_taken s name) (token_in tree)) TokenTaken
+    ∷ when (passes (λ reader. is_token_taken s name reader.token) (result_ok (reader_of tree name version))) TokenTaken
     ∷ version_refusal (option_map (λ row. row.version) (reader_row s name)) version
     ∷ []
 
@@ -135,14 +139,16 @@ refusals s who (PutNote owner name version manifest group tree) = note_refusals 
 
 -- ---- what is accepted
 
+abbrev pub later : ℤ → ℤ → ℤ
+later a b = if int_lt a b then b else a
+
 -- the moment of the last activity, or this one where there is none
 abbrev pub last_moment : ℤ → List Activity → ℤ
-last_moment moment [] = moment
-last_moment moment (activity ∷ activities) = last_moment activity.at activities
+last_moment moment activities = unwrap_or (option_map (λ activity. activity.at) (slice_get activities (length activities - 1))) moment
 
 -- a write has the given moment, but is no earlier than the last activity
 abbrev pub moment_of_write : State → ℤ → ℤ
-moment_of_write s moment = int_max moment (last_moment moment s.activities)
+moment_of_write s moment = later moment (last_moment moment s.activities)
 
 -- the name of who writes; the operator has none
 abbrev pub by_whom : Identity → Option (List ℕ)
@@ -167,21 +173,21 @@ version_of (PutManifest name version group tree) = version
 version_of (PutNote owner name version manifest group tree) = version
 
 -- the row of an object that wasn't there
-abbrev pub new_row : Identity → ℤ → Command → List Row
-new_row who at (PutReader name version tree) = kept.Reader (record { name = name; version = version; live = result_ok (reader_of tree name version) }) ∷ []
-new_row who at (PutManifest name version group tree) = kept.Manifest (record { name = name; version = version; group = group; live = Some (record { created = at; modified = None; tree = tree }) }) ∷ []
-new_row who at (PutNote owner name version manifest group tree) = kept.Note (record { owner = owner; name = name; version = version; live = Some (record { manifest = manifest; group = group; creator = user_of who; created = at; modified = None; tree = tree }) }) ∷ []
+abbrev pub new_row : Identity → ℤ → Command → Row
+new_row who at (PutReader name version tree) = kept.Reader (record { name = name; version = version; live = result_ok (reader_of tree name version) })
+new_row who at (PutManifest name version group tree) = kept.Manifest (record { name = name; version = version; group = group; live = Some (record { created = at; modified = None; tree = tree }) })
+new_row who at (PutNote owner name version manifest group tree) = kept.Note (record { owner = owner; name = name; version = version; live = Some (record { manifest = manifest; group = group; creator = user_of who; created = at; modified = None; tree = tree }) })
 
 -- what the stream of changes gets: readers make no activity
-abbrev pub new_activities : State → Identity → ℤ → Command → List Activity
-new_activities s who at (PutReader name version tree) = []
-new_activities s who at (PutManifest name version group tree) = record { at = at; by = by_whom who; owner = None; name = name; before = None; after = Some (record { outer = group; inner = Public; owner = None }) } ∷ []
-new_activities s who at (PutNote owner name version manifest group tree) = record { at = at; by = by_whom who; owner = Some owner; name = name; before = None; after = option_map (λ m. record { outer = m.group; inner = group; owner = Some owner }) (manifest_row s manifest) } ∷ []
+abbrev pub new_activity : State → Identity → ℤ → Command → Option Activity
+new_activity s who at (PutReader name version tree) = None
+new_activity s who at (PutManifest name version group tree) = Some (record { at = at; by = by_whom who; owner = None; name = name; before = None; after = Some (record { outer = group; inner = Public; owner = None }) })
+new_activity s who at (PutNote owner name version manifest group tree) = Some (record { at = at; by = by_whom who; owner = Some owner; name = name; before = None; after = option_map (λ m. record { outer = m.group; inner = group; owner = Some owner }) (manifest_row s manifest) })
 
 abbrev pub entry_of : State → Identity → ℤ → Command → Entry
 entry_of s who moment command =
     let at = moment_of_write s moment in
-    Done command at (by_whom who) (new_row who at command) (new_activities s who at command)
+    Done command at (by_whom who) (new_row who at command ∷ []) (option_to_list (new_activity s who at command))
 
 abbrev pub accepted : State → Identity → ℤ → Command → Decided
 accepted s who moment command = record { entry = Some (entry_of s who moment command); reply = record { object = object_of command; version = version_of command; made = true; repeat = false } }

@@ -6,11 +6,13 @@ pub use book::Book;
 pub use command::{Command, Decided, Object, Refused, WriteReply};
 pub use entry::{Entry, Row};
 pub use look::Look;
-pub use row::{ManifestRow, NoteRow, ReaderRow};
+pub use row::{LiveNote, ManifestRow, NoteRow, ReaderRow};
 
 mod activity;
 mod book;
 mod command;
 mod entry;
 mod look;
+mod plain;
+mod refusal;
 mod row;

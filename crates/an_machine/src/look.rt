@@ -1,12 +1,16 @@
-ghost use Rattle.std.specs.Prelude.{◌≡◌, ◌+◌, IfOk, option_map, slice_get};
+ghost use Rattle.std.specs.Prelude.{◌≡◌, ◌+◌, IfOk, bytes_eq, find, option_and_then, option_map, slice_get};
+ghost use Rattle.std.specs.List.{filter_map};
+ghost use Rattle.an_base.specs.Outcome.{passes};
 ghost use Rattle.std.specs.Option.{option_copied};
-ghost use Rattle.an_policy.specs.Audience.{identity};
-ghost use Rattle.an_machine.specs.State.{who_of, manifest_row, note_row};
-ghost use Rattle.an_machine.specs.View.{readable_places};
+ghost use Rattle.an_policy.specs.Audience.{identity, signed};
+ghost use Rattle.an_machine.specs.State.{who_of, reader_row, manifest_row, note_row};
+ghost use Rattle.an_machine.specs.View.{readable_places, is_on, shows_note};
 
-use crate::row::{ManifestRow, NoteRow};
+use crate::book::Book;
+use crate::row::{ManifestRow, NoteRow, ReaderRow};
 use an_base::{Name, Steps};
-use an_policy::{Caller, Who};
+use an_keyed::Keyed;
+use an_policy::{Caller, Reader, Who, may_read};
 use std::alloc::{AllocError, Global};
 use std::sync::ledger::Ledger;
 
@@ -41,4 +45,122 @@ pub trait Look {
         manifest: &Name,
     ) -> Result<Vec<usize>, AllocError>
         ensures places { IfOk result (λ places. places.items ≡ readable_places (state self.now) (identity who.now) manifest.now) };
+}
+
+impl Look for Book {
+    ghost state = { λ b. b.state };
+
+    fn who(&self, caller: &Caller) -> Option<Who<'_>> {
+        match caller {
+            Caller::Anonymous => Some(Who::Anonymous),
+            Caller::Operator => Some(Who::Operator),
+            Caller::Token(token) => lent(with_token(self.readers(), token.as_str())),
+            Caller::Named(name) => lent(live_reader(self, name)),
+        }
+    }
+
+    fn manifest(&self, name: &Name) -> Option<&ManifestRow> {
+        self.manifest_row(name)
+    }
+
+    fn note(&self, owner: &Name, name: &Name) -> Option<&NoteRow> {
+        self.note_row(owner, name)
+    }
+
+    fn note_at<L: Ledger>(&self, place: usize, steps: &mut Steps<L>) -> Option<&NoteRow> {
+        steps.tick();
+        self.notes().get(place)
+    }
+
+    fn readable(
+        &self,
+        alloc: Global,
+        who: &Who<'_>,
+        manifest: &Name,
+    ) -> Result<Vec<usize>, AllocError> {
+        readable_in(alloc, self, who, manifest)
+    }
+}
+
+fn lent(reader: Option<&Reader>) -> Option<Who<'_>>
+    ensures { option_map identity result ≡ option_map signed (option_copied reader.entry) }
+{
+    match reader {
+        Some(reader) => Some(Who::Signed(reader)),
+        None => None,
+    }
+}
+
+/// The live reader with this token.
+fn with_token<'a>(rows: &'a [ReaderRow], token: &str) -> Option<&'a Reader>
+    ensures { option_copied result
+        ≡ find (λ reader. bytes_eq reader.token token.now) (filter_map (λ row. row.live) rows.now) }
+{
+    for row in rows {
+        if has_token(row, token) {
+            return row.reader();
+        }
+    }
+    None
+}
+
+fn has_token(row: &ReaderRow, token: &str) -> bool
+    ensures { result ≡ passes (λ reader. bytes_eq reader.token token.now) row.now.live }
+{
+    match row.reader() {
+        Some(reader) => reader.token.as_str() == token,
+        None => false,
+    }
+}
+
+/// The live reader with this name.
+fn live_reader<'a>(book: &'a Book, name: &Name) -> Option<&'a Reader>
+    ensures { option_copied result ≡ option_and_then (λ row. row.live) (reader_row book.now.state name.now) }
+{
+    match book.reader_row(name) {
+        Some(row) => row.reader(),
+        None => None,
+    }
+}
+
+fn readable_in(
+    alloc: Global,
+    book: &Book,
+    who: &Who<'_>,
+    manifest: &Name,
+) -> Result<Vec<usize>, AllocError>
+    ensures { IfOk result (λ places. places.items ≡ readable_places book.now.state (identity who.now) manifest.now) }
+{
+    let mut places = Vec::new(alloc);
+    let mut place = 0;
+    for row in book.notes() {
+        if is_on(row, manifest) && shows_note(book, who, row) {
+            places.push(place)?;
+        }
+        place += 1;
+    }
+    Ok(places)
+}
+
+/// Whether the annotation is live, and on this manifest.
+fn is_on(row: &NoteRow, manifest: &Name) -> bool
+    ensures { result ≡ is_on manifest.now row.now }
+{
+    match row.live() {
+        Some(live) => live.manifest == manifest,
+        None => false,
+    }
+}
+
+/// Whether the annotation is live, and the caller may read it.
+fn shows_note(book: &Book, who: &Who<'_>, row: &NoteRow) -> bool
+    ensures { result ≡ shows_note book.now.state (identity who.now) row.now }
+{
+    match row.live() {
+        Some(live) => match book.manifest_row(live.manifest) {
+            Some(manifest) => may_read(who, manifest.group(), live.group, row.owner()),
+            None => false,
+        },
+        None => false,
+    }
 }

@@ -1,4 +1,4 @@
-ghost use Rattle.std.specs.Prelude.{◌≡◌};
+ghost use Rattle.std.specs.Prelude.{◌≡◌, is_some, option_map};
 ghost use Rattle.std.specs.Option.{option_copied};
 
 use an_base::{Moment, Name, Text, Tree, TryCopy};
@@ -53,6 +53,13 @@ impl TryCopy for ReaderRow {
 }
 
 impl ReaderRow {
+    /// The number of the last write.
+    pub fn version(&self) -> u32
+        ensures version { result ≡ self.now.version }
+    {
+        self.version
+    }
+
     /// The live reader.
     pub fn reader(&self) -> Option<&Reader>
         ensures live { option_copied result ≡ self.now.live }
@@ -118,6 +125,29 @@ impl TryCopy for ManifestRow {
     }
 }
 
+impl ManifestRow {
+    /// The number of the last write.
+    pub fn version(&self) -> u32
+        ensures version { result ≡ self.now.version }
+    {
+        self.version
+    }
+
+    /// Whom the manifest is shown to, or was until it was deleted.
+    pub fn group(&self) -> &Group
+        ensures group { result.now ≡ self.now.group }
+    {
+        &self.group
+    }
+
+    /// Whether the manifest is there.
+    pub fn is_live(&self) -> bool
+        ensures live { result ≡ is_some self.now.live }
+    {
+        self.live
+    }
+}
+
 /// What is kept of an annotation. A tombstone keeps its owner, name and version; a live row has all
 /// the rest too, but `modified` only where it was changed.
 #[derive(Debug, Drop)]
@@ -177,6 +207,48 @@ impl TryCopy for NoteRow {
             created: self.created,
             modified: self.modified,
             tree: self.tree.copy()?,
+        })
+    }
+}
+
+/// What is kept of a live annotation.
+#[derive(Clone, Copy)]
+pub struct LiveNote<'a> {
+    pub manifest: &'a Name,
+    pub group: &'a Group,
+    /// The IRI of who wrote it.
+    pub creator: &'a Text,
+    pub created: Moment,
+    pub modified: Option<Moment>,
+    pub tree: &'a Tree,
+}
+
+impl NoteRow {
+    ghost use Rattle.an_machine.specs.Live.{lent_note};
+
+    /// The number of the last write.
+    pub fn version(&self) -> u32
+        ensures version { result ≡ self.now.version }
+    {
+        self.version
+    }
+
+    /// What is kept of the annotation while it is live.
+    pub fn live(&self) -> Option<LiveNote<'_>>
+        ensures live { option_map lent_note result ≡ self.now.live }
+    {
+        let manifest = self.manifest.as_ref()?;
+        let group = self.group.as_ref()?;
+        let creator = self.creator.as_ref()?;
+        let created = self.created?;
+        let tree = self.tree.as_ref()?;
+        Some(LiveNote {
+            manifest,
+            group,
+            creator,
+            created,
+            modified: self.modified,
+            tree,
         })
     }
 }

@@ -72,6 +72,8 @@ pub fn read_reader(
     version: u32,
 ) -> Result<Reader, ReaderError>
     ensures reader { Gives (λ r. r) ReaderError.Memory result (reader_of (view tree.now) name version) }
+    ensures named { IfOk result (λ r. r.name ≡ name) }
+    ensures numbered { IfOk result (λ r. r.version ≡ version) }
 {
     let token = token_in(tree).ok_or(ReaderError::Token)?;
     let role = role_in(tree).ok_or(ReaderError::Role)?;

@@ -8,5 +8,5 @@ invariant-loop-activity l =
     (goal.iterator-loop-activity).can_next l.activity-iterator ×
     (goal.iterator-loop-activity).is_finite l.activity-iterator ×
     (record l.self.state { activities = l.self.state.activities ++ into_iter_items l.activity-iterator }
-        ≡ record l.fn.self.state { activities = l.fn.self.state.activities ++ l.fn.activities.items }) ×
+    ≡ record l.fn.self.state { activities = l.fn.self.state.activities ++ l.fn.activities.items }) ×
     (length (into_iter_items l.activity-iterator) ≤ l.self.room)

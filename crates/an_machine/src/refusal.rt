@@ -1,0 +1,268 @@
+ghost use Rattle.std.specs.Prelude.{◌≡◌, [], ◌∷◌, IfOk, not, option_map};
+ghost use Rattle.std.specs.List.{list_any, filter_map};
+ghost use Rattle.serde_json.specs.View.{view};
+ghost use Rattle.an_base.specs.Outcome.{first_of, passes, when};
+ghost use Rattle.an_policy.specs.Audience.{identity};
+ghost use Rattle.an_machine.specs.State.{manifest_row, note_row, reader_row};
+ghost use Rattle.an_machine.specs.Step.{may_manage, only_reads, is_token_taken, is_taken_from, reader_code, version_refusal, reader_refusals, manifest_refusals, note_refusals, refusals, is_private, same_group, is_outside};
+ghost use Rattle.an_machine.specs.View.{shows_manifest};
+
+use crate::book::Book;
+use crate::command::{Command, Refused};
+use crate::plain;
+use crate::row::{ManifestRow, ReaderRow};
+use an_base::{Code, Name, Text, Tree, TryCopy};
+use an_policy::{
+    Group, Reader, ReaderError, Role, Who, is_member, is_named, may_read, read_reader,
+};
+use std::alloc::{AllocError, Global};
+
+/// The first refusal of a command by this caller.
+pub(crate) fn refusal_of(
+    alloc: Global,
+    book: &Book,
+    who: &Who<'_>,
+    command: &Command,
+) -> Result<Option<Refused>, AllocError>
+    ensures { IfOk result (λ r. r ≡ first_of (refusals book.now.state (identity who.now) command.now)) }
+{
+    match command {
+        Command::PutReader {
+            name,
+            version,
+            tree,
+        } => reader_refusal(alloc, book, who, name, *version, tree),
+        Command::PutManifest {
+            name,
+            version,
+            group,
+            tree,
+        } => Ok(manifest_refusal(book, who, name, *version, group, tree)),
+        Command::PutNote {
+            owner,
+            name,
+            version,
+            manifest,
+            group,
+            tree,
+        } => Ok(note_refusal(book, who, owner, name, *version, manifest, group, tree)),
+    }
+}
+
+fn reader_refusal(
+    alloc: Global,
+    book: &Book,
+    who: &Who<'_>,
+    name: &Name,
+    version: u32,
+    tree: &Tree,
+) -> Result<Option<Refused>, AllocError>
+    ensures { IfOk result
+        (λ r. r ≡ first_of (reader_refusals book.now.state (identity who.now) name.now version tree.now)) }
+{
+    if !may_manage(who) {
+        return Ok(Some(Refused::NotWriter));
+    }
+    match read_reader(alloc, tree.as_value(), name.copy()?, version) {
+        Ok(reader) => Ok(reader_conflict(book, name, version, &reader.token)),
+        Err(error) => match reader_code(error) {
+            Some(code) => Ok(Some(Refused::Shape(code))),
+            None => Err(AllocError),
+        },
+    }
+}
+
+fn reader_code(error: ReaderError) -> Option<Code>
+    ensures { result ≡ reader_code error }
+{
+    match error {
+        ReaderError::Token => Some(Code::ReaderToken),
+        ReaderError::Role => Some(Code::ReaderRole),
+        ReaderError::User => Some(Code::ReaderUser),
+        ReaderError::Groups => Some(Code::ReaderGroups),
+        ReaderError::Memory => None,
+    }
+}
+
+fn reader_conflict(book: &Book, name: &Name, version: u32, token: &Text) -> Option<Refused>
+    ensures { result ≡ first_of (when (is_token_taken book.now.state name.now token.now) Refused.TokenTaken
+        ∷ version_refusal (option_map (λ row. row.version) (reader_row book.now.state name.now)) version ∷ []) }
+{
+    if is_token_taken(book.readers(), name, token) {
+        return Some(Refused::TokenTaken);
+    }
+    match book.reader_row(name) {
+        Some(row) => version_refusal(Some(row.version()), version),
+        None => version_refusal(None, version),
+    }
+}
+
+/// Whether a live reader of another name has the token.
+fn is_token_taken(rows: &[ReaderRow], name: &Name, token: &Text) -> bool
+    ensures { result ≡ list_any (is_taken_from name.now token.now) (filter_map (λ row. row.live) rows.now) }
+{
+    for row in rows {
+        if takes_token(row, name, token) {
+            return true;
+        }
+    }
+    false
+}
+
+fn takes_token(row: &ReaderRow, name: &Name, token: &Text) -> bool
+    ensures { result ≡ passes (is_taken_from name.now token.now) row.now.live }
+{
+    match row.reader() {
+        Some(reader) => reader.token == *token && reader.name != *name,
+        None => false,
+    }
+}
+
+fn version_refusal(current: Option<u32>, version: u32) -> Option<Refused>
+    ensures { result ≡ version_refusal current version }
+{
+    match current {
+        Some(current) => Some(Refused::Version { current }),
+        None => if version == 1 {
+            None
+        } else {
+            Some(Refused::Version { current: 0 })
+        },
+    }
+}
+
+fn manifest_refusal(
+    book: &Book,
+    who: &Who<'_>,
+    name: &Name,
+    version: u32,
+    group: &Group,
+    tree: &Tree,
+) -> Option<Refused>
+    ensures { result
+        ≡ first_of (manifest_refusals book.now.state (identity who.now) name.now version group.now tree.now) }
+{
+    if !may_manage(who) {
+        return Some(Refused::NotWriter);
+    }
+    if is_private(group) {
+        return Some(Refused::Shape(Code::Group));
+    }
+    if !plain::is_plain_manifest(tree.as_value()) {
+        return Some(Refused::Shape(Code::Unbuilt));
+    }
+    match book.manifest_row(name) {
+        Some(row) => if is_same_group(row.group(), group) {
+            version_refusal(Some(row.version()), version)
+        } else {
+            Some(Refused::GroupFixed)
+        },
+        None => version_refusal(None, version),
+    }
+}
+
+fn note_refusal(
+    book: &Book,
+    who: &Who<'_>,
+    owner: &Name,
+    name: &Name,
+    version: u32,
+    manifest: &Name,
+    group: &Group,
+    tree: &Tree,
+) -> Option<Refused>
+    ensures { result ≡ first_of (note_refusals book.now.state (identity who.now) owner.now name.now version
+        manifest.now group.now tree.now) }
+{
+    if only_reads(who) {
+        return Some(Refused::NotWriter);
+    }
+    if !is_named(who, owner) {
+        return Some(Refused::NotOwn);
+    }
+    if !shows_manifest(book, who, manifest) {
+        return Some(Refused::NoManifest);
+    }
+    if is_outside(who, group) {
+        return Some(Refused::NotMember);
+    }
+    if !plain::is_plain_note(tree.as_value()) {
+        return Some(Refused::Shape(Code::Unbuilt));
+    }
+    match book.note_row(owner, name) {
+        Some(row) => version_refusal(Some(row.version()), version),
+        None => version_refusal(None, version),
+    }
+}
+
+/// Whether the caller may write readers and manifests.
+fn may_manage(who: &Who<'_>) -> bool
+    ensures { result ≡ may_manage (identity who.now) }
+{
+    match who {
+        Who::Anonymous => false,
+        Who::Operator => true,
+        Who::Signed(reader) => matches!(reader.role, Role::Curator),
+    }
+}
+
+/// Whether the caller is a reader who writes nothing.
+fn only_reads(who: &Who<'_>) -> bool
+    ensures { result ≡ only_reads (identity who.now) }
+{
+    match who {
+        Who::Anonymous => false,
+        Who::Operator => false,
+        Who::Signed(reader) => matches!(reader.role, Role::Reader),
+    }
+}
+
+fn is_private(group: &Group) -> bool
+    ensures { result ≡ is_private group.now }
+{
+    matches!(group, Group::Private)
+}
+
+fn is_same_group(one: &Group, other: &Group) -> bool
+    ensures { result ≡ same_group one.now other.now }
+{
+    match one {
+        Group::Public => matches!(other, Group::Public),
+        Group::Private => matches!(other, Group::Private),
+        Group::Named(name) => match other {
+            Group::Public => false,
+            Group::Private => false,
+            Group::Named(other) => name == other,
+        },
+    }
+}
+
+/// Whether it is a named group that the caller is no member of.
+fn is_outside(who: &Who<'_>, group: &Group) -> bool
+    ensures { result ≡ is_outside (identity who.now) group.now }
+{
+    match group {
+        Group::Public => false,
+        Group::Private => false,
+        Group::Named(name) => !is_member(who, name),
+    }
+}
+
+/// Whether there is a live manifest of this name that the caller may read.
+fn shows_manifest(book: &Book, who: &Who<'_>, name: &Name) -> bool
+    ensures { result
+        ≡ passes (shows_manifest (identity who.now)) (manifest_row book.now.state name.now) }
+{
+    match book.manifest_row(name) {
+        Some(row) => is_shown(who, row),
+        None => false,
+    }
+}
+
+/// Whether the manifest is live, and the caller may read it.
+fn is_shown(who: &Who<'_>, row: &ManifestRow) -> bool
+    ensures { result ≡ shows_manifest (identity who.now) row.now }
+{
+    let everybody = Group::Public;
+    row.is_live() && may_read(who, row.group(), &everybody, None)
+}
