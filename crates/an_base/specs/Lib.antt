@@ -7,3 +7,4 @@ pub mod Tree
 pub mod TreeCode
 pub mod Moment
 pub mod TreeSame
+pub mod Object

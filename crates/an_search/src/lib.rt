@@ -3,4 +3,5 @@
 
 pub use settings::{Settings, SettingsError, read_settings};
 
+mod page;
 mod settings;
