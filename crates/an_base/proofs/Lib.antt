@@ -3,3 +3,10 @@ pub mod TreeTexts
 pub mod TreeEquality
 mod TreeRows
 pub mod DecimalLemmas
+pub mod MomentCalendar
+pub mod MomentForm
+pub mod MomentDates
+pub mod MomentParts
+pub mod MomentTexts
+pub mod MomentLaws
+mod MomentRows

@@ -14,6 +14,9 @@ use std::alloc::{AllocError, Global};
 use std::marker::Model;
 use std::slice;
 
+#[cfg(test)]
+mod tests;
+
 /// How many arrays and objects may stand inside each other in a tree.
 const MAX_TREE_DEPTH: usize = 100;
 
@@ -97,9 +100,12 @@ impl Tree {
         Tree { value }
     }
 
+    /// What `tree_text` asks of a value holds of it.
+    #[tactic(auto, using(crate::proofs::TreeTexts::no_float_in_tree))]
     pub fn as_value(&self) -> &Value
         ensures value { view result.now ≡ self.now }
         ensures tree { IsTrue (is_tree self.now) }
+        ensures whole { has_float self.now ≡ false }
     {
         &self.value
     }

@@ -8,9 +8,11 @@ pub use entry::{Entry, Row};
 pub use look::Look;
 pub use row::{LiveNote, ManifestRow, NoteRow, ReaderRow};
 
+mod accept;
 mod activity;
 mod book;
 mod command;
+mod decide;
 mod entry;
 mod look;
 mod plain;

@@ -7,7 +7,7 @@ use Rattle.unicode_segmentation.specs.Segments.{has_alphanumeric}
 use Rattle.unicode_segmentation.specs.Word.{word_bounds}
 use Rattle.an_terms.specs.declared.occurrence.Occurrence.{Occurrence}
 
--- the term of a word: decomposed, with full case folding, and composed again
+-- the term of a word: decomposed, case folded in full, and composed again
 unfoldable pub term_of : List ℕ → List ℕ
 term_of word = encode_utf8_all (nfc (default_case_fold (nfd (chars word))))
 
@@ -16,16 +16,16 @@ unfoldable pub placed : ℕ → List (List ℕ) → List (ℕ × List ℕ)
 placed start [] = []
 placed start (piece ∷ pieces) = (start, piece) ∷ placed (start + length (chars piece)) pieces
 
--- the occurrence that a piece is which begins at a code point
+-- a piece as an occurrence, from the code point at which it begins to the one behind it
 abbrev pub occurrence_of : ℕ × List ℕ → Occurrence
 occurrence_of (start, piece) =
     record { term = term_of piece; span = record { start = start; end = start + length (chars piece) } }
 
--- the words of a text: its pieces between word boundaries that have an alphanumeric character
+-- the words of a text in order: its pieces between word boundaries that have an alphanumeric character
 unfoldable pub occurrences_of : List ℕ → List Occurrence
 occurrences_of text = map occurrence_of (filter (λ p. has_alphanumeric p.1) (placed 0 (word_bounds text)))
 
--- the terms of a text
+-- the terms of a text, each as often as it occurs
 unfoldable pub terms_of : List ℕ → List (List ℕ)
 terms_of text = map (λ o. o.term) (occurrences_of text)
 
@@ -36,6 +36,6 @@ pub record IsWordOf (text : List ℕ) (o : Occurrence) : Type 0 where
   pub within : o.span.end ≤ length (chars text)
   pub term : o.term ≡ term_of (encode_utf8_all (slice_range (chars text) o.span.start o.span.end))
 
--- the one ends before the other begins, or where it begins
+-- the one ends where the other begins, or earlier
 abbrev pub StandsBefore : Occurrence → Occurrence → Type 0
 StandsBefore earlier later = earlier.span.end ≤ later.span.start

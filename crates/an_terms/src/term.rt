@@ -9,7 +9,7 @@ use unicode_normalization::{to_nfc, to_nfd};
 
 /// The term of a word: its canonical decomposition with full case folding, composed again, so that
 /// words that differ in case or by canonical equivalence have one term (The Unicode Standard,
-/// section 3.13; UAX #15).
+/// section 3.13; UAX #15). The only error is want of memory.
 pub fn term_of(alloc: Global, word: &str) -> Result<Text, AllocError>
     ensures term { IfOk result (λ t. t ≡ term_of word.now) }
     ensures ascii { IfOk result (λ t. IsAscii word.now → t ≡ str_to_ascii_lowercase word.now) }
@@ -21,6 +21,7 @@ pub fn term_of(alloc: Global, word: &str) -> Result<Text, AllocError>
     folded(alloc, word)
 }
 
+/// The term by its three steps.
 fn folded(alloc: Global, word: &str) -> Result<Text, AllocError>
     ensures { IfOk result (λ t. t ≡ term_of word.now) }
 {

@@ -9,7 +9,8 @@ use std::alloc::{AllocError, Global};
 use unicode_segmentation::UnicodeSegmentation;
 
 /// The words of a text in order, which are its segments between the word boundaries of UAX #29
-/// that have an alphanumeric character: the term of each, and its span in code points.
+/// that have an alphanumeric character: the term of each, and its span in code points. The only
+/// error is want of memory.
 pub fn occurrences(alloc: Global, text: &str) -> Result<Vec<Occurrence>, AllocError>
     ensures value { IfOk result (λ v. v.items ≡ occurrences_of text.now) }
     ensures words { IfOk result (λ v. All (IsWordOf text.now) v.items) }

@@ -3,7 +3,7 @@ use Rattle.std.proofs.Common.{◌≡◌, ℕ, ◌+◌, List, [], ◌∷◌, take
 use Rattle.std.specs.List.{list_all}
 use Rattle.std.proofs.Math.Seq.{take-add}
 use Rattle.std.proofs.lemmas.List.{drop-drop}
-use Rattle.an_world.specs.Input.{Pieces, cut_behind, pieces_behind}
+use Rattle.an_world.specs.Input.{cut_behind, pieces_behind}
 
 -- an element is kept where it passes the test, so what is kept passes it
 list_all-kept : (test : ℕ → Bool) (x : ℕ) (xs : List ℕ) (passes : Bool) → test x ≡ passes → list_all test xs ≡ true → list_all test (cond passes (x ∷ xs) xs) ≡ true
