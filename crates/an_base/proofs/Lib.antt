@@ -2,6 +2,7 @@ pub mod TreeLemmas
 pub mod TreeTexts
 pub mod TreeEquality
 mod TreeRows
+pub mod DecimalLemmas
 pub mod MomentCalendar
 pub mod MomentForm
 pub mod MomentDates

@@ -1,8 +1,10 @@
 pub mod Outcome
 pub mod Name
 pub mod Code
+pub mod Decimal
 pub mod Member
 pub mod Tree
 pub mod TreeCode
 pub mod Moment
 pub mod TreeSame
+pub mod Object

@@ -4,6 +4,7 @@
 pub use bytes::Bytes;
 pub use code::Code;
 pub use copy::TryCopy;
+pub use decimal::read_decimal;
 pub use list::List;
 pub use member::{member_count, text_in};
 pub use moment::{
@@ -11,6 +12,7 @@ pub use moment::{
     moments_read_back,
 };
 pub use name::{Name, NameError};
+pub use object::with_member;
 pub use span::{Prefer, Span, TermTotal};
 pub use steps::Steps;
 pub use text::Text;
@@ -22,10 +24,12 @@ pub use tree::{
 mod bytes;
 mod code;
 mod copy;
+mod decimal;
 mod list;
 mod member;
 mod moment;
 mod name;
+mod object;
 mod span;
 mod steps;
 #[cfg(test)]
