@@ -1,6 +1,10 @@
--- What is read of a link, and that it is at its end.
+-- How much of a link is read as an input, and that a link is at its end.
 use Rattle.std.specs.Prelude.{◌≡◌, ℕ, ◌≤◌, List, [], length, Option, Some, None}
 use Rattle.an_world.specs.Link.{Traffic, Reads}
+
+-- how many bytes an input may have
+abbrev pub input_limit : ℕ
+input_limit = 268435456
 
 -- where a link tells its bytes: none is left to read
 abbrev pub IsAtEnd : Option Traffic → Type 0

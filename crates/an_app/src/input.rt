@@ -1,6 +1,6 @@
 ghost use Rattle.std.specs.Prelude.{◌≡◌, ◌+◌, ◌<◌, ◌≤◌, ◌++◌, length, take, vec_len, Err, IfOk};
 ghost use Rattle.an_world.specs.Link.{Rises, Reads};
-ghost use Rattle.an_app.specs.Input.{IsAtEnd, ReadsAtMost};
+ghost use Rattle.an_app.specs.Input.{input_limit, IsAtEnd, ReadsAtMost};
 ghost use Rattle.an_app.specs.declared.input.InputError.TheVariants.{Fault, Memory};
 
 use an_world::{Link, LinkFault};
@@ -37,15 +37,17 @@ impl From<AllocError> for InputError {
     }
 }
 
-/// Reads a link to its end, or one byte beyond what an input may have.
+/// Reads a link to its end, or one byte beyond what an input may have: an answer of more than
+/// `INPUT_LIMIT` bytes is an input that is too long, and of which more may be left. After an error
+/// what was read is lost.
 pub(crate) fn read_input<L: Link>(alloc: Global, line: &mut L) -> Result<Vec<u8>, InputError>
     ensures bytes { IfOk result (λ v. Reads v.items (L.traffic line.old) (L.traffic line.new)) }
-    ensures within { IfOk result (λ v. length v.items ≤ INPUT_LIMIT + 1) }
+    ensures within { IfOk result (λ v. length v.items ≤ input_limit + 1) }
     ensures whole { IfOk result
-        (λ v. length v.items ≤ INPUT_LIMIT → IsAtEnd (L.traffic line.new)) }
+        (λ v. length v.items ≤ input_limit → IsAtEnd (L.traffic line.new)) }
 
     // Whatever the answer is.
-    ensures at_most { ReadsAtMost (INPUT_LIMIT + 1) (L.traffic line.old) (L.traffic line.new) }
+    ensures at_most { ReadsAtMost (input_limit + 1) (L.traffic line.old) (L.traffic line.new) }
     ensures fault { result ≡ Err InputError.Fault
         → Rises (L.read_faults line.old) (L.read_faults line.new) }
     ensures read_faults_kept { L.read_faults line.old ≤ L.read_faults line.new }
