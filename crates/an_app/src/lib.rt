@@ -1,0 +1,8 @@
+//! The annotation server, but for its links to the outside.
+#![tactic(auto)]
+
+#[cfg(test)]
+mod edge_tests;
+mod input;
+mod output;
+mod split;
