@@ -3,6 +3,8 @@
 
 #[cfg(test)]
 mod edge_tests;
+mod form;
 mod input;
+mod line;
 mod output;
 mod split;
