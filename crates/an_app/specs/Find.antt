@@ -1,0 +1,144 @@
+-- What lines do, one after another: writes change the state, reads print an answer, and the first refusal ends the run.
+use Rattle.std.specs.Prelude.{ℕ, ◌+◌, ℤ, List, [], ◌∷◌, ◌++◌, length, Bool, codes, decimal, ◌==◌, nat_lt, if◌then◌else◌, Option, Some, None, option_map, Result, Ok, Err}
+use Rattle.std.specs.Result.{result_ok}
+use Rattle.std.specs.Str.{is_utf8}
+use Rattle.serde_json.specs.Data.{Data}
+use Rattle.an_base.specs.Code.{code_text}
+use Rattle.an_base.specs.Tree.{tree_of}
+use Rattle.an_base.specs.declared.code.Code.{Code}
+use Rattle.an_base.specs.declared.code.Code.TheVariants as code
+use Rattle.an_policy.specs.Audience.{Identity}
+use Rattle.an_policy.specs.declared.who.Caller.{Caller}
+use Rattle.an_policy.specs.declared.who.Caller.TheVariants as caller
+use Rattle.an_machine.specs.Entries.{after}
+use Rattle.an_machine.specs.State.{State, empty, who_of}
+use Rattle.an_machine.specs.Step.{step}
+use Rattle.an_machine.specs.View.{view_of}
+use Rattle.an_machine.specs.declared.command.Command.{Command}
+use Rattle.an_machine.specs.declared.command.Command.TheVariants.{PutReader, PutManifest, PutNote}
+use Rattle.an_machine.specs.declared.command.Decided.{Decided}
+use Rattle.an_machine.specs.declared.command.Refused.{Refused}
+use Rattle.an_machine.specs.declared.entry.Entry.{Entry}
+use Rattle.an_search.specs.Search.{search_of}
+use Rattle.an_search.specs.Site.{Site}
+use Rattle.an_search.specs.declared.hits.AskError.{AskError}
+use Rattle.an_app.specs.Form.{form_of}
+use Rattle.an_app.specs.Input.{input_limit}
+use Rattle.an_app.specs.Line.{Words, words_of, by_of}
+use Rattle.an_app.specs.Split.{lines_of}
+use Rattle.an_app.specs.declared.form.Form.{Form}
+use Rattle.an_app.specs.declared.form.Form.TheVariants as form
+
+-- what a line comes to: nothing, a printed answer, another state, or the end of the run
+pub data Turn : Type 0 where
+  passes : Turn
+  prints : List ℕ → Turn
+  writes : State → Turn
+  stops : Code → Turn
+
+-- ---- a line that writes
+
+-- a line by nobody's name is written by the operator
+abbrev pub writer : Option (List ℕ) → Caller
+writer None = caller.Operator
+writer (Some name) = caller.Named name
+
+-- a write that had been done already changes nothing
+abbrev pub state_after : State → Option Entry → State
+state_after s None = s
+state_after s (Some entry) = after s entry
+
+abbrev pub decided_turn : State → Result Decided Refused → Turn
+decided_turn s (Ok decided) = writes (state_after s decided.entry)
+decided_turn s (Err refused) = stops code.Unbuilt
+
+-- the write of a tree by a command, at the line's moment; there is none where the text is no tree
+abbrev pub write_turn : State → ℤ → Option (List ℕ) → (Data → Command) → Option Data → Turn
+write_turn s moment by command (Some tree) = decided_turn s (step s moment (writer by) (command tree))
+write_turn s moment by command None = stops code.Unbuilt
+
+-- ---- a line that reads
+
+-- a line by nobody's name is read for the anonymous caller
+abbrev pub reader : Option (List ℕ) → Caller
+reader None = caller.Anonymous
+reader (Some name) = caller.Named name
+
+-- an answer, as a line shows it: its status and its body
+abbrev pub answer_line : Result (List ℕ) AskError → List ℕ
+answer_line (Ok body) = codes "200 " ++ (body ++ codes "\n")
+answer_line (Err e) = codes "404 {\"error\":\"absent\"}\n"
+
+abbrev pub read_turn : Site → State → List ℕ → List ℕ → Option Identity → Turn
+read_turn site s manifest word None = stops code.Unbuilt
+read_turn site s manifest word (Some who) = prints (answer_line (search_of site (view_of s who) manifest word))
+
+-- ---- a line
+
+abbrev pub form_turn : Site → State → Words → Option (List ℕ) → Option Form → Turn
+form_turn site s words by None = stops code.Unbuilt
+form_turn site s words by (Some (form.Reader name)) = write_turn s words.moment by (PutReader name 1) (result_ok (tree_of words.tree))
+form_turn site s words by (Some (form.Manifest name group)) = write_turn s words.moment by (PutManifest name 1 group) (result_ok (tree_of words.tree))
+form_turn site s words by (Some (form.Note owner name manifest group)) = write_turn s words.moment by (PutNote owner name 1 manifest group) (result_ok (tree_of words.tree))
+form_turn site s words by (Some (form.Search manifest word)) = read_turn site s manifest word (who_of s (reader by))
+
+abbrev pub by_turn : Site → State → Words → Option (Option (List ℕ)) → Turn
+by_turn site s words None = stops code.Line
+by_turn site s words (Some by) = form_turn site s words by (form_of words.method by words.target)
+
+abbrev pub words_turn : Site → State → Option Words → Turn
+words_turn site s None = stops code.Line
+words_turn site s (Some words) = by_turn site s words (by_of words.by)
+
+-- an empty line is passed over; a line that isn't UTF-8 is none
+unfoldable pub turn_of : Site → State → List ℕ → Turn
+turn_of site s line =
+    if length line == 0 then passes
+    else (if is_utf8 line then words_turn site s (words_of line) else stops code.Line)
+
+-- ---- all lines
+
+-- the number of a line, from 1, and why it is refused
+pub record Stop : Type 0 where
+  pub line : ℕ
+  pub code : Code
+
+-- what is printed for the lines, and where they stop, if they do
+pub record Played : Type 0 where
+  pub output : List ℕ
+  pub stop : Option Stop
+
+-- the text stands before what else is printed
+abbrev pub printed_first : List ℕ → Played → Played
+printed_first text played = record played { output = text ++ played.output }
+
+-- the lines from this number on, at a state; `go` has the lines behind
+abbrev pub follow : ℕ → State → (ℕ → State → Played) → Turn → Played
+follow number s go passes = go (number + 1) s
+follow number s go (prints text) = printed_first text (go (number + 1) s)
+follow number s go (writes t) = go (number + 1) t
+follow number s go (stops c) = record { output = []; stop = Some (record { line = number; code = c }) }
+
+abbrev pub play : Site → List (List ℕ) → ℕ → State → Played
+play site [] number s = record { output = []; stop = None }
+play site (line ∷ lines) number s = follow number s (play site lines) (turn_of site s line)
+
+-- the refusal of a line, as it is printed
+abbrev pub refusal_line : Stop → List ℕ
+refusal_line stop = codes "line " ++ (decimal stop.line ++ (codes " refused: " ++ (code_text stop.code ++ codes "\n")))
+
+-- a status, and what is printed
+pub record Report : Type 0 where
+  pub status : ℕ
+  pub text : List ℕ
+
+abbrev pub report_played : Played → Option Stop → Report
+report_played played None = record { status = 0; text = played.output }
+report_played played (Some stop) = record { status = 3; text = played.output ++ refusal_line stop }
+
+-- what comes of an input: one that is too large is refused before its first line
+unfoldable pub report_of : Site → List ℕ → Report
+report_of site input =
+    if nat_lt input_limit (length input)
+    then record { status = 3; text = refusal_line (record { line = 0; code = code.Input }) }
+    else (let played = play site (lines_of input) 1 empty in report_played played played.stop)

@@ -1,0 +1,83 @@
+ghost use Rattle.std.specs.Prelude.{◌≡◌, ◌<◌, ◌++◌, IsTrue, OnOk, codes};
+ghost use Rattle.an_base.specs.Outcome.{Gives};
+ghost use Rattle.an_policy.specs.Audience.{identity};
+ghost use Rattle.an_machine.specs.View.{view_of};
+ghost use Rattle.an_search.specs.Search.{names_are_distinct, search_of};
+ghost use Rattle.an_app.specs.Find.{answer_line};
+
+use an_base::{Bytes, Name, Steps};
+use an_machine::{Book, Look};
+use an_policy::Who;
+use an_search::{AskError, Settings, search};
+use std::alloc::{AllocError, Global};
+use std::marker::Brand;
+use std::sync::ledger::{Blank, Ledger};
+
+/// Adds the answer to a search, as a line shows it.
+pub(crate) fn answer(
+    alloc: Global,
+    book: &Book,
+    who: &Who<'_>,
+    settings: &Settings,
+    manifest: &Name,
+    word: &str,
+    output: &mut Vec<u8>,
+) -> Result<(), AllocError>
+    requires distinct { IsTrue (names_are_distinct book.now.state.manifests) }
+    ensures { OnOk result (output.new.items ≡ output.old.items ++ answer_line
+        (search_of settings.now (view_of book.now.state (identity who.now)) manifest.now word.now)) }
+{
+    match search_uncounted(alloc, book, who, settings, manifest, word) {
+        Ok(body) => put_body(output, body.as_slice()),
+        Err(error) => if matches!(error, AskError::Memory) {
+            Err(AllocError)
+        } else {
+            output.extend_from_slice("404 {\"error\":\"absent\"}\n".as_bytes())
+        },
+    }
+}
+
+fn put_body(output: &mut Vec<u8>, body: &[u8]) -> Result<(), AllocError>
+    ensures { OnOk result (output.new.items ≡ output.old.items ++ (codes "200 " ++ (body.now ++ codes "\n"))) }
+{
+    output.extend_from_slice("200 ".as_bytes())?;
+    output.extend_from_slice(body)?;
+    output.extend_from_slice("\n".as_bytes())?;
+    Ok(())
+}
+
+/// A search whose steps nobody counts.
+fn search_uncounted(
+    alloc: Global,
+    book: &Book,
+    who: &Who<'_>,
+    settings: &Settings,
+    manifest: &Name,
+    word: &str,
+) -> Result<Bytes, AskError>
+    requires distinct { IsTrue (names_are_distinct book.now.state.manifests) }
+    ensures { Gives (λ page. page) AskError.Memory result
+        (search_of settings.now (view_of book.now.state (identity who.now)) manifest.now word.now) }
+{
+    search_from::<Brand>(alloc, Blank::new(1), book, who, settings, manifest, word)
+}
+
+fn search_from<L: Ledger>(
+    alloc: Global,
+    blank: Blank,
+    book: &Book,
+    who: &Who<'_>,
+    settings: &Settings,
+    manifest: &Name,
+    word: &str,
+) -> Result<Bytes, AskError>
+    requires name { blank.name ≡ L.name }
+    requires parts { blank.parts ≡ L.parts }
+    requires some { 0 < blank.parts }
+    requires distinct { IsTrue (names_are_distinct book.now.state.manifests) }
+    ensures { Gives (λ page. page) AskError.Memory result
+        (search_of settings.now (view_of book.now.state (identity who.now)) manifest.now word.now) }
+{
+    let mut steps = Steps::<L>::new(blank);
+    search(alloc, book, who, manifest, word, settings, &mut steps)
+}

@@ -1,0 +1,269 @@
+ghost use Rattle.std.specs.Prelude.{◌≡◌, ℕ, List, IfOk, IsTrue, Ok, Some};
+ghost use Rattle.std.specs.Option.{option_copied};
+ghost use Rattle.std.specs.Result.{result_ok};
+ghost use Rattle.std.specs.Str.{is_utf8};
+ghost use Rattle.an_base.specs.Outcome.{only_if};
+ghost use Rattle.an_base.specs.Tree.{tree_of};
+ghost use Rattle.an_machine.specs.Step.{step};
+ghost use Rattle.an_machine.specs.State.{who_of};
+ghost use Rattle.an_search.specs.Search.{names_are_distinct};
+ghost use Rattle.an_app.specs.Line.{by_of, lent_words, words_of};
+ghost use Rattle.an_app.specs.Find.{turn_of, words_turn, by_turn, form_turn, decided_turn, read_turn, writer, reader};
+ghost use Rattle.an_app.specs.Turned.{Takes};
+
+use crate::answer::answer;
+use crate::form::{Form, form_of, name_in};
+use crate::line::{LineWords, words_of};
+use an_base::{Code, Moment, Name, Text, Tree, TreeError, read_tree};
+use an_machine::{Book, Command, Decided, Look, Refused};
+use an_policy::Caller;
+use an_search::Settings;
+use std::alloc::{AllocError, Global};
+use std::str;
+
+/// Takes the turn of a line: it may print an answer, or change the book. Answers the code of a line
+/// that is refused.
+#[tactic(auto, unfolding(crate::specs::Find::turn_of))]
+pub(crate) fn turn(
+    alloc: Global,
+    book: &mut Book,
+    settings: &Settings,
+    line: &[u8],
+    output: &mut Vec<u8>,
+) -> Result<Option<Code>, AllocError>
+    requires distinct { IsTrue (names_are_distinct book.old.state.manifests) }
+    ensures takes { IfOk result (Takes (turn_of settings.now book.old.state line.now)
+        book.old.state book.new.state output.old.items output.new.items) }
+{
+    if line.is_empty() {
+        return Ok(None);
+    }
+    match text_of(line) {
+        Some(text) => text_turn(alloc, book, settings, text, output),
+        None => Ok(Some(Code::Line)),
+    }
+}
+
+/// The text that the bytes are.
+fn text_of(bytes: &[u8]) -> Option<&str>
+    ensures { option_copied result ≡ only_if is_utf8 bytes.now }
+{
+    match str::from_utf8(bytes) {
+        Ok(text) => Some(text),
+        Err(_) => None,
+    }
+}
+
+fn text_turn(
+    alloc: Global,
+    book: &mut Book,
+    settings: &Settings,
+    text: &str,
+    output: &mut Vec<u8>,
+) -> Result<Option<Code>, AllocError>
+    requires distinct { IsTrue (names_are_distinct book.old.state.manifests) }
+    ensures takes { IfOk result (Takes (words_turn settings.now book.old.state (words_of text.now))
+        book.old.state book.new.state output.old.items output.new.items) }
+{
+    match words_of(text) {
+        Some(words) => by_turn(alloc, book, settings, &words, output),
+        None => Ok(Some(Code::Line)),
+    }
+}
+
+fn by_turn(
+    alloc: Global,
+    book: &mut Book,
+    settings: &Settings,
+    words: &LineWords<'_>,
+    output: &mut Vec<u8>,
+) -> Result<Option<Code>, AllocError>
+    requires distinct { IsTrue (names_are_distinct book.old.state.manifests) }
+    ensures takes { IfOk result (Takes (words_turn settings.now book.old.state (Some (lent_words words.now)))
+        book.old.state book.new.state output.old.items output.new.items) }
+{
+    match by_of(alloc, words.by)? {
+        Some(by) => known_turn(alloc, book, settings, words, by, output),
+        None => Ok(Some(Code::Line)),
+    }
+}
+
+/// Nobody's name, or a reader's.
+fn by_of(alloc: Global, text: &str) -> Result<Option<Option<Name>>, AllocError>
+    ensures { IfOk result (λ by. by ≡ by_of text.now) }
+{
+    if text == "-" {
+        return Ok(Some(None));
+    }
+    match name_in(alloc, text) {
+        Ok(name) => match name {
+            Some(name) => Ok(Some(Some(name))),
+            None => Ok(None),
+        },
+        Err(error) => Err(error),
+    }
+}
+
+fn known_turn(
+    alloc: Global,
+    book: &mut Book,
+    settings: &Settings,
+    words: &LineWords<'_>,
+    by: Option<Name>,
+    output: &mut Vec<u8>,
+) -> Result<Option<Code>, AllocError>
+    requires distinct { IsTrue (names_are_distinct book.old.state.manifests) }
+    ensures takes { IfOk result (Takes (by_turn settings.now book.old.state (lent_words words.now) (Some by))
+        book.old.state book.new.state output.old.items output.new.items) }
+{
+    match form_of(alloc, words.method, by.as_ref(), words.target)? {
+        Some(form) => form_turn(alloc, book, settings, words, by, form, output),
+        None => Ok(Some(Code::Unbuilt)),
+    }
+}
+
+fn form_turn(
+    alloc: Global,
+    book: &mut Book,
+    settings: &Settings,
+    words: &LineWords<'_>,
+    by: Option<Name>,
+    form: Form,
+    output: &mut Vec<u8>,
+) -> Result<Option<Code>, AllocError>
+    requires distinct { IsTrue (names_are_distinct book.old.state.manifests) }
+    ensures takes { IfOk result (Takes (form_turn settings.now book.old.state (lent_words words.now) by (Some form))
+        book.old.state book.new.state output.old.items output.new.items) }
+{
+    match form {
+        Form::Reader { name } => match tree_in(alloc, words.tree)? {
+            Some(tree) => write(alloc, book, words.moment, by, Command::PutReader {
+                name,
+                version: 1,
+                tree,
+            }),
+            None => Ok(Some(Code::Unbuilt)),
+        },
+        Form::Manifest { name, group } => match tree_in(alloc, words.tree)? {
+            Some(tree) => write(alloc, book, words.moment, by, Command::PutManifest {
+                name,
+                version: 1,
+                group,
+                tree,
+            }),
+            None => Ok(Some(Code::Unbuilt)),
+        },
+        Form::Note {
+            owner,
+            name,
+            manifest,
+            group,
+        } => match tree_in(alloc, words.tree)? {
+            Some(tree) => write(alloc, book, words.moment, by, Command::PutNote {
+                owner,
+                name,
+                version: 1,
+                manifest,
+                group,
+                tree,
+            }),
+            None => Ok(Some(Code::Unbuilt)),
+        },
+        Form::Search { manifest, word } => read(alloc, book, settings, by, &manifest, &word, output),
+    }
+}
+
+/// The tree that a text is.
+fn tree_in(alloc: Global, text: &str) -> Result<Option<Tree>, AllocError>
+    ensures { IfOk result (λ tree. tree ≡ result_ok (tree_of text.now)) }
+{
+    match read_tree(alloc, text.as_bytes()) {
+        Ok(tree) => Ok(Some(Tree::new(tree))),
+        Err(error) => if matches!(error, TreeError::Memory) {
+            Err(AllocError)
+        } else {
+            Ok(None)
+        },
+    }
+}
+
+/// Writes what the machine accepts. Answers the code of what it refuses.
+fn write(
+    alloc: Global,
+    book: &mut Book,
+    moment: Moment,
+    by: Option<Name>,
+    command: Command,
+) -> Result<Option<Code>, AllocError>
+    ensures { IfOk result (λ stop. (output : List ℕ) → Takes
+        (decided_turn book.old.state (step book.old.state moment (writer by) command))
+        book.old.state book.new.state output output stop) }
+{
+    let caller = writer(by);
+    match book.decide(alloc, moment, &caller, &command) {
+        Ok(decided) => apply(book, decided),
+        Err(refused) => if matches!(refused, Refused::Memory) {
+            Err(AllocError)
+        } else {
+            Ok(Some(Code::Unbuilt))
+        },
+    }
+}
+
+fn writer(by: Option<Name>) -> Caller
+    ensures { result ≡ writer by }
+{
+    match by {
+        Some(name) => Caller::Named(name),
+        None => Caller::Operator,
+    }
+}
+
+fn apply(book: &mut Book, decided: Decided) -> Result<Option<Code>, AllocError>
+    ensures { IfOk result (λ stop. (output : List ℕ) → Takes (decided_turn book.old.state (Ok decided))
+        book.old.state book.new.state output output stop) }
+{
+    let Decided { entry, reply: _ } = decided;
+    match entry {
+        Some(entry) => {
+            book.room(&entry)?;
+            book.apply(entry);
+            Ok(None)
+        }
+        None => Ok(None),
+    }
+}
+
+/// Prints the answer to a search. Answers the code where the line is by nobody.
+fn read(
+    alloc: Global,
+    book: &Book,
+    settings: &Settings,
+    by: Option<Name>,
+    manifest: &Name,
+    word: &Text,
+    output: &mut Vec<u8>,
+) -> Result<Option<Code>, AllocError>
+    requires distinct { IsTrue (names_are_distinct book.now.state.manifests) }
+    ensures { IfOk result (Takes
+        (read_turn settings.now book.now.state manifest.now word.now (who_of book.now.state (reader by)))
+        book.now.state book.now.state output.old.items output.new.items) }
+{
+    let caller = reader(by);
+    match book.who(&caller) {
+        Some(who) => {
+            answer(alloc, book, &who, settings, manifest, word.as_str(), output)?;
+            Ok(None)
+        }
+        None => Ok(Some(Code::Unbuilt)),
+    }
+}
+
+fn reader(by: Option<Name>) -> Caller
+    ensures { result ≡ reader by }
+{
+    match by {
+        Some(name) => Caller::Named(name),
+        None => Caller::Anonymous,
+    }
+}
