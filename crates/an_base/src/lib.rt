@@ -32,5 +32,7 @@ mod name;
 mod object;
 mod span;
 mod steps;
+#[cfg(test)]
+mod tests;
 mod text;
 mod tree;

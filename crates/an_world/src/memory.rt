@@ -1,4 +1,4 @@
-ghost use Rattle.std.specs.Prelude.{◌≡◌, ◌<◌, ◌≤◌, ◌↔◌, [], length, take, min, IfOk, OnErr, is_err};
+ghost use Rattle.std.specs.Prelude.{◌≡◌, ◌<◌, ◌≤◌, ◌↔◌, [], length, take, IfOk, OnErr, is_err};
 ghost use Rattle.an_world.specs.Link.{Rises, MovesRead, AddsWritten};
 ghost use Rattle.an_world.specs.Input.{count_for};
 ghost use Rattle.an_world.specs.Calls.{is_next_failing};
@@ -73,14 +73,14 @@ impl MemLink {
         self.written.as_slice()
     }
 
-    /// How many reads failed.
+    /// How many reads failed. The count stands still at `u64::MAX`.
     pub fn read_faults(&self) -> u64
         ensures { result ≡ self.now.reads.faults }
     {
         self.reads.faults()
     }
 
-    /// How many writes failed.
+    /// How many writes failed. The count stands still at `u64::MAX`.
     pub fn write_faults(&self) -> u64
         ensures { result ≡ self.now.writes.faults }
     {

@@ -1,0 +1,5 @@
+pub mod Input
+pub mod Output
+pub mod Split
+pub mod Line
+pub mod Form
