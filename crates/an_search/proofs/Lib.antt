@@ -1,1 +1,5 @@
+pub mod FoundLemmas
+pub mod ListedLemmas
 pub mod PageLemmas
+pub mod TermLemmas
+pub mod ViewLemmas

@@ -1,5 +1,5 @@
 -- The pages of a search have no float where their items have none.
-use Rattle.std.proofs.Common.{◌≡◌, ℕ, ◌+◌, ◌-◌, List, Bool, true, false, Some, None, codes, nat_lt, refl}
+use Rattle.std.proofs.Common.{◌≡◌, ℕ, ◌+◌, ◌-◌, List, Bool, true, false, Some, None, codes, nat_lt}
 use Rattle.std.specs.Prelude.{if◌then◌else◌}
 use Rattle.serde_json.specs.Data.{Items}
 use Rattle.serde_json.specs.Written.{has_float, items_have_float}

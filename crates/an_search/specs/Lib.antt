@@ -1,3 +1,6 @@
 pub mod Site
 pub mod Settings
 pub mod Page
+pub mod Listed
+pub mod Found
+pub mod Search

@@ -1,0 +1,18 @@
+use Rattle.std.proofs.Common.{map, arith}
+use Rattle.an_search.specs.Search.{matches}
+use Rattle.an_search.proofs.FoundLemmas.{place_with_row, place_without}
+use Rattle.an_search.proofs.hits.find.Goals as goal
+use Rattle.an_search.proofs.hits.find.Goals.{in-Some+in_ok-try_row-in-Some, in-None}
+
+pub loop-place-preserved : goal.loop-place-preserved
+loop-place-preserved g c =
+    let test = matches (map (λ o. o.term) c.args.wanted.now) in
+    let notes = (g.T.Look.state c.args.look.now).notes in
+    elim c.match-note_at.branch [
+      | in-Some+in_ok-try_row-in-Some w ↦
+          let more = place_with_row test notes c.args.places.now c.loop-place.place-index c.loop-place-test.true w.in-Some.row.now w.in-Some.ensures.row in
+          rw (w.found-is, more) (w.in_ok-try_row-in-Some.ensures.row _ c.loop-place.invariant.0, omega (arith, w.try_row.ensures.count))
+      | in-None w ↦
+          let more = place_without test notes c.args.places.now c.loop-place.place-index c.loop-place-test.true w.in-None.ensures.row in
+          rw (w.found-is, more) (c.loop-place.invariant.0, omega arith)
+    ]
