@@ -1,3 +1,4 @@
+pub mod DistinctLemmas
 mod ReadLemmas
 mod SplitLemmas
 mod SplitRows
