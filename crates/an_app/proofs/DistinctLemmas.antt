@@ -6,17 +6,13 @@ use Rattle.std.specs.List.{list_any, position, position_or_len}
 use Rattle.std.specs.Str.{bytes_eq}
 use Rattle.an_keyed.specs.Key.{Key}
 use Rattle.an_keyed.specs.Rows.{put_at, put_row}
+use Rattle.an_search.specs.Search.{names_are_distinct}
 use Rattle.an_machine.specs.Entries.{with_row, with_rows, after}
 use Rattle.an_machine.specs.State.{KeptManifest, State, manifest_key, empty}
 use Rattle.an_machine.specs.declared.entry.Entry.{Entry}
 use Rattle.an_machine.specs.declared.entry.Entry.TheVariants.{Done}
 use Rattle.an_machine.specs.declared.entry.Row.{Row}
 use Rattle.an_machine.specs.declared.entry.Row.TheVariants as kept
-
--- no two manifests have one name
-abbrev pub names_are_distinct : List KeptManifest → Bool
-names_are_distinct [] = true
-names_are_distinct (row ∷ rows) = not (list_any (λ other. bytes_eq other.name row.name) rows) && names_are_distinct rows
 
 ltb-both_suc : (a b : ℕ) → ltb (1 + a) (suc b) ≡ ltb a b
 ltb-both_suc a b = elim (cases_lt a b) [

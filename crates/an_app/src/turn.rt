@@ -137,20 +137,32 @@ fn form_turn(
 {
     match form {
         Form::Reader { name } => match tree_in(alloc, words.tree)? {
-            Some(tree) => write(alloc, book, words.moment, by, Command::PutReader {
-                name,
-                version: 1,
-                tree,
-            }),
+            Some(tree) => write(
+                alloc,
+                book,
+                words.moment,
+                by,
+                Command::PutReader {
+                    name,
+                    version: 1,
+                    tree,
+                },
+            ),
             None => Ok(Some(Code::Unbuilt)),
         },
         Form::Manifest { name, group } => match tree_in(alloc, words.tree)? {
-            Some(tree) => write(alloc, book, words.moment, by, Command::PutManifest {
-                name,
-                version: 1,
-                group,
-                tree,
-            }),
+            Some(tree) => write(
+                alloc,
+                book,
+                words.moment,
+                by,
+                Command::PutManifest {
+                    name,
+                    version: 1,
+                    group,
+                    tree,
+                },
+            ),
             None => Ok(Some(Code::Unbuilt)),
         },
         Form::Note {
@@ -159,17 +171,25 @@ fn form_turn(
             manifest,
             group,
         } => match tree_in(alloc, words.tree)? {
-            Some(tree) => write(alloc, book, words.moment, by, Command::PutNote {
-                owner,
-                name,
-                version: 1,
-                manifest,
-                group,
-                tree,
-            }),
+            Some(tree) => write(
+                alloc,
+                book,
+                words.moment,
+                by,
+                Command::PutNote {
+                    owner,
+                    name,
+                    version: 1,
+                    manifest,
+                    group,
+                    tree,
+                },
+            ),
             None => Ok(Some(Code::Unbuilt)),
         },
-        Form::Search { manifest, word } => read(alloc, book, settings, by, &manifest, &word, output),
+        Form::Search { manifest, word } => read(
+            alloc, book, settings, by, &manifest, &word, output,
+        ),
     }
 }
 
