@@ -10,6 +10,7 @@ use Rattle.std.specs.Str.Lines.{lines_of_parts, strip_carriage_return}
 use Rattle.memchr.specs.Find.{is_byte, IsFirstByte}
 use Rattle.an_app.specs.Split.{lines_of}
 
+-- a test that isn't true
 not_true : (b : Bool) → ¬ (b ≡ true) → b ≡ false
 not_true true not = absurd (not refl)
 not_true false not = refl
