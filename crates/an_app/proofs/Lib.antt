@@ -2,3 +2,4 @@ pub mod DistinctLemmas
 mod ReadLemmas
 mod SplitLemmas
 mod SplitRows
+pub mod StatusLemmas

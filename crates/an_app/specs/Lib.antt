@@ -6,3 +6,4 @@ pub mod Form
 pub mod Find
 pub mod Turned
 pub mod Status
+pub mod Shown

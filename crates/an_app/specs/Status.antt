@@ -8,14 +8,14 @@ use Rattle.an_app.specs.Find.{report_of}
 use Rattle.an_app.specs.Input.{input_limit, IsAtEnd}
 
 -- bytes were read, and others written, and nothing else moved
-pub record Moves (read written : List ℕ) (old new : Traffic) : Type 0 where
-  pub left : old.left ≡ read ++ new.left
-  pub read : new.read ≡ old.read ++ read
-  pub written : new.written ≡ old.written ++ written
+pub record Moves (input output : List ℕ) (old new : Traffic) : Type 0 where
+  pub left : old.left ≡ input ++ new.left
+  pub read : new.read ≡ old.read ++ input
+  pub written : new.written ≡ old.written ++ output
 
 -- the same, where a link tells its bytes
 abbrev pub Exchanges : List ℕ → List ℕ → Option Traffic → Option Traffic → Type 0
-Exchanges read written = Tells (Moves read written)
+Exchanges input output = Tells (Moves input output)
 
 -- what is printed where a read failed
 abbrev pub read_fault_text : List ℕ

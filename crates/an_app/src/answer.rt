@@ -5,7 +5,7 @@ ghost use Rattle.an_machine.specs.View.{view_of};
 ghost use Rattle.an_search.specs.Search.{names_are_distinct, search_of};
 ghost use Rattle.an_app.specs.Find.{answer_line};
 
-use an_base::{Bytes, Name, Steps};
+use an_base::{Bytes, Name, Steps, Text};
 use an_machine::{Book, Look};
 use an_policy::Who;
 use an_search::{AskError, Settings, search};
@@ -20,7 +20,7 @@ pub(crate) fn answer(
     who: &Who<'_>,
     settings: &Settings,
     manifest: &Name,
-    word: &str,
+    word: &Text,
     output: &mut Vec<u8>,
 ) -> Result<(), AllocError>
     requires distinct { IsTrue (names_are_distinct book.now.state.manifests) }
@@ -53,7 +53,7 @@ fn search_uncounted(
     who: &Who<'_>,
     settings: &Settings,
     manifest: &Name,
-    word: &str,
+    word: &Text,
 ) -> Result<Bytes, AskError>
     requires distinct { IsTrue (names_are_distinct book.now.state.manifests) }
     ensures { Gives (λ page. page) AskError.Memory result
@@ -69,7 +69,7 @@ fn search_from<L: Ledger>(
     who: &Who<'_>,
     settings: &Settings,
     manifest: &Name,
-    word: &str,
+    word: &Text,
 ) -> Result<Bytes, AskError>
     requires name { blank.name ≡ L.name }
     requires parts { blank.parts ≡ L.parts }
@@ -79,5 +79,13 @@ fn search_from<L: Ledger>(
         (search_of settings.now (view_of book.now.state (identity who.now)) manifest.now word.now) }
 {
     let mut steps = Steps::<L>::new(blank);
-    search(alloc, book, who, manifest, word, settings, &mut steps)
+    search(
+        alloc,
+        book,
+        who,
+        manifest,
+        word.as_str(),
+        settings,
+        &mut steps,
+    )
 }

@@ -1,4 +1,4 @@
-ghost use Rattle.std.specs.Prelude.{◌≡◌, ℕ, List, IfOk, IsTrue, Ok, Some};
+ghost use Rattle.std.specs.Prelude.{◌≡◌, ℕ, List, IfOk, OnOk, IsTrue, Ok, Some};
 ghost use Rattle.std.specs.Option.{option_copied};
 ghost use Rattle.std.specs.Result.{result_ok};
 ghost use Rattle.std.specs.Str.{is_utf8};
@@ -34,6 +34,7 @@ pub(crate) fn turn(
     requires distinct { IsTrue (names_are_distinct book.old.state.manifests) }
     ensures takes { IfOk result (Takes (turn_of settings.now book.old.state line.now)
         book.old.state book.new.state output.old.items output.new.items) }
+    ensures distinct { OnOk result (IsTrue (names_are_distinct book.new.state.manifests)) }
 {
     if line.is_empty() {
         return Ok(None);
@@ -64,6 +65,7 @@ fn text_turn(
     requires distinct { IsTrue (names_are_distinct book.old.state.manifests) }
     ensures takes { IfOk result (Takes (words_turn settings.now book.old.state (words_of text.now))
         book.old.state book.new.state output.old.items output.new.items) }
+    ensures distinct { OnOk result (IsTrue (names_are_distinct book.new.state.manifests)) }
 {
     match words_of(text) {
         Some(words) => by_turn(alloc, book, settings, &words, output),
@@ -81,6 +83,7 @@ fn by_turn(
     requires distinct { IsTrue (names_are_distinct book.old.state.manifests) }
     ensures takes { IfOk result (Takes (words_turn settings.now book.old.state (Some (lent_words words.now)))
         book.old.state book.new.state output.old.items output.new.items) }
+    ensures distinct { OnOk result (IsTrue (names_are_distinct book.new.state.manifests)) }
 {
     match by_of(alloc, words.by)? {
         Some(by) => known_turn(alloc, book, settings, words, by, output),
@@ -115,6 +118,7 @@ fn known_turn(
     requires distinct { IsTrue (names_are_distinct book.old.state.manifests) }
     ensures takes { IfOk result (Takes (by_turn settings.now book.old.state (lent_words words.now) (Some by))
         book.old.state book.new.state output.old.items output.new.items) }
+    ensures distinct { OnOk result (IsTrue (names_are_distinct book.new.state.manifests)) }
 {
     match form_of(alloc, words.method, by.as_ref(), words.target)? {
         Some(form) => form_turn(alloc, book, settings, words, by, form, output),
@@ -134,6 +138,7 @@ fn form_turn(
     requires distinct { IsTrue (names_are_distinct book.old.state.manifests) }
     ensures takes { IfOk result (Takes (form_turn settings.now book.old.state (lent_words words.now) by (Some form))
         book.old.state book.new.state output.old.items output.new.items) }
+    ensures distinct { OnOk result (IsTrue (names_are_distinct book.new.state.manifests)) }
 {
     match form {
         Form::Reader { name } => match tree_in(alloc, words.tree)? {
@@ -215,9 +220,11 @@ fn write(
     by: Option<Name>,
     command: Command,
 ) -> Result<Option<Code>, AllocError>
-    ensures { IfOk result (λ stop. (output : List ℕ) → Takes
+    requires distinct { IsTrue (names_are_distinct book.old.state.manifests) }
+    ensures takes { IfOk result (λ stop. (output : List ℕ) → Takes
         (decided_turn book.old.state (step book.old.state moment (writer by) command))
         book.old.state book.new.state output output stop) }
+    ensures distinct { OnOk result (IsTrue (names_are_distinct book.new.state.manifests)) }
 {
     let caller = writer(by);
     match book.decide(alloc, moment, &caller, &command) {
@@ -240,8 +247,10 @@ fn writer(by: Option<Name>) -> Caller
 }
 
 fn apply(book: &mut Book, decided: Decided) -> Result<Option<Code>, AllocError>
-    ensures { IfOk result (λ stop. (output : List ℕ) → Takes (decided_turn book.old.state (Ok decided))
+    requires distinct { IsTrue (names_are_distinct book.old.state.manifests) }
+    ensures takes { IfOk result (λ stop. (output : List ℕ) → Takes (decided_turn book.old.state (Ok decided))
         book.old.state book.new.state output output stop) }
+    ensures distinct { OnOk result (IsTrue (names_are_distinct book.new.state.manifests)) }
 {
     let Decided { entry, reply: _ } = decided;
     match entry {
@@ -272,7 +281,7 @@ fn read(
     let caller = reader(by);
     match book.who(&caller) {
         Some(who) => {
-            answer(alloc, book, &who, settings, manifest, word.as_str(), output)?;
+            answer(alloc, book, &who, settings, manifest, word, output)?;
             Ok(None)
         }
         None => Ok(Some(Code::Unbuilt)),

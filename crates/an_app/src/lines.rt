@@ -1,0 +1,141 @@
+ghost use Rattle.std.specs.Prelude.{◌≡◌, ◌⊎◌, IfOk, IsTrue, string_bytes};
+ghost use Rattle.an_world.specs.Link.{Rises};
+ghost use Rattle.an_machine.specs.State.{empty};
+ghost use Rattle.an_app.specs.Find.{play, report_of, report_played, refusal_line};
+ghost use Rattle.an_app.specs.Shown.{shown};
+ghost use Rattle.an_app.specs.Split.{lines_of};
+ghost use Rattle.an_app.specs.Status.{Finds};
+
+use crate::input::{INPUT_LIMIT, InputError, read_input};
+use crate::output::write_all;
+use crate::split::first_line;
+use crate::turn::turn;
+use an_base::Code;
+use an_machine::Book;
+use an_search::Settings;
+use an_world::Link;
+use std::alloc::{AllocError, Global};
+
+/// A status, and what is to be printed.
+#[derive(Drop)]
+struct Report {
+    status: u8,
+    text: Vec<u8>,
+}
+
+/// The number of a line, from 1, and why it is refused.
+#[derive(Clone, Copy)]
+struct Stop {
+    line: usize,
+    code: Code,
+}
+
+/// What is to be printed for the lines, and where they stop, if they do.
+#[derive(Drop)]
+struct Played {
+    output: Vec<u8>,
+    stop: Option<Stop>,
+}
+
+/// Reads an input of lines to its end, applies its writes to an empty state, and prints the answer to
+/// each of its reads. The first line that is refused ends the run. The status is 0 where the whole
+/// input was played; 3 where a line was refused, or the input is larger than 268,435,456 bytes; 5
+/// where a read failed; 1 where a write failed; and 6 where memory ran out, after which nothing was
+/// printed.
+pub fn find<L: Link>(alloc: Global, line: &mut L, settings: &Settings) -> u8
+    ensures finds { Finds settings.now
+        (Rises (L.read_faults line.old) (L.read_faults line.new))
+        (Rises (L.write_faults line.old) (L.write_faults line.new))
+        (L.traffic line.old) (L.traffic line.new) result }
+
+    // Over a link that never fails the whole report is printed, unless memory runs out.
+    ensures sure { IsTrue L.is_sure → (result ≡ 0) ⊎ ((result ≡ 3) ⊎ (result ≡ 6)) }
+{
+    match read_input(alloc, line) {
+        Ok(input) => match report_of(alloc, input.as_slice(), settings) {
+            Ok(report) => match write_all(line, report.text.as_slice()) {
+                Ok(_) => report.status,
+                Err(_) => 1,
+            },
+            Err(_) => 6,
+        },
+        Err(error) => match error {
+            InputError::Fault => match write_all(line, "read failed\n".as_bytes()) {
+                Ok(_) => 5,
+                Err(_) => 1,
+            },
+            InputError::Memory => 6,
+        },
+    }
+}
+
+/// What comes of an input.
+#[tactic(auto, unfolding(crate::specs::Find::report_of))]
+fn report_of(alloc: Global, input: &[u8], settings: &Settings) -> Result<Report, AllocError>
+    ensures { IfOk result (λ r. record { status = r.status; text = r.text.items }
+        ≡ report_of settings.now input.now) }
+{
+    if input.len() > INPUT_LIMIT {
+        let text = refusal_line(alloc, 0, Code::Input)?;
+        return Ok(Report {
+            status: 3,
+            text: text.into_bytes(),
+        });
+    }
+    let played = play(alloc, input, settings)?;
+    report_played(alloc, played)
+}
+
+fn report_played(alloc: Global, played: Played) -> Result<Report, AllocError>
+    ensures { IfOk result (λ r. record { status = r.status; text = r.text.items }
+        ≡ report_played (shown played) (shown played).stop) }
+{
+    let Played { output, stop } = played;
+    match stop {
+        Some(stop) => {
+            let text = refusal_line(alloc, stop.line, stop.code)?;
+            let mut output = output;
+            output.extend_from_slice(text.as_bytes())?;
+            Ok(Report {
+                status: 3,
+                text: output,
+            })
+        }
+        None => Ok(Report {
+            status: 0,
+            text: output,
+        }),
+    }
+}
+
+/// The refusal of a line, as it is printed.
+fn refusal_line(alloc: Global, line: usize, code: Code) -> Result<String, AllocError>
+    ensures { IfOk result (λ text. string_bytes text ≡ refusal_line (record { line = line; code = code })) }
+{
+    let code = code.text();
+    format!(in alloc; "line {line} refused: {code}\n")
+}
+
+/// Plays all lines of an input, from the empty state.
+fn play(alloc: Global, input: &[u8], settings: &Settings) -> Result<Played, AllocError>
+    ensures { IfOk result (λ played. shown played ≡ play settings.now (lines_of input.now) 1 empty) }
+{
+    let mut book = Book::new(alloc);
+    let mut output = Vec::new(alloc);
+    let mut number = 1;
+    let mut left = input;
+    'lines: while let Some((line, rest)) = first_line(left) {
+        match turn(alloc, &mut book, settings, line, &mut output)? {
+            Some(code) => {
+                return Ok(Played {
+                    output,
+                    stop: Some(Stop { line: number, code }),
+                });
+            }
+            None => {}
+        }
+        left = rest;
+        number += 1;
+    }
+    Ok(Played { output, stop: None })
+}
