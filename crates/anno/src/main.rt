@@ -1,0 +1,33 @@
+//! The annotation server as a program.
+#![tactic(auto)]
+
+mod link;
+
+use an_app::run;
+use link::StdLink;
+use std::process::ExitCode;
+use std::rt::Env;
+use std::{env, io};
+
+/// Does what the words behind the program's name say, over standard input and output, and ends with
+/// the status of `run`. A word that isn't UTF-8 is in no form.
+fn main(rt: HostRuntime) -> ExitCode {
+    let alloc = rt.alloc();
+    let mut line = StdLink::new(rt.reader(), io::writer(&rt));
+    let status = match words_of(&rt) {
+        Ok(words) => run(alloc, words.as_slice(), &mut line),
+        Err(error) => if error.kind() == io::ErrorKind::OutOfMemory {
+            6
+        } else {
+            run(alloc, &[], &mut line)
+        },
+    };
+    ExitCode::from(status)
+}
+
+/// The words behind the program's name.
+fn words_of<R: Env + AllocGlobal>(rt: &R) -> io::Result<Vec<String>> {
+    let mut words = env::args(rt)?;
+    drop(words.next());
+    Ok(words.collect(rt.alloc())?)
+}
