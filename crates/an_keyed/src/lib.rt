@@ -6,3 +6,5 @@ pub use rows::Rows;
 
 mod key;
 mod rows;
+#[cfg(test)]
+mod tests;

@@ -9,4 +9,6 @@ pub use who::{Caller, Who};
 mod group;
 mod permission;
 mod reader;
+#[cfg(test)]
+mod tests;
 mod who;
