@@ -14,4 +14,6 @@ mod lines;
 mod output;
 mod program;
 mod split;
+#[cfg(test)]
+mod tests;
 mod turn;
