@@ -8,3 +8,5 @@ mod hits;
 mod listed;
 mod page;
 mod settings;
+#[cfg(test)]
+mod tests;
