@@ -1,5 +1,5 @@
 -- The words of a line: a moment, who writes or reads, what is done, to what, and for a put a JSON text.
-use Rattle.std.specs.Prelude.{ℕ, ℤ, List, [], length, Bool, ◌==◌, nat_lt, bytes_eq, codes, is_none, if◌then◌else◌, Option, Some, None, option_and_then}
+use Rattle.std.specs.Prelude.{ℕ, ℤ, List, [], length, ◌==◌, nat_lt, bytes_eq, codes, is_none, if◌then◌else◌, Option, Some, None, option_and_then}
 use Rattle.std.specs.List.{position_or_len, before_first, after_first}
 use Rattle.std.specs.Result.{result_ok}
 use Rattle.an_base.specs.Moment.{moment_of}

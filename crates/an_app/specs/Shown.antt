@@ -1,5 +1,5 @@
 -- For private clauses: what was played, as the definition says it.
-use Rattle.std.specs.Prelude.{Option, Some, None, option_map}
+use Rattle.std.specs.Prelude.{option_map}
 use Rattle.an_app.specs.Find as find
 use Rattle.an_app.specs.declared.lines.Played.{Played}
 use Rattle.an_app.specs.declared.lines.Stop.{Stop}

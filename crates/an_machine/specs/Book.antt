@@ -1,6 +1,6 @@
 -- What the fields of a book stand for.
-use Rattle.std.specs.Prelude.{◌≡◌, ◌+◌, ◌≤◌, vec_len, vec_capacity}
-use Rattle.an_machine.specs.State.{State, Held}
+use Rattle.std.specs.Prelude.{◌+◌, ◌≤◌, vec_len, vec_capacity}
+use Rattle.an_machine.specs.State.{Held}
 use Rattle.an_machine.specs.declared.book.Book.TheInside.{Inside}
 
 abbrev pub held : Inside → Held

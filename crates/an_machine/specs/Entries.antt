@@ -1,8 +1,7 @@
 -- What an accepted command does to the state.
-use Rattle.std.specs.Prelude.{ℕ, ◌+◌, List, [], ◌∷◌, ◌++◌, length, fold, Option, Some, None}
+use Rattle.std.specs.Prelude.{ℕ, ◌+◌, List, [], ◌∷◌, ◌++◌, length}
 use Rattle.an_keyed.specs.Rows.{put_row}
 use Rattle.an_machine.specs.State.{State, reader_key, manifest_key, note_key}
-use Rattle.an_machine.specs.declared.activity.Activity.{Activity}
 use Rattle.an_machine.specs.declared.entry.Entry.{Entry}
 use Rattle.an_machine.specs.declared.entry.Entry.TheVariants.{Done}
 use Rattle.an_machine.specs.declared.entry.Row.{Row}

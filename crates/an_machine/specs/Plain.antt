@@ -1,5 +1,5 @@
 -- Plain manifests and plain annotations: the shapes that are read so far.
-use Rattle.std.specs.Prelude.{ℕ, ◌^◌, [], List, length, Bool, true, false, ◌&&◌, ◌==◌, bytes_eq, codes, nat_lt, is_some, Option, option_and_then, unwrap_or}
+use Rattle.std.specs.Prelude.{ℕ, ◌^◌, [], List, length, Bool, true, ◌&&◌, ◌==◌, bytes_eq, codes, nat_lt, is_some, option_and_then, unwrap_or}
 use Rattle.serde_json.specs.Data.{Data, Items, no_items, item, Members, no_members, member}
 use Rattle.serde_json.specs.Find.{get, as_str, as_number, as_u64, as_array, as_object}
 use Rattle.serde_json.specs.Events.{items_len}

@@ -6,7 +6,6 @@ use Rattle.serde_json.specs.Data.{Data}
 use Rattle.an_base.specs.Outcome.{when, first_of, unless}
 use Rattle.an_base.specs.declared.code.Code.{Code}
 use Rattle.an_base.specs.declared.code.Code.TheVariants as code
-use Rattle.an_policy.specs.declared.group.Audience.{Audience}
 use Rattle.an_policy.specs.declared.group.Group.{Group}
 use Rattle.an_policy.specs.declared.group.Group.TheVariants.{Public, Private, Named}
 use Rattle.an_policy.specs.declared.reader.Reader.{Reader}
@@ -17,10 +16,10 @@ use Rattle.an_policy.specs.declared.reader.Role.TheVariants as role
 use Rattle.an_policy.specs.declared.who.Caller.{Caller}
 use Rattle.an_policy.specs.Audience.{Identity, anonymous, operator, signed, is_among, is_named, groups_of}
 use Rattle.an_policy.specs.Reader.{reader_of}
-use Rattle.an_machine.specs.State.{State, KeptReader, KeptManifest, KeptNote, reader_row, manifest_row, note_row, live_readers, who_of}
+use Rattle.an_machine.specs.State.{State, reader_row, manifest_row, note_row, live_readers, who_of}
 use Rattle.an_base.specs.Outcome.{passes}
 use Rattle.an_machine.specs.Plain.{is_plain_manifest, is_plain_note}
-use Rattle.an_machine.specs.View.{shows_manifest, manifest_audience, note_audience}
+use Rattle.an_machine.specs.View.{shows_manifest}
 use Rattle.an_machine.specs.declared.activity.Activity.{Activity}
 use Rattle.an_machine.specs.declared.command.Command.{Command}
 use Rattle.an_machine.specs.declared.command.Command.TheVariants.{PutReader, PutManifest, PutNote}
