@@ -18,3 +18,5 @@ mod look;
 mod plain;
 mod refusal;
 mod row;
+#[cfg(test)]
+mod tests;
