@@ -24,41 +24,36 @@ input() {
   }'
 }
 
-# The most memory that the running program has used, in KiB.
-peak() {
-  local most=0 now
-  while now=$(awk '/^VmHWM:/ {print $2}' "/proc/$1/status" 2>/dev/null) && [ -n "$now" ]; do
-    most=$now
-    sleep 0.002
-  done
-  echo "$most"
+# Runs the program on the input, and sets `status`, `micros` and `peak`, the most memory in KiB that it
+# used. It is asked again and again, since a short run is over before another program could look.
+measure() {
+  local start=${EPOCHREALTIME/./} end=$((SECONDS + 120)) job state
+  "$program" - find http://a.example 10 <"$work/input" >"$work/output" &
+  job=$!
+  peak=0
+  status=0
+  while mapfile -t state <"/proc/$job/status"; do
+    if [[ ${state[*]} =~ VmHWM:[[:space:]]*([0-9]+) ]]; then peak=${BASH_REMATCH[1]}; fi
+    if ((SECONDS >= end)); then kill "$job" || true; fi
+  done 2>/dev/null
+  wait "$job" || status=$?
+  micros=$((${EPOCHREALTIME/./} - start))
 }
 
 echo "processors: $(nproc)"
-before=
+before=0
 for notes in 1000 10000 100000; do
   input "$notes" >"$work/input"
-  bytes=$(stat -c %s "$work/input")
-  start=$(date +%s%N)
-  timeout 120 "$program" - find http://a.example 10 <"$work/input" >"$work/output" &
-  job=$!
-  child=
-  for _ in 1 2 3 4 5 6 7 8 9 10; do
-    child=$(pgrep -P "$job" 2>/dev/null || true)
-    [ -n "$child" ] && break
-  done
-  memory=$(peak "${child:-$job}")
-  status=0
-  wait "$job" || status=$?
-  end=$(date +%s%N)
+  measure
   if [ "$status" -ne 0 ]; then
     echo "$notes annotations: ended after two minutes (status $status)"
     continue
   fi
-  awk -v n="$notes" -v t="$((end - start))" -v m="$memory" -v b="$bytes" -v f="${before:-0}" 'BEGIN {
-    printf "%d annotations: %.3f s, %d lines a second, peak %.1f MB, %.1f times the input of %.1f MB", n, t / 1e9, (n + 3) * 1e9 / t, m * 1024 / 1e6, m * 1024 / b, b / 1e6
+  bytes=$(stat -c %s "$work/input")
+  awk -v n="$notes" -v t="$micros" -v m="$((peak * 1024))" -v b="$bytes" -v f="$before" 'BEGIN {
+    printf "%d annotations: %.3f s, %d lines a second, peak %.1f MB, %.1f times the input of %.1f MB", n, t / 1e6, (n + 3) * 1e6 / t, m / 1e6, m / b, b / 1e6
     if (f > 0) printf ", %.1f times the time of a tenth", t / f
     print ""
   }'
-  before=$((end - start))
+  before=$micros
 done
