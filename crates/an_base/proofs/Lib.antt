@@ -1,6 +1,7 @@
 pub mod TreeLemmas
 pub mod TreeTexts
 pub mod TreeEquality
+pub mod ObjectLemmas
 mod TreeRows
 pub mod DecimalLemmas
 pub mod MomentCalendar

@@ -1,7 +1,8 @@
 ghost use Rattle.std.specs.Prelude.{◌≡◌};
 ghost use Rattle.an_base.specs.Code.{code_text};
 
-/// Why a request or a line was refused, for whoever sent it.
+/// Why a request or a line was refused, for whoever sent it. `at` is the place of what is malformed,
+/// from 0.
 #[derive(Clone, Copy, Debug, PartialEq, Eq)]
 pub enum Code {
     /// The line isn't UTF-8, or hasn't the words of a line.
@@ -22,6 +23,32 @@ pub enum Code {
     ReaderUser,
     /// A reader's groups aren't at most 64 distinct names.
     ReaderGroups,
+    /// The text is no JSON (RFC 8259).
+    Json,
+    /// A number in the tree isn't whole, or is beyond 64 bits.
+    NotWhole,
+    /// More than 100 arrays and objects stand inside each other.
+    Deep,
+    /// The tree isn't of type `Annotation`.
+    NoteType,
+    /// This target is missing or malformed.
+    NoteTarget { at: usize },
+    /// This body is malformed.
+    NoteBody { at: usize },
+    /// This motivation is no text without white space.
+    NoteMotivation { at: usize },
+    /// A selector of this target is malformed.
+    NoteSelector { at: usize },
+    /// The manifest is one of IIIF Presentation 2.
+    ManifestVersion2,
+    /// The tree isn't of type `Manifest`.
+    ManifestType,
+    /// The manifest's label is no language map.
+    ManifestLabel,
+    /// The manifest has no canvases.
+    ManifestItems,
+    /// This item is no canvas with an IRI and a size.
+    ManifestCanvas { at: usize },
 }
 
 impl Code {
@@ -39,6 +66,19 @@ impl Code {
             Code::ReaderRole => "reader_role",
             Code::ReaderUser => "reader_user",
             Code::ReaderGroups => "reader_groups",
+            Code::Json => "json",
+            Code::NotWhole => "not_whole",
+            Code::Deep => "deep",
+            Code::NoteType => "note_type",
+            Code::NoteTarget { at: _ } => "note_target",
+            Code::NoteBody { at: _ } => "note_body",
+            Code::NoteMotivation { at: _ } => "note_motivation",
+            Code::NoteSelector { at: _ } => "note_selector",
+            Code::ManifestVersion2 => "manifest_version2",
+            Code::ManifestType => "manifest_type",
+            Code::ManifestLabel => "manifest_label",
+            Code::ManifestItems => "manifest_items",
+            Code::ManifestCanvas { at: _ } => "manifest_canvas",
         }
     }
 }

@@ -6,13 +6,13 @@ pub use code::Code;
 pub use copy::TryCopy;
 pub use decimal::read_decimal;
 pub use list::List;
-pub use member::{member_count, text_in};
+pub use member::{has_type, member_count, text_in};
 pub use moment::{
     Moment, MomentError, moment_of, moment_text, moment_texts_are_ascii, moment_texts_are_unique,
     moments_read_back,
 };
 pub use name::{Name, NameError};
-pub use object::with_member;
+pub use object::{with_member, without_member};
 pub use span::{Prefer, Span, TermTotal};
 pub use steps::Steps;
 pub use text::Text;

@@ -1,7 +1,10 @@
-ghost use Rattle.std.specs.Prelude.{◌≡◌, option_map};
-ghost use Rattle.serde_json.specs.View.{view};
-ghost use Rattle.an_base.specs.Member.{text_in, member_count};
+ghost use Rattle.std.specs.Prelude.{◌≡◌, bytes_eq, option_map};
+ghost use Rattle.serde_json.specs.Find.{as_str};
+ghost use Rattle.serde_json.specs.View.{view, items_view};
+ghost use Rattle.an_base.specs.Outcome.{passes};
+ghost use Rattle.an_base.specs.Member.{text_in, member_count, has_item, has_type};
 
+use crate::tree::one_or_many;
 use serde_json::Value;
 
 /// The text that a member of an object is.
@@ -21,5 +24,35 @@ pub fn member_count(tree: &Value) -> usize
     match tree.as_object() {
         Some(members) => members.len(),
         None => 0,
+    }
+}
+
+/// Whether the member `type` is this name, or an array that has it.
+pub fn has_type(tree: &Value, name: &str) -> bool
+    ensures is { result ≡ has_type name.now (view tree.now) }
+{
+    match tree.get("type") {
+        Some(types) => has_item(one_or_many(types), name),
+        None => false,
+    }
+}
+
+fn has_item(items: &[Value], text: &str) -> bool
+    ensures { result ≡ has_item text.now (items_view items.now) }
+{
+    for item in items {
+        if is_text(item, text) {
+            return true;
+        }
+    }
+    false
+}
+
+fn is_text(tree: &Value, text: &str) -> bool
+    ensures { result ≡ passes (λ found. bytes_eq found text.now) (as_str (view tree.now)) }
+{
+    match tree.as_str() {
+        Some(found) => found == text,
+        None => false,
     }
 }

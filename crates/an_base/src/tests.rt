@@ -53,3 +53,36 @@ fn copies_are_equal(rt: HostRuntime) -> Result<(), Fail> {
     assert_eq!(rt; Code::ReaderToken.text(), "reader_token");
     Ok(())
 }
+
+#[test]
+fn members_are_put_and_taken_out(rt: HostRuntime) -> Result<(), Fail> {
+    let alloc = rt.alloc();
+    let tree = read_tree(alloc, b"{\"a\":1,\"b\":2,\"type\":[\"A\",\"B\"]}")?;
+    assert!(rt; has_type(&tree, "B"));
+    assert!(rt; !has_type(&tree, "C"));
+    assert_eq!(rt; member_count(&tree), 3);
+    let tree = with_member(alloc, tree, "type", read_tree(alloc, b"\"C\"")?)?;
+    let tree = without_member(without_member(tree, "a"), "z");
+    assert!(rt; has_type(&tree, "C"));
+    assert_eq!(rt; text_in(&tree, "type"), Some("C"));
+    assert!(rt; tree == read_tree(alloc, b"{\"type\":\"C\",\"b\":2}")?);
+    Ok(())
+}
+
+#[test]
+fn decimals_are_read(rt: HostRuntime) -> Result<(), Fail> {
+    for (text, greatest, number) in [
+        ("0", 9, Some(0)),
+        ("4294967295", u32::MAX, Some(u32::MAX)),
+        ("4294967296", u32::MAX, None),
+        ("100", 100, Some(100)),
+        ("101", 100, None),
+        ("01", 100, None),
+        ("", 100, None),
+        ("+1", 100, None),
+        ("1 ", 100, None),
+    ] {
+        assert_eq!(rt; read_decimal(text, greatest), number, "{text}");
+    }
+    Ok(())
+}
