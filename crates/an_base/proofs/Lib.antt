@@ -2,6 +2,7 @@ pub mod TreeLemmas
 pub mod TreeTexts
 pub mod TreeEquality
 pub mod ObjectLemmas
+pub mod ItemLemmas
 mod TreeRows
 pub mod DecimalLemmas
 pub mod MomentCalendar

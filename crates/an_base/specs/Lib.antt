@@ -8,3 +8,4 @@ pub mod TreeCode
 pub mod Moment
 pub mod TreeSame
 pub mod Object
+pub mod Items

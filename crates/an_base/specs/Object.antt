@@ -1,7 +1,5 @@
 -- JSON objects with members put into them, and taken out.
-use Rattle.std.specs.Prelude.{ℕ, List, Option, Some, None, if◌then◌else◌}
-use Rattle.std.specs.Cmp.Lexicographic.{slice_cmp}
-use Rattle.std.specs.Ordering.{nat_cmp, is_eq}
+use Rattle.std.specs.Prelude.{ℕ, List, Option, Some, None, bytes_eq, if◌then◌else◌}
 use Rattle.serde_json.specs.Data.{Data, null, boolean, number, string, array, object, Members, no_members, member, put}
 
 -- the object with this member, in place of one of its name; what is no object stays as it is
@@ -22,7 +20,7 @@ with_member_if name (Some value) tree = with_member name value tree
 abbrev pub without : List ℕ → Members → Members
 without name no_members = no_members
 without name (member other value members) =
-    if is_eq (slice_cmp nat_cmp name other) then members else member other value (without name members)
+    if bytes_eq name other then members else member other value (without name members)
 
 -- the object without the member of this name; what is no object stays as it is
 abbrev pub without_member : List ℕ → Data → Data

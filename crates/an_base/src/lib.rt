@@ -6,7 +6,7 @@ pub use code::Code;
 pub use copy::TryCopy;
 pub use decimal::read_decimal;
 pub use list::List;
-pub use member::{has_type, member_count, text_in};
+pub use member::{has_type, member_count, text_in, trees_in};
 pub use moment::{
     Moment, MomentError, moment_of, moment_text, moment_texts_are_ascii, moment_texts_are_unique,
     moments_read_back,

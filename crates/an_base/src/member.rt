@@ -1,6 +1,7 @@
 ghost use Rattle.std.specs.Prelude.{◌≡◌, bytes_eq, option_map};
 ghost use Rattle.serde_json.specs.Find.{as_str};
 ghost use Rattle.serde_json.specs.View.{view, items_view};
+ghost use Rattle.an_base.specs.Items.{trees_in};
 ghost use Rattle.an_base.specs.Outcome.{passes};
 ghost use Rattle.an_base.specs.Member.{text_in, member_count, has_item, has_type};
 
@@ -14,6 +15,17 @@ pub fn text_in<'a>(tree: &'a Value, name: &str) -> Option<&'a str>
     match tree.get(name) {
         Some(value) => value.as_str(),
         None => None,
+    }
+}
+
+/// What a member holds that may be absent, one value or an array of values: no values where it is
+/// absent. Takes no memory.
+pub fn trees_in<'a>(tree: &'a Value, name: &str) -> &'a [Value]
+    ensures trees { items_view result.now ≡ trees_in name.now (view tree.now) }
+{
+    match tree.get(name) {
+        Some(value) => one_or_many(value),
+        None => &[],
     }
 }
 
