@@ -1,8 +1,10 @@
 ghost use Rattle.std.specs.Prelude.{◌≡◌};
 ghost use Rattle.std.specs.Option.{option_copied};
 ghost use Rattle.an_keyed.specs.Key.{Key, same_key, same_owner};
+ghost use Rattle.an_keyed.specs.KeyHash.{key_hash};
 
 use an_base::Name;
+use std::hash::{DefaultHasher, Hash, Hasher};
 
 /// What is kept under a key: an owner, where it has one, and a name.
 pub trait Keyed {
@@ -31,5 +33,25 @@ fn is_same_owner(one: Option<&Name>, other: Option<&Name>) -> bool
             None => false,
             Some(other) => one == other,
         },
+    }
+}
+
+/// The hash of a key. Its seed is fixed.
+#[tactic(auto, unfolding(crate::specs::KeyHash::key_hash))]
+pub(crate) fn hash_of(owner: Option<&Name>, name: &Name) -> u64
+    ensures hash { result ≡ key_hash (record { owner = option_copied owner.entry; name = name.now }) }
+{
+    let mut hasher = DefaultHasher::new();
+    text_of(owner).hash(&mut hasher);
+    name.as_str().hash(&mut hasher);
+    hasher.finish()
+}
+
+fn text_of(owner: Option<&Name>) -> Option<&str>
+    ensures text { option_copied result ≡ option_copied owner.entry }
+{
+    match owner {
+        Some(owner) => Some(owner.as_str()),
+        None => None,
     }
 }

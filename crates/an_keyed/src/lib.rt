@@ -3,8 +3,11 @@
 
 pub use key::Keyed;
 pub use rows::Rows;
+pub use scanned::ScannedRows;
 
+mod hashes;
 mod key;
 mod rows;
+mod scanned;
 #[cfg(test)]
 mod tests;

@@ -1,9 +1,11 @@
-ghost use Rattle.std.specs.Prelude.{◌≡◌, ◌+◌, ◌<◌, ◌≤◌, [], OnOk, OnErr, position};
+ghost use Rattle.std.specs.Prelude.{◌≡◌, ◌+◌, ◌<◌, ◌≤◌, [], OnOk, map};
 ghost use Rattle.std.specs.Option.{option_copied};
-ghost use Rattle.an_keyed.specs.Key.{same_key};
+ghost use Rattle.an_keyed.specs.Index.{IsHashed};
+ghost use Rattle.an_keyed.specs.KeyHash.{key_hash};
 ghost use Rattle.an_keyed.specs.Rows.{place_of, row_of, put_row};
 
-use crate::key::{Keyed, has_key};
+use crate::hashes::Hashes;
+use crate::key::{Keyed, has_key, hash_of};
 use an_base::Name;
 use std::alloc::{AllocError, Global};
 use std::marker::Model;
@@ -11,20 +13,26 @@ use std::marker::Model;
 /// Rows under keys, in the order in which their keys came first. A row stays in its place for good.
 /// Contracts see the list of the rows, and for how many more there is memory.
 #[derive(Drop)]
-pub struct Rows<R> {
+pub struct Rows<R: Keyed> {
     rows: Vec<R>,
+    index: Hashes,
     room: usize,
 }
 
-impl<R> Model for Rows<R> {
-    ghost use Rattle.std.specs.Prelude.{◌+◌, ◌≤◌, vec_len, vec_capacity};
+impl<R: Keyed> Model for Rows<R> {
+    ghost use Rattle.std.specs.Prelude.{◌+◌, ◌≤◌, map, vec_len, vec_capacity};
+    ghost use Rattle.an_keyed.specs.Index.{IsHashed};
     ghost use Rattle.an_keyed.specs.Rows.{Kept};
 
     ghost Value = { Kept R };
 
     ghost view = { λ r. record { rows = r.rows.items; room = r.room } };
 
-    ghost invariant = { λ r. vec_len r.rows + r.room ≤ vec_capacity r.rows };
+    ghost invariant = { λ r. record {
+      hashed : IsHashed (map R.key r.rows.items) r.index.hashes;
+      rows : vec_len r.rows + r.room ≤ vec_capacity r.rows;
+      index : r.room ≤ r.index.room;
+    } };
 }
 
 impl<R: Keyed + Drop> Rows<R> {
@@ -35,6 +43,7 @@ impl<R: Keyed + Drop> Rows<R> {
     {
         Rows {
             rows: Vec::new(alloc),
+            index: Hashes::new(alloc),
             room: 0,
         }
     }
@@ -50,14 +59,20 @@ impl<R: Keyed + Drop> Rows<R> {
     pub fn place(&self, owner: Option<&Name>, name: &Name) -> Option<usize>
         ensures place { result ≡ place_of R.key (record { owner = option_copied owner.entry; name = name.now }) self.now.rows }
     {
-        place_in(self.rows.as_slice(), owner, name)
+        place_in(
+            self.rows.as_slice(),
+            &self.index,
+            hash_of(owner, name),
+            owner,
+            name,
+        )
     }
 
     /// The row with this key.
     pub fn find(&self, owner: Option<&Name>, name: &Name) -> Option<&R>
         ensures row { option_copied result ≡ row_of R.key (record { owner = option_copied owner.entry; name = name.now }) self.now.rows }
     {
-        match place_in(self.rows.as_slice(), owner, name) {
+        match self.place(owner, name) {
             None => None,
             Some(place) => self.rows.get(place),
         }
@@ -71,6 +86,7 @@ impl<R: Keyed + Drop> Rows<R> {
     {
         if self.room < more {
             self.rows.reserve(more)?;
+            self.index.make_room(more)?;
             self.room = more;
         }
         Ok(())
@@ -83,9 +99,17 @@ impl<R: Keyed + Drop> Rows<R> {
         ensures rows { self.new.rows ≡ put_row R.key row self.old.rows }
         ensures room { self.old.room ≤ self.new.room + 1 }
     {
-        let place = place_in(self.rows.as_slice(), row.owner(), row.name());
+        let hash = hash_of(row.owner(), row.name());
+        let place = place_in(
+            self.rows.as_slice(),
+            &self.index,
+            hash,
+            row.owner(),
+            row.name(),
+        );
         match place {
             None => {
+                self.index.push(hash);
                 self.rows.push_reserved(row);
                 self.room -= 1;
             }
@@ -94,8 +118,24 @@ impl<R: Keyed + Drop> Rows<R> {
     }
 }
 
-fn place_in<R: Keyed>(rows: &[R], owner: Option<&Name>, name: &Name) -> Option<usize>
+/// Where the row with this key stands, which is sought among the rows with the key's hash.
+fn place_in<R: Keyed>(
+    rows: &[R],
+    index: &Hashes,
+    hash: u64,
+    owner: Option<&Name>,
+    name: &Name,
+) -> Option<usize>
+    requires hashed { IsHashed (map R.key rows.now) index.now.hashes }
+    requires hash { hash ≡ key_hash (record { owner = option_copied owner; name = name.now }) }
     ensures place { result ≡ place_of R.key (record { owner = option_copied owner.entry; name = name.now }) rows.now }
 {
-    rows.iter().position(|row| has_key(row, owner, name))
+    let mut next = index.last(hash);
+    while let Some(place) = next {
+        if has_key(&rows[place], owner, name) {
+            return Some(place);
+        }
+        next = index.before(place);
+    }
+    None
 }
