@@ -1,0 +1,3 @@
+pub mod RegionLemmas
+mod RegionRows
+mod SelectorRows

@@ -1,0 +1,3 @@
+pub mod Selector
+pub mod Region
+pub mod Lent
