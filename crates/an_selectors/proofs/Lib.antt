@@ -1,3 +1,5 @@
+pub mod CutLemmas
+pub mod PlaceLemmas
 pub mod RegionLemmas
 mod RegionRows
 mod SelectorRows

@@ -1,3 +1,5 @@
 pub mod Selector
-pub mod Region
 pub mod Lent
+pub mod Region
+pub mod Places
+pub mod Walk

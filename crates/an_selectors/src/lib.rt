@@ -2,9 +2,16 @@
 #![tactic(auto)]
 
 pub use an_base::Span;
+pub use place::places;
+pub use quote::{Quote, quote_at};
 pub use region::{Xywh, read_region_numbers, read_xywh};
 pub use selector::{Selector, SelectorError, read_selector, selector_refusal};
 
+mod cut;
 mod lent;
+mod place;
+mod quote;
 mod region;
 mod selector;
+#[cfg(test)]
+mod tests;
