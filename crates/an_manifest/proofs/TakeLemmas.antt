@@ -1,0 +1,55 @@
+-- A member that is taken out of an object and put back with another value.
+use Rattle.std.proofs.Common.{◌≡◌, ℕ, List, true, Bool, Ordering, Less, Equal, Greater, nat_cmp, refl, sym, ap, ◌∙◌}
+use Rattle.std.proofs.lemmas.Bool.{and_from, and_parts}
+use Rattle.std.proofs.lemmas.Cmp.{nat_list_cmp_total}
+use Rattle.std.proofs.lemmas.Map.Text.{is_eq-slice_cmp}
+use Rattle.std.proofs.lemmas.Slice.Eq.{bytes_eq-Decides}
+use Rattle.std.specs.Cmp.Lexicographic.{slice_cmp}
+use Rattle.std.specs.List.{list_all}
+use Rattle.std.specs.Ordering.{is_eq, is_lt}
+use Rattle.serde_json.specs.Data.{Data, Members, no_members, member, put}
+use Rattle.an_base.specs.Object.{without}
+use Rattle.an_base.specs.Tree.{ascend, names}
+
+less : (o : Ordering) → is_lt o ≡ true → o ≡ Less
+less Less h = refl
+less Equal h = absurd (cc)
+less Greater h = absurd (cc)
+
+same_name : (name other : List ℕ) → slice_cmp nat_cmp name other ≡ Equal → name ≡ other
+same_name name other is = (bytes_eq-Decides name other).0 (sym (is_eq-slice_cmp name other) ∙ ap is_eq is)
+
+-- the name is below all names of the members
+abbrev is_below : List ℕ → Members → Bool
+is_below name members = list_all (λ later. is_lt (slice_cmp nat_cmp name later)) (names members)
+
+is_below-trans : (name other : List ℕ) (members : Members) → slice_cmp nat_cmp name other ≡ Less → is_below other members ≡ true → is_below name members ≡ true
+is_below-trans name other no_members less_than h = refl
+is_below-trans name other (member later value members) less_than h =
+    let parts = and_parts (is_lt (slice_cmp nat_cmp other later)) _ h in
+    and_from _ _ (ap is_lt (nat_list_cmp_total.trans name other later less_than (less _ parts.0))) (is_below-trans name other members less_than parts.1)
+
+put-below : (name : List ℕ) (value : Data) (members : Members) → is_below name members ≡ true → put name value members ≡ member name value members
+put-below name value no_members h = refl
+put-below name value (member later tree members) h = rw (less _ (and_parts (is_lt (slice_cmp nat_cmp name later)) _ h).0) refl
+
+without-below : (name : List ℕ) (members : Members) → is_below name members ≡ true → without name members ≡ members
+without-below name no_members h = refl
+without-below name (member later tree members) h =
+    let parts = and_parts (is_lt (slice_cmp nat_cmp name later)) _ h in
+    rw (less _ parts.0) (ap (member later tree) (without-below name members parts.1))
+
+put-without_at : (o : Ordering) (name other : List ℕ) (value tree : Data) (members : Members) → slice_cmp nat_cmp name other ≡ o → is_below other members ≡ true
+    → put name value (without name members) ≡ put name value members
+    → put name value (without name (member other tree members)) ≡ put name value (member other tree members)
+put-without_at Less name other value tree members is h later = let rest = without-below name members (is_below-trans name other members is h) in rw is (rw (is, rest))
+put-without_at Equal name other value tree members is h later =
+    let same = same_name name other is in
+    rw is (put-below name value members (ap (λ n. is_below n members) same ∙ h) ∙ ap (λ n. member n value members) same)
+put-without_at Greater name other value tree members is h later = rw is (rw is (ap (member other tree) later))
+
+pub put-without : (name : List ℕ) (value : Data) (members : Members) → ascend (names members) ≡ true → put name value (without name members) ≡ put name value members
+put-without name value no_members h = refl
+put-without name value (member other tree members) h =
+    let parts = and_parts (is_below other members) _ h in
+    put-without_at _ name other value tree members refl parts.0 (put-without name value members parts.1)

@@ -1,0 +1,3 @@
+pub mod Shape
+pub mod Manifest
+pub mod Dress

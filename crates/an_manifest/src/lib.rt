@@ -1,0 +1,10 @@
+//! Manifests of the IIIF Presentation API 3.0: their trees, their canvases, and how they are served.
+#![tactic(auto)]
+
+pub use dress::dress_manifest;
+pub use sheet::{Sheet, SheetError, read_manifest};
+
+mod dress;
+mod take;
+mod shape;
+mod sheet;
