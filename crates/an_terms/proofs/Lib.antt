@@ -1,3 +1,5 @@
+pub mod HtmlLemmas
+mod HtmlRows
 pub mod SpanLemmas
 pub mod TermsLemmas
 mod TermsRows

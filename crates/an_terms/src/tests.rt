@@ -1,4 +1,4 @@
-use crate::{occurrences, term_of};
+use crate::{occurrences, plain_of_html, term_of};
 use an_base::{Span, TryCopy};
 use std::test::Fail;
 
@@ -26,6 +26,29 @@ fn words_and_terms(rt: HostRuntime) -> Result<(), Fail> {
     }
     for word in ["STRASSE", "Straße", "strasse"] {
         assert_eq!(rt; term_of(rt.alloc(), word)?.as_str(), "strasse", "of {word}");
+    }
+    Ok(())
+}
+
+#[test]
+fn plain_texts_of_html(rt: HostRuntime) -> Result<(), Fail> {
+    for (html, want) in [
+        ("", ""),
+        ("1<2", "1<2"),
+        ("a<br>b", "a b"),
+        ("a<b>heron</b>s", "a heron s"),
+        ("a<b<c>d", "a d"),
+        ("héron<br/>ö", "héron ö"),
+        ("<>", " "),
+        (">", ">"),
+        ("a>b<c", "a>b<c"),
+        ("<i>a</i>&amp;<", " a &amp;<"),
+    ] {
+        assert_eq!(rt;
+            plain_of_html(rt.alloc(), html)?.as_str(),
+            want,
+            "of {html}"
+        );
     }
     Ok(())
 }
