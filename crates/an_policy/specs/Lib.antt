@@ -1,2 +1,3 @@
 pub mod Audience
 pub mod Reader
+pub mod Seen

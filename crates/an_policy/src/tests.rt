@@ -122,3 +122,22 @@ fn sees(rt: &impl Abort, alloc: Global, mara: &Reader) -> Result<(), Fail> {
     assert!(rt; caller.copy()? == caller);
     Ok(())
 }
+
+#[test]
+fn changes_are_seen_by_audiences(rt: HostRuntime) -> Result<(), Fail> {
+    let alloc = rt.alloc();
+    let shown = audience(alloc, "public", "public")?;
+    let hidden = audience(alloc, "public", "a")?;
+    for (before, after, kind) in [
+        (None, Some(&shown), Some(Kind::Create)),
+        (Some(&hidden), Some(&shown), Some(Kind::Create)),
+        (Some(&shown), Some(&shown), Some(Kind::Update)),
+        (Some(&shown), Some(&hidden), Some(Kind::Delete)),
+        (Some(&shown), None, Some(Kind::Delete)),
+        (Some(&hidden), Some(&hidden), None),
+        (None, None, None),
+    ] {
+        assert_eq!(rt; as_seen(&Who::Anonymous, before, after), kind);
+    }
+    Ok(())
+}
