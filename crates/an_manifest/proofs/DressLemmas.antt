@@ -9,10 +9,11 @@ use Rattle.serde_json.specs.View.{view, items_view}
 use Rattle.serde_json.specs.Written.{has_float, items_have_float, members_have_float}
 use Rattle.serde_json.specs.declared.value.Value.{Value}
 use Rattle.an_base.specs.Tree.{one_or_many}
+use Rattle.an_base.specs.Items.{many_if}
 use Rattle.an_base.specs.Object.{with_member}
 use Rattle.an_base.proofs.ObjectLemmas.{has_float-with_member}
 use Rattle.an_manifest.specs.Manifest.{array_in, canvases_in}
-use Rattle.an_manifest.specs.Dress.{values_in, with_last, with_one_more, with_canvas_pages, manifest_iri, search_service, contexts, canvas_page, dressed_canvases, dressed}
+use Rattle.an_manifest.specs.Dress.{with_last, with_one_more, with_canvas_pages, manifest_iri, search_service, contexts, canvas_page, dressed_canvases, dressed}
 
 -- an item that is pushed is the last
 pub items_view-push : (values : List Value) (value : Value) → items_view (values ++ value ∷ []) ≡ with_last (view value) (items_view values)
@@ -84,9 +85,9 @@ has_float-one_or_many (string text) h = refl
 has_float-one_or_many (array items) h = h
 has_float-one_or_many (object members) h = or_from _ false h refl
 
-has_float-values_in : (found : Option Data) → HasNone found → items_have_float (values_in found) ≡ false
-has_float-values_in None h = refl
-has_float-values_in (Some tree) h = has_float-one_or_many tree h
+has_float-many_if : (found : Option Data) → HasNone found → items_have_float (many_if found) ≡ false
+has_float-many_if None h = refl
+has_float-many_if (Some tree) h = has_float-one_or_many tree h
 
 has_float-array_in : (found : Option Data) → HasNone found → items_have_float (array_in found) ≡ false
 has_float-array_in None h = refl
@@ -105,8 +106,8 @@ has_float-with_last value (item first items) v h =
 
 has_float-with_one_more : (name : List ℕ) (value tree : Data) → has_float value ≡ false → has_float tree ≡ false → has_float (with_one_more name value tree) ≡ false
 has_float-with_one_more name value tree v t =
-    has_float-with_member name (array (with_last value (values_in (get name tree)))) tree
-    (has_float-with_last value (values_in (get name tree)) v (has_float-values_in (get name tree) (HasNone-get name tree t))) t
+    has_float-with_member name (array (with_last value (many_if (get name tree)))) tree
+    (has_float-with_last value (many_if (get name tree)) v (has_float-many_if (get name tree) (HasNone-get name tree t))) t
 
 has_float-dressed_canvases : (base name : List ℕ) (n : ℕ) (canvases : Items) → items_have_float canvases ≡ false → items_have_float (dressed_canvases base name n canvases) ≡ false
 has_float-dressed_canvases base name n no_items h = refl

@@ -1,5 +1,5 @@
 -- A member that is taken out of an object and put back with another value.
-use Rattle.std.proofs.Common.{◌≡◌, ℕ, List, true, Bool, Ordering, Less, Equal, Greater, nat_cmp, refl, sym, ap, ◌∙◌}
+use Rattle.std.proofs.Common.{◌≡◌, ℕ, List, true, Bool, bytes_eq, Ordering, Less, Equal, Greater, nat_cmp, refl, sym, ap, ◌∙◌}
 use Rattle.std.proofs.lemmas.Bool.{and_from, and_parts}
 use Rattle.std.proofs.lemmas.Cmp.{nat_list_cmp_total}
 use Rattle.std.proofs.lemmas.Map.Text.{is_eq-slice_cmp}
@@ -19,6 +19,10 @@ less Greater h = absurd (cc)
 same_name : (name other : List ℕ) → slice_cmp nat_cmp name other ≡ Equal → name ≡ other
 same_name name other is = (bytes_eq-Decides name other).0 (sym (is_eq-slice_cmp name other) ∙ ap is_eq is)
 
+-- whether two names are the same, by how they compare
+by_order : (o : Ordering) (name other : List ℕ) → slice_cmp nat_cmp name other ≡ o → bytes_eq name other ≡ is_eq o
+by_order o name other is = sym (is_eq-slice_cmp name other) ∙ ap is_eq is
+
 -- the name is below all names of the members
 abbrev is_below : List ℕ → Members → Bool
 is_below name members = list_all (λ later. is_lt (slice_cmp nat_cmp name later)) (names members)
@@ -37,16 +41,16 @@ without-below : (name : List ℕ) (members : Members) → is_below name members 
 without-below name no_members h = refl
 without-below name (member later tree members) h =
     let parts = and_parts (is_lt (slice_cmp nat_cmp name later)) _ h in
-    rw (less _ parts.0) (ap (member later tree) (without-below name members parts.1))
+    rw (by_order Less name later (less _ parts.0)) (ap (member later tree) (without-below name members parts.1))
 
 put-without_at : (o : Ordering) (name other : List ℕ) (value tree : Data) (members : Members) → slice_cmp nat_cmp name other ≡ o → is_below other members ≡ true
     → put name value (without name members) ≡ put name value members
     → put name value (without name (member other tree members)) ≡ put name value (member other tree members)
-put-without_at Less name other value tree members is h later = let rest = without-below name members (is_below-trans name other members is h) in rw is (rw (is, rest))
+put-without_at Less name other value tree members is h later = let rest = without-below name members (is_below-trans name other members is h) in rw (by_order Less name other is, rest)
 put-without_at Equal name other value tree members is h later =
     let same = same_name name other is in
-    rw is (put-below name value members (ap (λ n. is_below n members) same ∙ h) ∙ ap (λ n. member n value members) same)
-put-without_at Greater name other value tree members is h later = rw is (rw is (ap (member other tree) later))
+    rw (by_order Equal name other is, is) (put-below name value members (ap (λ n. is_below n members) same ∙ h) ∙ ap (λ n. member n value members) same)
+put-without_at Greater name other value tree members is h later = rw (by_order Greater name other is, is) (ap (member other tree) later)
 
 pub put-without : (name : List ℕ) (value : Data) (members : Members) → ascend (names members) ≡ true → put name value (without name members) ≡ put name value members
 put-without name value no_members h = refl

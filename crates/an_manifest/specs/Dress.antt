@@ -1,16 +1,10 @@
 -- The tree by which a manifest is served: the one that is kept, with its IRI, the search in the annotations on it (IIIF Content
 -- Search API 2.0, section 3.1) and, in each canvas, the page of the annotations on it (IIIF Presentation API 3.0, section 5.3).
-use Rattle.std.specs.Prelude.{ℕ, ◌+◌, List, ◌++◌, codes, decimal, Option, Some, None}
+use Rattle.std.specs.Prelude.{ℕ, ◌+◌, List, ◌++◌, codes, decimal}
 use Rattle.serde_json.specs.Data.{Data, string, array, object, Items, no_items, item, member, no_members}
-use Rattle.serde_json.specs.Find.{get}
+use Rattle.an_base.specs.Items.{trees_in}
 use Rattle.an_base.specs.Object.{with_member}
-use Rattle.an_base.specs.Tree.{one_or_many}
 use Rattle.an_manifest.specs.Manifest.{canvases_in}
-
--- the values of a member that may be absent, one or many
-abbrev pub values_in : Option Data → Items
-values_in None = no_items
-values_in (Some kept) = one_or_many kept
 
 -- the items, and one behind them
 abbrev pub with_last : Data → Items → Items
@@ -19,7 +13,7 @@ with_last value (item first items) = item first (with_last value items)
 
 -- the object with one value more behind those of its member
 abbrev pub with_one_more : List ℕ → Data → Data → Data
-with_one_more name value tree = with_member name (array (with_last value (values_in (get name tree)))) tree
+with_one_more name value tree = with_member name (array (with_last value (trees_in name tree))) tree
 
 -- the IRI of a manifest
 abbrev pub manifest_iri : List ℕ → List ℕ → List ℕ

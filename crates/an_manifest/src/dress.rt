@@ -2,13 +2,14 @@ ghost use Rattle.std.specs.Prelude.{◌≡◌, ◌++◌, [], ◌∷◌, false, c
 ghost use Rattle.serde_json.specs.Data.{string, array};
 ghost use Rattle.serde_json.specs.View.{view, items_view};
 ghost use Rattle.serde_json.specs.Written.{has_float};
+ghost use Rattle.an_base.specs.Items.{many_if};
 ghost use Rattle.an_base.specs.Object.{with_member};
 ghost use Rattle.an_base.specs.Tree.{one_or_many};
 ghost use Rattle.an_manifest.specs.Manifest.{array_in};
-ghost use Rattle.an_manifest.specs.Dress.{values_in, with_last, with_one_more, manifest_iri, complete_iri, search_iri, canvas_page_iri, complete_service, search_service, canvas_page, dressed_canvases, with_canvas_pages, contexts, dressed};
+ghost use Rattle.an_manifest.specs.Dress.{with_last, with_one_more, manifest_iri, complete_iri, search_iri, canvas_page_iri, complete_service, search_service, canvas_page, dressed_canvases, with_canvas_pages, contexts, dressed};
 
-use crate::take::take_member;
 use crate::sheet::Sheet;
+use crate::take::take_member;
 use an_base::{Name, with_member};
 use serde_json::{Value, json};
 use std::alloc::{AllocError, Global};
@@ -172,12 +173,7 @@ fn canvas_page_iri(
 }
 
 /// The object with one value more behind those of its member, which may be absent, one or many.
-fn with_one_more(
-    alloc: Global,
-    tree: Value,
-    name: &str,
-    value: Value,
-) -> Result<Value, AllocError>
+fn with_one_more(alloc: Global, tree: Value, name: &str, value: Value) -> Result<Value, AllocError>
     ensures { IfOk result (λ v. view v ≡ with_one_more name.now (view value) (view tree)) }
 {
     let (rest, kept) = take_member(tree, name);
@@ -189,7 +185,7 @@ fn with_one_more(
 #[tactic(auto, using(crate::proofs::DressLemmas::pushing))]
 fn with_last(alloc: Global, kept: Option<Value>, value: Value) -> Result<Vec<Value>, AllocError>
     ensures { IfOk result (λ v. items_view v.items
-        ≡ with_last (view value) (values_in (option_map view kept))) }
+        ≡ with_last (view value) (many_if (option_map view kept))) }
 {
     let mut values = values_in(alloc, kept)?;
     values.push(value)?;
@@ -198,7 +194,7 @@ fn with_last(alloc: Global, kept: Option<Value>, value: Value) -> Result<Vec<Val
 
 /// The values of a member that may be absent, one or many.
 fn values_in(alloc: Global, kept: Option<Value>) -> Result<Vec<Value>, AllocError>
-    ensures { IfOk result (λ v. items_view v.items ≡ values_in (option_map view kept)) }
+    ensures { IfOk result (λ v. items_view v.items ≡ many_if (option_map view kept)) }
 {
     match kept {
         Some(value) => into_one_or_many(alloc, value),

@@ -2,9 +2,9 @@
 #![tactic(auto)]
 
 pub use dress::dress_manifest;
-pub use sheet::{Sheet, SheetError, read_manifest};
+pub use sheet::{Sheet, SheetError, manifest_refusal, read_manifest};
 
 mod dress;
-mod take;
 mod shape;
 mod sheet;
+mod take;

@@ -91,7 +91,7 @@ pub fn read_manifest(alloc: Global, tree: &Value) -> Result<Sheet, SheetError>
     requires tree { IsTrue (is_tree (view tree.now)) }
     ensures sheet { Gives (λ s. s) SheetError.Memory result (manifest_of (view tree.now)) }
 {
-    if let Some(refusal) = refusal_of(tree) {
+    if let Some(refusal) = manifest_refusal(tree) {
         return Err(refusal);
     }
     match keep(alloc, tree) {
@@ -100,10 +100,10 @@ pub fn read_manifest(alloc: Global, tree: &Value) -> Result<Sheet, SheetError>
     }
 }
 
-/// The first refusal of a tree as a manifest.
+/// The first refusal of a tree as a manifest. Takes no memory.
 #[tactic(auto, using(crate::proofs::ManifestLemmas::counting), unfolding(crate::specs::Manifest::manifest_refusals))]
-fn refusal_of(tree: &Value) -> Option<SheetError>
-    ensures { result ≡ first_of (manifest_refusals (view tree.now)) }
+pub fn manifest_refusal(tree: &Value) -> Option<SheetError>
+    ensures refusal { result ≡ first_of (manifest_refusals (view tree.now)) }
 {
     if is_version_2(tree) {
         return Some(SheetError::Version2);
@@ -134,10 +134,7 @@ fn keep(alloc: Global, tree: &Value) -> Result<Sheet, AllocError>
     let canvases = canvas_ids(alloc, canvases_in(tree))?;
     let named = without_member(tree.clone()?, "@context");
     let tree = Tree::new(without_member(named, "id"));
-    Ok(Sheet {
-        tree,
-        canvases,
-    })
+    Ok(Sheet { tree, canvases })
 }
 
 fn canvas_ids(alloc: Global, canvases: &[Value]) -> Result<List<Text>, AllocError>
