@@ -1,7 +1,7 @@
 -- The codes of refusals, as they are printed.
 use Rattle.std.specs.Prelude.{ℕ, List, codes}
 use Rattle.an_base.specs.declared.code.Code.{Code}
-use Rattle.an_base.specs.declared.code.Code.TheVariants.{Line, Input, Unbuilt, Absent, Group, ReaderToken, ReaderRole, ReaderUser, ReaderGroups, Json, NotWhole, Deep, NoteType, NoteTarget, NoteBody, NoteMotivation, NoteSelector, ManifestVersion2, ManifestType, ManifestLabel, ManifestItems, ManifestCanvas}
+use Rattle.an_base.specs.declared.code.Code.TheVariants.{Line, Input, Unbuilt, Absent, Group, ReaderToken, ReaderRole, ReaderUser, ReaderGroups, Json, NotWhole, Deep, NoteType, NoteTarget, NoteBody, NoteMotivation, NoteSelector, ManifestVersion2, ManifestType, ManifestLabel, ManifestItems, ManifestCanvas, NotSigned, NotWriter, NotOwn, NotMember, GroupFixed, TokenTaken, Version, Gone}
 
 abbrev pub code_text : Code → List ℕ
 code_text Line = codes "line"
@@ -26,3 +26,11 @@ code_text ManifestType = codes "manifest_type"
 code_text ManifestLabel = codes "manifest_label"
 code_text ManifestItems = codes "manifest_items"
 code_text (ManifestCanvas at) = codes "manifest_canvas"
+code_text NotSigned = codes "not_signed"
+code_text NotWriter = codes "not_writer"
+code_text NotOwn = codes "not_own"
+code_text NotMember = codes "not_member"
+code_text GroupFixed = codes "group_fixed"
+code_text TokenTaken = codes "token_taken"
+code_text (Version current) = codes "version"
+code_text Gone = codes "gone"

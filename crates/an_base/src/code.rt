@@ -2,7 +2,7 @@ ghost use Rattle.std.specs.Prelude.{◌≡◌};
 ghost use Rattle.an_base.specs.Code.{code_text};
 
 /// Why a request or a line was refused, for whoever sent it. `at` is the place of what is malformed,
-/// from 0.
+/// from 0; `current` is the number that the object has.
 #[derive(Clone, Copy, Debug, PartialEq, Eq)]
 pub enum Code {
     /// The line isn't UTF-8, or hasn't the words of a line.
@@ -49,6 +49,22 @@ pub enum Code {
     ManifestItems,
     /// This item is no canvas with an IRI and a size.
     ManifestCanvas { at: usize },
+    /// Nobody signed, or no live reader has the token or name.
+    NotSigned,
+    /// The caller may not write such an object.
+    NotWriter,
+    /// The annotation isn't the caller's.
+    NotOwn,
+    /// The caller is no member of the group.
+    NotMember,
+    /// The manifest has another group.
+    GroupFixed,
+    /// Another live reader has the token.
+    TokenTaken,
+    /// The number is neither the next one nor that of the same write.
+    Version { current: u32 },
+    /// The annotation was there for the caller, and isn't any more.
+    Gone,
 }
 
 impl Code {
@@ -79,6 +95,14 @@ impl Code {
             Code::ManifestLabel => "manifest_label",
             Code::ManifestItems => "manifest_items",
             Code::ManifestCanvas { at: _ } => "manifest_canvas",
+            Code::NotSigned => "not_signed",
+            Code::NotWriter => "not_writer",
+            Code::NotOwn => "not_own",
+            Code::NotMember => "not_member",
+            Code::GroupFixed => "group_fixed",
+            Code::TokenTaken => "token_taken",
+            Code::Version { current: _ } => "version",
+            Code::Gone => "gone",
         }
     }
 }
