@@ -1,0 +1,43 @@
+# Sourced by the benchmarks: builds the program, and measures its runs.
+top=$(cd "$(dirname "$0")/.." && pwd)
+"$top/anno" - find http://a.example 10 </dev/null
+program=$top/crates/anno/out/anno
+work=$(mktemp -d)
+trap 'rm -rf "$work"' EXIT
+
+# Two lines that every input begins with: a reader and a manifest.
+beginning() {
+  printf '%s\n' \
+    '2024-05-01T10:00:00Z - PUT /readers/mara?version=1 {"groups":["a"],"role":"writer","token":"tok-mara","user":"http://a.example/u/mara"}' \
+    '2024-05-01T10:00:00Z - PUT /manifests/m1?version=1&group=public {"items":[{"height":100,"id":"http://a.example/c1","type":"Canvas","width":80}],"label":{"en":["Log"]},"type":"Manifest"}'
+}
+
+# Runs the program on the input, and sets `status`, `micros` and `peak`, the most memory in KiB that it
+# used. It is asked again and again, since a short run is over before another program could look.
+measure() {
+  local start=${EPOCHREALTIME/./} end=$((SECONDS + 120)) job state
+  "$program" - find http://a.example 10 <"$work/input" >"$work/output" &
+  job=$!
+  peak=0
+  status=0
+  while mapfile -t state <"/proc/$job/status"; do
+    if [[ ${state[*]} =~ VmHWM:[[:space:]]*([0-9]+) ]]; then peak=${BASH_REMATCH[1]}; fi
+    if ((SECONDS >= end)); then kill "$job" || true; fi
+  done 2>/dev/null
+  wait "$job" || status=$?
+  micros=$((${EPOCHREALTIME/./} - start))
+}
+
+# Prints the figures of the last run, of so many annotations; the second is the time of a run of a
+# tenth of them, or 0.
+report() {
+  if [ "$status" -ne 0 ]; then
+    echo "$1 annotations: ended after two minutes (status $status)"
+    return
+  fi
+  awk -v n="$1" -v l="$(wc -l <"$work/input")" -v t="$micros" -v m="$((peak * 1024))" -v b="$(stat -c %s "$work/input")" -v f="$2" 'BEGIN {
+    printf "%d annotations: %.3f s, %d lines a second, peak %.1f MB, %.1f times the input of %.1f MB", n, t / 1e6, l * 1e6 / t, m / 1e6, m / b, b / 1e6
+    if (f > 0) printf ", %.1f times the time of a tenth", t / f
+    print ""
+  }'
+}
