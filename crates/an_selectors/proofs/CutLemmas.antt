@@ -1,6 +1,6 @@
 -- Texts and their code points, cut at points.
-use Rattle.std.proofs.Common.{◌≡◌, ℕ, zero, suc, ◌+◌, ◌-◌, ◌<◌, ◌≤◌, Bool, true, false, ◌&&◌, eqb, List, [], ◌∷◌, ◌++◌, Bor, length, take, drop, slice_range, Option, Some, None, MatchOption, MatchBool, refl, sym, ap, ◌∙◌, subst, append_assoc, length-append, arith}
-use Rattle.std.proofs.lemmas.Bool.{false≢true, false_from_ne_true}
+use Rattle.std.proofs.Common.{◌≡◌, ℕ, ◌+◌, ◌-◌, ◌<◌, ◌≤◌, Bool, true, false, eqb, List, [], ◌++◌, length, take, drop, slice_range, None, refl, sym, ap, ◌∙◌, subst, length-append, arith}
+use Rattle.std.proofs.lemmas.Bool.{false_from_ne_true}
 use Rattle.std.proofs.lemmas.Bool.Decides.{Decides-eqb}
 use Rattle.std.proofs.lemmas.List.{take-append-drop, take_at, drop_at, drop-drop, length-take-le, length-drop, take-append-le, nil_from_length, drop_all, append_cancel_right}
 use Rattle.std.proofs.lemmas.Slice.Eq.{starts_is, ends_is}
@@ -113,11 +113,11 @@ lacks-stands : (exact text : List ℕ) (k : ℕ) → IsUtf8 exact → IsUtf8 tex
     → starts_with eqb (drop k (chars text)) (chars exact) ≡ false
 lacks-stands exact text k v u lacks =
     false_from_ne_true _ (λ is.
-      let rest = drop (length (chars exact)) (drop k (chars text)) in
-      lacks (encode_utf8_all rest)
-      (ap (drop (length (encode_utf8_all (take k (chars text))))) (encodes_cut text k u) ∙ drop_at (encode_utf8_all (take k (chars text))) (encode_utf8_all (drop k (chars text))) _ refl
-      ∙ ap encode_utf8_all (starts_parts (drop k (chars text)) (chars exact) is) ∙ encodes-append (chars exact) rest
-      ∙ ap (λ t. t ++ encode_utf8_all rest) (encodes-chars exact v)))
+    let rest = drop (length (chars exact)) (drop k (chars text)) in
+    lacks (encode_utf8_all rest)
+    (ap (drop (length (encode_utf8_all (take k (chars text))))) (encodes_cut text k u) ∙ drop_at (encode_utf8_all (take k (chars text))) (encode_utf8_all (drop k (chars text))) _ refl
+    ∙ ap encode_utf8_all (starts_parts (drop k (chars text)) (chars exact) is) ∙ encodes-append (chars exact) rest
+    ∙ ap (λ t. t ++ encode_utf8_all rest) (encodes-chars exact v)))
 
 -- the byte at which a code point begins, before a byte at which the text may be cut
 begins_before : (text : List ℕ) (k at : ℕ) → IsUtf8 text → IsCharBoundary text at → k < length (chars (take at text)) → length (encode_utf8_all (take k (chars text))) < at
@@ -218,3 +218,8 @@ IsRestOf-front text rest front count u is e =
     append_cancel_right (chars front) (take count (chars text)) (drop count (chars text))
     (ap (λ t. chars t ++ drop count (chars text)) e ∙ ap (λ t. chars (take at text) ++ t) (sym is.points ∙ ap chars is.bytes)
     ∙ sym (chars_cut text at u is.boundary) ∙ sym (take-append-drop count (chars text)))
+
+pub IsRestOf-text : (text rest front : List ℕ) (count : ℕ) → IsUtf8 text → IsRestOf text count rest → front ≡ take (length text - length rest) text → front ≡ encode_utf8_all (take count (chars text))
+IsRestOf-text text rest front count u is e =
+    let v = subst IsUtf8 (sym e) (IsUtf8-take text (length text - length rest) u is.boundary) in
+    sym (encodes-chars front v) ∙ ap encode_utf8_all (IsRestOf-front text rest front count u is e)

@@ -1,15 +1,15 @@
 -- What the walk from place to place keeps.
-use Rattle.std.proofs.Common.{◌≡◌, if◌then◌else◌, ℕ, zero, suc, ◌+◌, ◌-◌, ◌<◌, ◌≤◌, Bool, true, false, ◌&&◌, cond, eqb, List, [], ◌∷◌, ◌++◌, length, map, filter, take, drop, refl, sym, ap, ◌∙◌, subst, append_assoc, append-nil, length-append, arith}
-use Rattle.std.proofs.lemmas.Bool.{cond-true, cond-false, and_left, cond_both, ne_eqb}
+use Rattle.std.proofs.Common.{◌≡◌, if◌then◌else◌, ℕ, zero, suc, ◌+◌, ◌-◌, ◌<◌, ◌≤◌, Bool, true, false, ◌&&◌, eqb, List, [], ◌∷◌, ◌++◌, length, map, filter, take, drop, refl, sym, ap, ◌∙◌, append_assoc, append-nil, length-append, arith}
+use Rattle.std.proofs.lemmas.Bool.{cond-true, cond-false, and_left, ne_eqb}
 use Rattle.std.proofs.lemmas.List.{drop-drop, drop_at, length-drop}
 use Rattle.std.proofs.lemmas.Str.{chars-append, chars-nil, IsCharBoundary-start}
 use Rattle.std.specs.List.{starts_with, ends_with, range_with_len}
-use Rattle.std.specs.Str.{chars, IsUtf8, IsCharBoundary}
+use Rattle.std.specs.Str.{chars, IsUtf8}
 use Rattle.an_base.specs.declared.span.Span.{Span}
 use Rattle.an_selectors.specs.declared.cut.Point.{Point}
 use Rattle.an_selectors.specs.Places.{is_place, span_from, places_of_quote}
 use Rattle.an_selectors.specs.Walk.{IsPointOf, StandsNowhere, IsNext}
-use Rattle.an_selectors.proofs.CutLemmas.{drop-number, take-number, starts_from, length-chars}
+use Rattle.an_selectors.proofs.CutLemmas.{drop-number, take-number, starts_from}
 
 -- what no number of a range passes is filtered away
 filter_skip : (test : ℕ → Bool) (k a n : ℕ) → ((j : ℕ) → a ≤ j → j < a + k → test j ≡ false) → filter test (range_with_len a (k + n)) ≡ filter test (range_with_len (a + k) n)
@@ -81,7 +81,7 @@ module _ (exact prefix suffix text : List ℕ) where
       let left = length (chars text) - point.number in
       let whole : left ≡ left + 0 = omega arith in
       let none = ap (λ n. filter test (range_with_len point.number n)) whole
-          ∙ filter_skip test left point.number 0 (λ j low high. and_left _ _ (nowhere j low (omega arith))) in
+      ∙ filter_skip test left point.number 0 (λ j low high. and_left _ _ (nowhere j low (omega arith))) in
       sym (append-nil found) ∙ ap (λ starts. found ++ map (span_from (length (chars exact))) starts) (sym none) ∙ come.so_far
 
   -- from place to place of the exact text

@@ -1,4 +1,4 @@
-ghost use Rattle.std.specs.Prelude.{◌≡◌, ◌+◌, ◌<◌, ◌≤◌, ◌++◌, ◌&&◌, nat_eq, length, take, drop, chars, MatchOption};
+ghost use Rattle.std.specs.Prelude.{◌≡◌, ◌+◌, ◌<◌, ◌≤◌, ◌&&◌, nat_eq, length, take, drop, chars, encode_utf8_all, MatchOption};
 ghost use Rattle.std.specs.List.{starts_with, ends_with};
 ghost use Rattle.std.specs.Str.{IsCharBoundary};
 ghost use Rattle.an_selectors.specs.Walk.{IsPointOf, IsNext, IsRestOf, StandsNowhere};
@@ -21,7 +21,7 @@ pub(crate) fn char_count(text: &str) -> usize
 
 /// A text up to a number of code points, or to its end, and what follows them.
 pub(crate) fn cut_behind(text: &str, count: usize) -> (&str, &str)
-    ensures whole { result.0.now ++ result.1.now ≡ text.now }
+    ensures text { result.0.now ≡ encode_utf8_all (take count (chars text.now)) }
     ensures front { chars result.0.now ≡ take count (chars text.now) }
     ensures back { chars result.1.now ≡ drop count (chars text.now) }
 {

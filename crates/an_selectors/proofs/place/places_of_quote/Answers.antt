@@ -1,4 +1,4 @@
-use Rattle.std.proofs.Common.{◌≡◌, ◌<◌, ◌≤◌, length, ap, subst, sym, ◌∙◌, arith}
+use Rattle.std.proofs.Common.{◌≡◌, ◌<◌, length, sym, ◌∙◌, arith}
 use Rattle.std.proofs.lemmas.Bool.{cond-true, eq-eqb}
 use Rattle.std.specs.Str.{chars}
 use Rattle.an_selectors.specs.Places.{places_of_quote}
@@ -29,14 +29,14 @@ loop-point-preserved c =
     let behind = c.point_behind-from in
     let some : 0 < length (chars c.args.exact.now) = omega (arith, c.char_count-width.ensures.count) in
     elim c.if-is_between.branch [
-      then-is_between+in_ok-push w ↦
-        rw (w.found-is, w.in_ok-push.ensures.items, c.char_count-width.ensures.count)
-        (HasCome-place c.args.exact.now c.args.prefix.now c.args.suffix.now c.args.text.now c.loop-point.from point behind.result c.utf8.exact c.utf8.text c.in-Some.ensures some
-        behind.ensures.is behind.ensures.next _ c.loop-point.invariant (sym c.is_between.ensures ∙ w.if-is_between.true))
-    | else-is_between w ↦
-        rw w.found-is
-        (HasCome-other c.args.exact.now c.args.prefix.now c.args.suffix.now c.args.text.now c.loop-point.from point behind.result c.utf8.exact c.utf8.text c.in-Some.ensures some
-        behind.ensures.is behind.ensures.next _ c.loop-point.invariant (sym c.is_between.ensures ∙ w.if-is_between.false))
+      | then-is_between+in_ok-push w ↦
+          rw (w.found-is, w.in_ok-push.ensures.items, c.char_count-width.ensures.count)
+          (HasCome-place c.args.exact.now c.args.prefix.now c.args.suffix.now c.args.text.now c.loop-point.from point behind.result c.utf8.exact c.utf8.text c.in-Some.ensures some
+          behind.ensures.is behind.ensures.next _ c.loop-point.invariant (sym c.is_between.ensures ∙ w.if-is_between.true))
+      | else-is_between w ↦
+          rw w.found-is
+          (HasCome-other c.args.exact.now c.args.prefix.now c.args.suffix.now c.args.text.now c.loop-point.from point behind.result c.utf8.exact c.utf8.text c.in-Some.ensures some
+          behind.ensures.is behind.ensures.next _ c.loop-point.invariant (sym c.is_between.ensures ∙ w.if-is_between.false))
     ]
 
 pub returns : goal.returns

@@ -1,12 +1,17 @@
-use Rattle.std.proofs.Common.{rules, ◌≡◌, ◌<◌, IfOk, Contains, ℕ, ◌+◌, ◌-◌, ◌*◌, ◌≤◌, length, ◌/◌, ◌%◌, Bool, true, false, nat_eq, nat_lt, List, [], ◌∷◌, ◌++◌, slice_index_or, slice_set, bit_and, bit_or, Fits, w8, w32, w64, Bor, MutBor}
-use Rattle.an_selectors.specs.Places.{LiesIn, places_of, quote_of_span}
-use Rattle.an_selectors.specs.declared.selector.Selector.TheVariants as selector
+use Rattle.std.proofs.Common.{◌∙◌, ap}
+use Rattle.std.specs.Str.{chars}
+use Rattle.an_selectors.proofs.QuoteLemmas.{quote_of_parts, Contains-parts}
 use Rattle.an_selectors.proofs.quote.quote_at.Goals as goal
 
--- src/quote.rt:30:1
 pub returns-clause-quote : goal.returns-clause-quote
-returns-clause-quote c = ?
+returns-clause-quote c =
+    quote_of_parts c.args.text.now c.args.span c.args.around c.saturating_sub.result c.min.result
+    _ _ _ c.requires.lies_in.0 c.saturating_sub.ensures c.min.ensures c.cut_behind.ensures.back c.cut_behind-2.ensures.back c.cut_behind-3.ensures.back
+    _ _ _ (c.in_ok-new.ensures.value ∙ c.cut_behind-3.ensures.text) (c.in_ok-new-2.ensures.value ∙ c.cut_behind-2.ensures.text) (c.in_ok-new-3.ensures.value ∙ c.cut_behind-4.ensures.text)
 
--- src/quote.rt:30:1
 pub returns-clause-selected : goal.returns-clause-selected
-returns-clause-selected c = ?
+returns-clause-selected c some =
+    Contains-parts c.args.text.now c.args.span c.args.around c.saturating_sub.result c.min.result
+    _ _ _ c.requires.lies_in.0 c.saturating_sub.ensures c.min.ensures c.cut_behind.ensures.back c.cut_behind-2.ensures.back c.cut_behind-3.ensures.back
+    _ _ _ some c.requires.lies_in.1 (ap chars c.in_ok-new.ensures.value ∙ c.cut_behind-3.ensures.front) (ap chars c.in_ok-new-2.ensures.value ∙ c.cut_behind-2.ensures.front)
+    (ap chars c.in_ok-new-3.ensures.value ∙ c.cut_behind-4.ensures.front)
