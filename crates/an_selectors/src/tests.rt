@@ -1,32 +1,185 @@
 use super::*;
-use an_base::{List, Text, TryCopy, read_tree};
+use crate::cut::char_count;
+use an_base::{Text, TryCopy, read_tree};
 use std::alloc::Global;
+use std::process::Abort;
 use std::test::Fail;
 
-/// The selector that the text of a tree describes, or why it describes none.
-fn read(alloc: Global, text: &str) -> Result<Result<Selector, SelectorError>, Fail> {
+/// Whether the text of a tree describes a selector that prints like this, or is refused like this.
+fn reads_as(rt: &impl Abort, alloc: Global, text: &str, want: &str) -> Result<(), Fail> {
     let tree = read_tree(alloc, text.as_bytes())?;
-    Ok(read_selector(alloc, &tree))
+    let refusal = selector_refusal(&tree);
+    let mut found = String::new(alloc);
+    match read_selector(alloc, &tree) {
+        Ok(selector) => {
+            assert!(rt; selector.copy()? == selector, "of {text}");
+            assert_eq!(rt; refusal, None, "of {text}");
+            write!(found, "{selector:?}")?;
+        }
+        Err(error) => {
+            assert_eq!(rt; refusal, Some(error), "of {text}");
+            write!(found, "{error:?}")?;
+        }
+    }
+    assert_eq!(rt; found.as_str(), want, "of {text}");
+    Ok(())
 }
 
 #[test]
 fn selectors_and_regions(rt: HostRuntime) -> Result<(), Fail> {
-    let alloc = rt.alloc();
     for (text, want) in [
         (
-            r#"{"end":2,"start":3,"type":"TextPositionSelector"}"#,
-            "Err(Order)",
+            r#"{"type":"TextPositionSelector","start":3,"end":2}"#,
+            "Order",
+        ),
+        (r#"{"type":"TextQuoteSelector"}"#, "Value"),
+        ("{}", "WrongType"),
+        (r#"{"type":"SvgSelector","value":"<svg/>"}"#, "Other"),
+        (r#""http://a.example/s""#, "Other"),
+        (r#"{"type":[]}"#, "Other"),
+        (r#"{"type":null,"exact":"b"}"#, "WrongType"),
+        (r#"[{"type":"TextQuoteSelector","exact":"b"}]"#, "WrongType"),
+        (
+            r#"{"type":["x","TextPositionSelector"],"start":0,"end":4294967295}"#,
+            "Position { start: 0, end: 4294967295 }",
         ),
         (
-            r#"{"end":3,"start":3,"type":["x","TextPositionSelector"]}"#,
-            "Ok(Position { start: 3, end: 3 })",
+            r#"{"type":"TextPositionSelector","start":0,"end":4294967296}"#,
+            "Value",
         ),
-        (r#"{"type":"TextQuoteSelector"}"#, "Err(Value)"),
+        (
+            r#"{"type":"TextPositionSelector","start":-1,"end":2}"#,
+            "Value",
+        ),
+        (
+            r#"{"type":"TextPositionSelector","start":"1","end":2}"#,
+            "Value",
+        ),
+        (
+            r#"{"type":"TextQuoteSelector","exact":"b","suffix":null}"#,
+            "Value",
+        ),
+        (
+            r#"{"type":"FragmentSelector","value":"t=1","conformsTo":null}"#,
+            "Value",
+        ),
+        (r#"{"type":"FragmentSelector","value":["t=1"]}"#, "Value"),
     ] {
-        let mut found = String::new(alloc);
-        let selector = read(alloc, text)?;
-        write!(found, "{selector:?}")?;
-        assert_eq!(rt; found.as_str(), want, "of {text}");
+        reads_as(&rt, rt.alloc(), text, want)?;
+    }
+    regions(&rt);
+    Ok(())
+}
+
+fn regions(rt: &impl Abort) {
+    let one = Xywh {
+        x: 1,
+        y: 2,
+        w: 3,
+        h: 4,
+    };
+    let greatest = Xywh {
+        x: 0,
+        y: 0,
+        w: 4294967295,
+        h: 1,
+    };
+    for (fragment, want) in [
+        ("xywh=1,2,3,4", Some(one)),
+        ("xywh=pixel:1,2,3,4", Some(one)),
+        ("xywh=0,0,4294967295,1", Some(greatest)),
+        ("xywh=percent:1,2,3,4", None),
+        ("xywh=1,2,0,4", None),
+        ("xywh=1,2,3,0", None),
+        ("xywh=1,2,3,04", None),
+        ("xywh=1,2,3,4294967296", None),
+        ("xywh=1,2,3,4,", None),
+        ("xywh=1,2,3", None),
+        ("xywh=+1,2,3,4", None),
+        ("xywh= 1,2,3,4", None),
+        ("1,2,3,4", None),
+        ("", None),
+    ] {
+        assert_eq!(rt; read_xywh(fragment), want, "of {fragment}");
+    }
+    assert_eq!(rt; read_region_numbers("1,2,3,4"), Some(one));
+    assert_eq!(rt; read_region_numbers("pixel:1,2,3,4"), None);
+}
+
+/// Whether a quote has these places.
+fn has_places(
+    rt: &impl Abort,
+    alloc: Global,
+    text: &str,
+    (prefix, exact, suffix): (&str, &str, &str),
+    want: &str,
+) -> Result<(), Fail> {
+    let selector = Selector::Quote {
+        exact: Text::new(alloc, exact)?,
+        prefix: Text::new(alloc, prefix)?,
+        suffix: Text::new(alloc, suffix)?,
+    };
+    let mut found = String::new(alloc);
+    for Span { start, end } in places(alloc, text, &selector)?.iter() {
+        write!(found, "{start} {end};")?;
+    }
+    assert_eq!(rt; found.as_str(), want, "{exact} in {text}");
+    Ok(())
+}
+
+#[test]
+fn places_and_quotes(rt: HostRuntime) -> Result<(), Fail> {
+    for (text, quote, want) in [
+        ("aaa", ("", "aa", ""), "0 2;1 3;"),
+        ("abab", ("a", "b", "a"), "1 2;"),
+        ("abab", ("", "", ""), ""),
+        ("abab", ("bab", "a", ""), ""),
+        ("ab", ("", "ab", ""), "0 2;"),
+        ("ab", ("", "abc", ""), ""),
+        ("", ("", "a", ""), ""),
+        ("hé hé", ("", "é", ""), "1 2;4 5;"),
+        ("éééé", ("é", "éé", "é"), "1 3;"),
+        ("😀a😀", ("a", "😀", ""), "2 3;"),
+        ("e\u{301}e", ("", "e", ""), "0 1;2 3;"),
+        ("e\u{301}e", ("e", "\u{301}", "e"), "1 2;"),
+        ("e\u{301}", ("", "é", ""), ""),
+        ("שלום שלום", ("", "שלום", ""), "0 4;5 9;"),
+        ("שלום שלום", (" ", "שלום", ""), "5 9;"),
+    ] {
+        has_places(&rt, rt.alloc(), text, quote, want)?;
+    }
+    let alloc = rt.alloc();
+    let position = Selector::Position { start: 1, end: 3 };
+    assert_eq!(rt;
+        places(alloc, "abc", &position)?.as_slice(),
+        [Span { start: 1, end: 3 }].as_slice()
+    );
+    assert_eq!(rt; places(alloc, "äbc", &position)?.len(), 1);
+    assert_eq!(rt; places(alloc, "äb", &position)?.len(), 0);
+    let position = Selector::Position { start: 1, end: 4 };
+    assert_eq!(rt; places(alloc, "abc", &position)?.len(), 0);
+    assert_eq!(rt; places(alloc, "abc", &Selector::Other)?.len(), 0);
+    quotes(&rt, alloc)
+}
+
+fn quotes(rt: &impl Abort, alloc: Global) -> Result<(), Fail> {
+    for (text, (start, end), around, want) in [
+        ("grey heron", (5, 10), 2, ("y ", "heron", "")),
+        ("grey heron", (0, 4), 0, ("", "grey", "")),
+        ("grey heron", (4, 4), 1, ("y", "", " ")),
+        ("grey heron", (2, 6), 99, ("gr", "ey h", "eron")),
+        ("Zwei Häher im Wald", (5, 10), 3, ("ei ", "Häher", " im")),
+        ("cafe\u{301} noir", (3, 5), 1, ("f", "e\u{301}", " ")),
+        ("😀a😀", (1, 2), 1, ("😀", "a", "😀")),
+        ("שלום עולם", (5, 9), 2, ("ם ", "עולם", "")),
+    ] {
+        assert!(rt; start <= end && end <= char_count(text));
+        let quote = quote_at(alloc, text, Span { start, end }, around)?;
+        assert!(rt; quote.copy()? == quote);
+        let (prefix, exact, suffix) = want;
+        assert_eq!(rt; quote.prefix.as_str(), prefix, "in {text}");
+        assert_eq!(rt; quote.exact.as_str(), exact, "in {text}");
+        assert_eq!(rt; quote.suffix.as_str(), suffix, "in {text}");
     }
     Ok(())
 }
