@@ -106,30 +106,26 @@ fn regions(rt: &impl Abort) {
     assert_eq!(rt; read_region_numbers("pixel:1,2,3,4"), None);
 }
 
-/// Whether a quote has these places.
-fn has_places(
-    rt: &impl Abort,
-    alloc: Global,
-    text: &str,
-    (prefix, exact, suffix): (&str, &str, &str),
-    want: &str,
-) -> Result<(), Fail> {
-    let selector = Selector::Quote {
+/// What a text has at the places of a selector, each as its span.
+fn places_in(alloc: Global, text: &str, selector: &Selector) -> Result<String, Fail> {
+    let mut found = String::new(alloc);
+    for Span { start, end } in places(alloc, text, selector)?.iter() {
+        write!(found, "{start} {end};")?;
+    }
+    Ok(found)
+}
+
+fn quote(alloc: Global, (prefix, exact, suffix): (&str, &str, &str)) -> Result<Selector, Fail> {
+    Ok(Selector::Quote {
         exact: Text::new(alloc, exact)?,
         prefix: Text::new(alloc, prefix)?,
         suffix: Text::new(alloc, suffix)?,
-    };
-    let mut found = String::new(alloc);
-    for Span { start, end } in places(alloc, text, &selector)?.iter() {
-        write!(found, "{start} {end};")?;
-    }
-    assert_eq!(rt; found.as_str(), want, "{exact} in {text}");
-    Ok(())
+    })
 }
 
 #[test]
 fn places_and_quotes(rt: HostRuntime) -> Result<(), Fail> {
-    for (text, quote, want) in [
+    for (text, parts, want) in [
         ("aaa", ("", "aa", ""), "0 2;1 3;"),
         ("abab", ("a", "b", "a"), "1 2;"),
         ("abab", ("", "", ""), ""),
@@ -146,40 +142,47 @@ fn places_and_quotes(rt: HostRuntime) -> Result<(), Fail> {
         ("שלום שלום", ("", "שלום", ""), "0 4;5 9;"),
         ("שלום שלום", (" ", "שלום", ""), "5 9;"),
     ] {
-        has_places(&rt, rt.alloc(), text, quote, want)?;
+        let found = places_in(rt.alloc(), text, &quote(rt.alloc(), parts)?)?;
+        assert_eq!(rt; found.as_str(), want, "in {text}");
     }
-    let alloc = rt.alloc();
-    let position = Selector::Position { start: 1, end: 3 };
-    assert_eq!(rt;
-        places(alloc, "abc", &position)?.as_slice(),
-        [Span { start: 1, end: 3 }].as_slice()
-    );
-    assert_eq!(rt; places(alloc, "äbc", &position)?.len(), 1);
-    assert_eq!(rt; places(alloc, "äb", &position)?.len(), 0);
-    let position = Selector::Position { start: 1, end: 4 };
-    assert_eq!(rt; places(alloc, "abc", &position)?.len(), 0);
-    assert_eq!(rt; places(alloc, "abc", &Selector::Other)?.len(), 0);
-    quotes(&rt, alloc)
+    positions(&rt, rt.alloc())?;
+    quotes(&rt, rt.alloc())
+}
+
+fn positions(rt: &impl Abort, alloc: Global) -> Result<(), Fail> {
+    for (text, start, end, want) in [
+        ("abc", 1, 3, "1 3;"),
+        ("abc", 1, 4, ""),
+        ("abc", 3, 3, "3 3;"),
+        ("äbc", 1, 3, "1 3;"),
+        ("äb", 1, 3, ""),
+    ] {
+        let found = places_in(alloc, text, &Selector::Position { start, end })?;
+        assert_eq!(rt; found.as_str(), want, "in {text}");
+    }
+    assert_eq!(rt; places_in(alloc, "abc", &Selector::Other)?.as_str(), "");
+    Ok(())
 }
 
 fn quotes(rt: &impl Abort, alloc: Global) -> Result<(), Fail> {
-    for (text, (start, end), around, want) in [
-        ("grey heron", (5, 10), 2, ("y ", "heron", "")),
-        ("grey heron", (0, 4), 0, ("", "grey", "")),
-        ("grey heron", (4, 4), 1, ("y", "", " ")),
-        ("grey heron", (2, 6), 99, ("gr", "ey h", "eron")),
-        ("Zwei Häher im Wald", (5, 10), 3, ("ei ", "Häher", " im")),
-        ("cafe\u{301} noir", (3, 5), 1, ("f", "e\u{301}", " ")),
-        ("😀a😀", (1, 2), 1, ("😀", "a", "😀")),
-        ("שלום עולם", (5, 9), 2, ("ם ", "עולם", "")),
+    for (text, start, end, around, want) in [
+        ("grey heron", 5, 10, 2, "y |heron|"),
+        ("grey heron", 0, 4, 0, "|grey|"),
+        ("grey heron", 4, 4, 1, "y|| "),
+        ("grey heron", 2, 6, 99, "gr|ey h|eron"),
+        ("Zwei Häher im Wald", 5, 10, 3, "ei |Häher| im"),
+        ("cafe\u{301} noir", 3, 5, 1, "f|e\u{301}| "),
+        ("😀a😀", 1, 2, 1, "😀|a|😀"),
+        ("שלום עולם", 5, 9, 2, "ם |עולם|"),
     ] {
         assert!(rt; start <= end && end <= char_count(text));
         let quote = quote_at(alloc, text, Span { start, end }, around)?;
         assert!(rt; quote.copy()? == quote);
-        let (prefix, exact, suffix) = want;
-        assert_eq!(rt; quote.prefix.as_str(), prefix, "in {text}");
-        assert_eq!(rt; quote.exact.as_str(), exact, "in {text}");
-        assert_eq!(rt; quote.suffix.as_str(), suffix, "in {text}");
+        let prefix = quote.prefix.as_str();
+        let exact = quote.exact.as_str();
+        let suffix = quote.suffix.as_str();
+        let found = format!(in alloc; "{prefix}|{exact}|{suffix}")?;
+        assert_eq!(rt; found.as_str(), want, "in {text}");
     }
     Ok(())
 }
