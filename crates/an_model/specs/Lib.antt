@@ -1,0 +1,6 @@
+pub mod Targets
+pub mod Bodies
+pub mod Note
+pub mod Dress
+pub mod Lent
+pub mod Held
