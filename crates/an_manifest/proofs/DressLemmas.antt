@@ -83,7 +83,7 @@ has_float-one_or_many (boolean b) h = refl
 has_float-one_or_many (number n) h = or_from _ false h refl
 has_float-one_or_many (string text) h = refl
 has_float-one_or_many (array items) h = h
-has_float-one_or_many (object members) h = or_from _ false h refl
+has_float-one_or_many (object fields) h = or_from _ false h refl
 
 has_float-many_if : (found : Option Data) → HasNone found → items_have_float (many_if found) ≡ false
 has_float-many_if None h = refl
@@ -96,7 +96,7 @@ has_float-array_in (Some (boolean b)) h = refl
 has_float-array_in (Some (number n)) h = refl
 has_float-array_in (Some (string text)) h = refl
 has_float-array_in (Some (array items)) h = h
-has_float-array_in (Some (object members)) h = refl
+has_float-array_in (Some (object fields)) h = refl
 
 has_float-with_last : (value : Data) (items : Items) → has_float value ≡ false → items_have_float items ≡ false → items_have_float (with_last value items) ≡ false
 has_float-with_last value no_items v h = or_from _ false v refl

@@ -1,3 +1,4 @@
 pub mod TakeLemmas
 pub mod ManifestLemmas
 pub mod DressLemmas
+pub mod DressLaws

@@ -1,6 +1,7 @@
 -- The tree by which a manifest is served: the one that is kept, with its IRI, the search in the annotations on it (IIIF Content
 -- Search API 2.0, section 3.1) and, in each canvas, the page of the annotations on it (IIIF Presentation API 3.0, section 5.3).
-use Rattle.std.specs.Prelude.{ℕ, ◌+◌, List, ◌++◌, codes, decimal}
+use Rattle.std.specs.Prelude.{ℕ, ◌+◌, List, [], ◌∷◌, ◌++◌, Bool, bytes_eq, codes, decimal}
+use Rattle.std.specs.List.{list_any}
 use Rattle.serde_json.specs.Data.{Data, string, array, object, Items, no_items, item, member, no_members}
 use Rattle.an_base.specs.Items.{trees_in}
 use Rattle.an_base.specs.Object.{with_member}
@@ -72,3 +73,7 @@ dressed base name tree =
     (with_member (codes "id") (string (manifest_iri base name))
     (with_one_more (codes "service") (search_service base name)
     (with_canvas_pages base name tree)))
+
+-- the members in which a served manifest may differ from the one that is kept
+abbrev pub is_dressed : List ℕ → Bool
+is_dressed name = list_any (bytes_eq name) (codes "@context" ∷ codes "id" ∷ codes "items" ∷ codes "service" ∷ [])

@@ -1,5 +1,5 @@
 -- A manifest of the IIIF Presentation API 3.0 (section 5.2), as it is sent and as it is kept.
-use Rattle.std.specs.Prelude.{ℕ, List, [], ◌∷◌, Bool, not, ◌||◌, ◌==◌, codes, is_some, is_none, Option, option_map, option_and_then, unwrap_or, Result}
+use Rattle.std.specs.Prelude.{ℕ, List, [], ◌∷◌, Bool, not, ◌&&◌, ◌||◌, ◌==◌, codes, is_some, is_none, Option, option_map, option_and_then, unwrap_or, Result}
 use Rattle.serde_json.specs.Data.{Data, Items, no_items}
 use Rattle.serde_json.specs.Find.{get, as_array}
 use Rattle.serde_json.specs.Events.{items_len}
@@ -39,6 +39,10 @@ is_manifest tree = is_none (first_of (manifest_refusals tree))
 -- what is kept of a manifest: the server writes its own `@context` and `id`
 unfoldable pub kept_tree : Data → Data
 kept_tree tree = without_member (codes "id") (without_member (codes "@context") tree)
+
+-- a manifest without the members that aren't kept
+unfoldable pub is_kept : Data → Bool
+is_kept tree = is_manifest tree && is_none (get (codes "@context") tree) && is_none (get (codes "id") tree)
 
 -- What is kept of the manifest that a tree is, or the first refusal.
 unfoldable pub manifest_of : Data → Result Data SheetError

@@ -46,21 +46,24 @@ impl Model for Sheet {
 
     ghost coded = { tree_code };
 
-    ghost use Rattle.an_manifest.specs.Manifest.{is_manifest, canvases_of};
+    ghost use Rattle.an_manifest.specs.Manifest.{is_kept, canvases_of};
 
     ghost view = { λ s. s.tree };
 
-    ghost invariant = { λ s. IsTrue (is_manifest s.tree) × (s.canvases ≡ canvases_of s.tree) };
+    ghost invariant = { λ s. IsTrue (is_kept s.tree) × (s.canvases ≡ canvases_of s.tree) };
 }
 
 impl Sheet {
-    ghost use Rattle.an_manifest.specs.Manifest.{is_manifest, canvases_of};
+    ghost use Rattle.std.specs.Prelude.{Ok};
+    ghost use Rattle.an_manifest.specs.Manifest.{manifest_of, canvases_of};
 
-    /// What is kept of the manifest's tree. What `tree_text` asks of a value holds of it.
+    /// What is kept of the manifest's tree. What `tree_text` asks of a value holds of it, and read
+    /// again it is kept as it is.
+    #[tactic(auto, using(crate::proofs::ManifestLemmas::kept_again))]
     pub fn tree(&self) -> &Value
         ensures value { view result.now ≡ self.now }
         ensures tree { IsTrue (is_tree self.now) }
-        ensures manifest { IsTrue (is_manifest self.now) }
+        ensures kept { manifest_of self.now ≡ Ok self.now }
         ensures whole { has_float self.now ≡ false }
     {
         self.tree.as_value()
@@ -81,6 +84,28 @@ impl TryCopy for Sheet {
             canvases: self.canvases.copy()?,
         })
     }
+}
+
+impl PartialEq for Sheet {
+    ghost use Rattle.serde_json.specs.Written.{compact_text};
+    ghost use Rattle.std.specs.Cmp.Lexicographic.{on_texts_equal};
+    ghost use Rattle.std.specs.Cmp as Cmp;
+    ghost use Rattle.an_base.specs.Tree.{same_text};
+
+    ghost eq = { same_text };
+
+    ghost laws = { Cmp.partial_equiv_from_equiv (on_texts_equal compact_text) };
+
+    fn eq(&self, other: &Sheet) -> bool {
+        self.tree == other.tree
+    }
+}
+
+impl Eq for Sheet {
+    ghost use Rattle.serde_json.specs.Written.{compact_text};
+    ghost use Rattle.std.specs.Cmp.Lexicographic.{on_texts_equal};
+
+    ghost laws = { on_texts_equal compact_text };
 }
 
 /// The manifest that a tree is (IIIF Presentation API 3.0, section 5.2), or the first of the
