@@ -2,7 +2,9 @@ ghost use Rattle.an_keyed.specs.Key.{Key};
 
 use super::*;
 use an_base::Name;
+use hashes::Hashes;
 use std::alloc::Global;
+use std::process::Abort;
 use std::test::Fail;
 
 /// A page of an owner.
@@ -29,18 +31,30 @@ fn name(alloc: Global, text: &str) -> Result<Name, Fail> {
     Ok(Name::new(alloc, text)?)
 }
 
-fn make_page(alloc: Global, owner: &str, page: &str, number: u32) -> Result<Page, Fail> {
-    let owner = if owner == "" {
-        None
+/// The name, if the text isn't empty.
+fn owner(alloc: Global, text: &str) -> Result<Option<Name>, Fail> {
+    if text == "" {
+        Ok(None)
     } else {
-        Some(name(alloc, owner)?)
-    };
-    let name = name(alloc, page)?;
+        Ok(Some(name(alloc, text)?))
+    }
+}
+
+fn make_page(alloc: Global, owned_by: &str, text: &str, number: u32) -> Result<Page, Fail> {
+    let owner = owner(alloc, owned_by)?;
+    let name = name(alloc, text)?;
     Ok(Page {
         owner,
         name,
         number,
     })
+}
+
+fn number_of(page: Option<&Page>) -> Option<u32> {
+    match page {
+        Some(page) => Some(page.number),
+        None => None,
+    }
 }
 
 #[test]
@@ -59,21 +73,101 @@ fn rows_stay_in_their_places(rt: HostRuntime) -> Result<(), Fail> {
         rows.put(make_page(alloc, owner, text, number)?);
     }
     assert_eq!(rt; rows.as_slice().len(), 4);
-    let mara = name(alloc, "mara")?;
-    for (owner, text, place, number) in [
-        (None, "a", Some(0), 1),
-        (Some(&mara), "a", Some(1), 5),
-        (Some(&mara), "b", Some(3), 4),
-        (None, "b", None, 0),
-        (Some(&mara), "c", None, 0),
+    for (owned_by, text, place, number) in [
+        ("", "a", Some(0), Some(1)),
+        ("mara", "a", Some(1), Some(5)),
+        ("mara", "b", Some(3), Some(4)),
+        ("", "b", None, None),
+        ("mara", "c", None, None),
     ] {
+        let owner = owner(alloc, owned_by)?;
         let text = name(alloc, text)?;
-        assert_eq!(rt; rows.place(owner, &text), place);
-        let found = match rows.find(owner, &text) {
-            Some(page) => page.number,
-            None => 0,
-        };
-        assert_eq!(rt; found, number);
+        assert_eq!(rt; rows.place(owner.as_ref(), &text), place);
+        assert_eq!(rt; number_of(rows.find(owner.as_ref(), &text)), number);
     }
+    Ok(())
+}
+
+/// Puts the page into both.
+fn put_both(
+    alloc: Global,
+    rows: &mut Rows<Page>,
+    scanned: &mut ScannedRows<Page>,
+    owner: &str,
+    number: u32,
+) -> Result<(), Fail> {
+    let text = format!(in alloc; "page-{}", number % 90)?;
+    rows.make_room(1)?;
+    rows.put(make_page(alloc, owner, &text, number)?);
+    scanned.make_room(1)?;
+    scanned.put(make_page(alloc, owner, &text, number)?);
+    Ok(())
+}
+
+fn assert_alike(
+    rt: &impl Abort,
+    rows: &Rows<Page>,
+    scanned: &ScannedRows<Page>,
+    owner: Option<&Name>,
+    text: &Name,
+) {
+    let (one, other) = (rows.place(owner, text), scanned.place(owner, text));
+    assert_eq!(rt; one, other);
+    let (one, other) = (rows.find(owner, text), scanned.find(owner, text));
+    assert_eq!(rt; number_of(one), number_of(other));
+}
+
+#[test]
+fn both_bodies_answer_alike(rt: HostRuntime) -> Result<(), Fail> {
+    let alloc = rt.alloc();
+    let owners = ["", "mara", "ivo", "noor"];
+    let mut rows = Rows::new(alloc);
+    let mut scanned = ScannedRows::new(alloc);
+    for number in 0..400u32 {
+        put_both(
+            alloc,
+            &mut rows,
+            &mut scanned,
+            owners[(number % 4) as usize],
+            number,
+        )?;
+    }
+    // The owners come round every 4 steps and the names every 90, so both come round every 180.
+    assert_eq!(rt; rows.as_slice().len(), 180);
+    assert_eq!(rt; scanned.as_slice().len(), 180);
+    // Step 360 puts the first key for the third time, and step 399 is the last.
+    for place in 0..180 {
+        let newest = if place < 40 { 360 + place } else { 180 + place };
+        assert_eq!(rt; number_of(rows.as_slice().get(place)), Some(newest as u32));
+        assert_eq!(rt;
+            number_of(scanned.as_slice().get(place)),
+            Some(newest as u32)
+        );
+    }
+    for owned_by in owners {
+        let owner = owner(alloc, owned_by)?;
+        for number in 0..100u32 {
+            let text = name(alloc, &format!(in alloc; "page-{number}")?)?;
+            assert_alike(&rt, &rows, &scanned, owner.as_ref(), &text);
+        }
+    }
+    Ok(())
+}
+
+#[test]
+fn hashes_are_linked(rt: HostRuntime) -> Result<(), Fail> {
+    let mut hashes = Hashes::new(rt.alloc());
+    hashes.make_room(4)?;
+    hashes.push(5);
+    hashes.push(7);
+    hashes.push(5);
+    hashes.push(5);
+    for (hash, place) in [(5, Some(3)), (7, Some(1)), (9, None)] {
+        assert_eq!(rt; hashes.last(hash), place);
+    }
+    assert_eq!(rt; hashes.before(3), Some(2));
+    assert_eq!(rt; hashes.before(2), Some(0));
+    assert_eq!(rt; hashes.before(1), None);
+    assert_eq!(rt; hashes.before(0), None);
     Ok(())
 }
