@@ -48,3 +48,7 @@ module _ (hashes : List ℕ) (hash : ℕ) (P : ℕ → Type 0) where
       (λ q past within same.
       ⊎_elim (λ (past : place < q). walk.passed q (omega arith) within same) (λ (last : q ≤ place). let e : place ≡ q = omega arith in rw (← e) here) (cases_lt place q))
       (rw at.1 at last)
+
+-- what follows from P holds of the places that the walk has passed, too
+pub walk_weakened : (hashes : List ℕ) (hash : ℕ) (P Q : ℕ → Type 0) (next : Option ℕ) → ((q : ℕ) → P q → Q q) → IsWalk hashes hash P next → IsWalk hashes hash Q next
+walk_weakened hashes hash P Q next follows walk = record { at_hash = walk.at_hash; passed = λ q left within same. follows q (walk.passed q left within same) }

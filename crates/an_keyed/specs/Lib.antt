@@ -2,4 +2,6 @@ pub mod Hashes
 pub mod Index
 pub mod Key
 pub mod KeyHash
+pub mod MarkIndex
+pub mod Marks
 pub mod Rows
