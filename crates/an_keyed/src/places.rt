@@ -86,6 +86,7 @@ impl Places {
         requires room { 0 < self.old.room }
         ensures entered { IsEntered hash place self.new }
         ensures kept { IsKept self.old self.new }
+        ensures once { IsEntered hash place self.old → self.new ≡ self.old }
         ensures room { self.old.room ≤ self.new.room + 1 }
     {
         if !self.is_entered(hash, place) {

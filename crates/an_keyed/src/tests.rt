@@ -1,7 +1,8 @@
+ghost use Rattle.std.specs.Prelude.{None};
 ghost use Rattle.an_keyed.specs.Key.{Key};
 
 use super::*;
-use an_base::Name;
+use an_base::{Name, Text};
 use hashes::Hashes;
 use std::alloc::Global;
 use std::process::Abort;
@@ -169,5 +170,106 @@ fn hashes_are_linked(rt: HostRuntime) -> Result<(), Fail> {
     assert_eq!(rt; hashes.before(2), Some(0));
     assert_eq!(rt; hashes.before(1), None);
     assert_eq!(rt; hashes.before(0), None);
+    Ok(())
+}
+
+/// A seat at a table, and the ticket of who sits there.
+#[derive(Debug, Drop)]
+struct Seat {
+    name: Name,
+    ticket: Option<Text>,
+}
+
+impl Keyed for Seat {
+    ghost key = { λ s. record { owner = None; name = s.name } };
+
+    fn owner(&self) -> Option<&Name> {
+        None
+    }
+
+    fn name(&self) -> &Name {
+        &self.name
+    }
+}
+
+impl Marked for Seat {
+    ghost mark = { λ s. s.ticket };
+
+    fn mark(&self) -> Option<&str> {
+        match &self.ticket {
+            Some(ticket) => Some(ticket.as_str()),
+            None => None,
+        }
+    }
+}
+
+fn put_seat(
+    alloc: Global,
+    seats: &mut MarkedRows<Seat>,
+    text: &str,
+    ticket: &str,
+) -> Result<(), Fail> {
+    let ticket = if ticket == "" {
+        None
+    } else {
+        Some(Text::new(alloc, ticket)?)
+    };
+    let name = name(alloc, text)?;
+    seats.make_room(1)?;
+    seats.put(Seat { name, ticket });
+    Ok(())
+}
+
+fn assert_seated(
+    rt: &impl Abort,
+    seats: &MarkedRows<Seat>,
+    expected: [(&str, Option<usize>, Option<usize>); 4],
+) {
+    for (ticket, first, second) in expected {
+        assert_eq!(rt; seats.place_marked(ticket, 0), first);
+        assert_eq!(rt; seats.find_marked(ticket).is_some(), first.is_some());
+        let start = first.map_or(0, |place| place.saturating_add(1));
+        assert_eq!(rt; seats.place_marked(ticket, start), second);
+    }
+}
+
+#[test]
+fn marks_change_hands(rt: HostRuntime) -> Result<(), Fail> {
+    let alloc = rt.alloc();
+    let mut seats = MarkedRows::new(alloc);
+    for (text, ticket) in [
+        ("window", "red"),
+        ("aisle", "blue"),
+        ("window", "green"),
+        ("aisle", ""),
+        ("middle", "green"),
+    ] {
+        put_seat(alloc, &mut seats, text, ticket)?;
+    }
+    assert_seated(
+        &rt,
+        &seats,
+        [
+            ("red", None, None),
+            ("blue", None, None),
+            ("green", Some(0), Some(2)),
+            ("grey", None, None),
+        ],
+    );
+    for (text, ticket) in [("aisle", "green"), ("window", "red"), ("middle", "green")] {
+        put_seat(alloc, &mut seats, text, ticket)?;
+    }
+    assert_seated(
+        &rt,
+        &seats,
+        [
+            ("red", Some(0), None),
+            ("blue", None, None),
+            ("green", Some(1), Some(2)),
+            ("grey", None, None),
+        ],
+    );
+    assert_eq!(rt; seats.as_slice().len(), 3);
+    assert_eq!(rt; seats.place(None, &name(alloc, "middle")?), Some(2));
     Ok(())
 }
