@@ -164,6 +164,23 @@ fn positions(rt: &impl Abort, alloc: Global) -> Result<(), Fail> {
     Ok(())
 }
 
+/// The quote of a span, its parts with bars between them.
+fn quoted(
+    rt: &impl Abort,
+    alloc: Global,
+    text: &str,
+    span: Span,
+    around: usize,
+) -> Result<String, Fail> {
+    assert!(rt; span.start <= span.end && span.end <= char_count(text));
+    let quote = quote_at(alloc, text, span, around)?;
+    assert!(rt; quote.copy()? == quote);
+    let prefix = quote.prefix.as_str();
+    let exact = quote.exact.as_str();
+    let suffix = quote.suffix.as_str();
+    Ok(format!(in alloc; "{prefix}|{exact}|{suffix}")?)
+}
+
 fn quotes(rt: &impl Abort, alloc: Global) -> Result<(), Fail> {
     for (text, start, end, around, want) in [
         ("grey heron", 5, 10, 2, "y |heron|"),
@@ -175,13 +192,7 @@ fn quotes(rt: &impl Abort, alloc: Global) -> Result<(), Fail> {
         ("😀a😀", 1, 2, 1, "😀|a|😀"),
         ("שלום עולם", 5, 9, 2, "ם |עולם|"),
     ] {
-        assert!(rt; start <= end && end <= char_count(text));
-        let quote = quote_at(alloc, text, Span { start, end }, around)?;
-        assert!(rt; quote.copy()? == quote);
-        let prefix = quote.prefix.as_str();
-        let exact = quote.exact.as_str();
-        let suffix = quote.suffix.as_str();
-        let found = format!(in alloc; "{prefix}|{exact}|{suffix}")?;
+        let found = quoted(rt, alloc, text, Span { start, end }, around)?;
         assert_eq!(rt; found.as_str(), want, "in {text}");
     }
     Ok(())
