@@ -1,5 +1,5 @@
 -- The quote of a place, and that the place is one of the quote's.
-use Rattle.std.proofs.Common.{◌≡◌, ℕ, zero, suc, ◌+◌, ◌-◌, ◌<◌, ◌≤◌, min, Bool, true, List, ◌∷◌, ◌++◌, length, map, filter, take, drop, get_or, refl, sym, ap, ap₂, ◌∙◌, length-append, arith}
+use Rattle.std.proofs.Common.{◌≡◌, ℕ, suc, ◌+◌, ◌-◌, ◌<◌, ◌≤◌, min, Bool, true, List, ◌∷◌, ◌++◌, length, map, filter, take, drop, get_or, refl, sym, ap, ap₂, ◌∙◌, length-append, arith}
 use Rattle.std.proofs.lemmas.Bool.{and_from, cond-true, cond-false, ne_eqb}
 use Rattle.std.proofs.lemmas.List.{drop-drop, drop-take, length-drop, length-take, map-append, take-append-drop, take-take, get_or_at}
 use Rattle.std.proofs.lemmas.List.Elements.{filter-append}
@@ -10,19 +10,10 @@ use Rattle.an_base.specs.declared.span.Span.{Span}
 use Rattle.an_selectors.specs.declared.quote.Quote.{Quote}
 use Rattle.an_selectors.specs.declared.selector.Selector.TheVariants as selector
 use Rattle.an_selectors.specs.Places.{is_place, span_from, places_of_quote, places_of, quote_of_span}
-use Rattle.an_selectors.proofs.CutLemmas.{starts_from, ends_from}
+use Rattle.an_selectors.proofs.PlaceLemmas.{range_append}
+use Rattle.an_selectors.proofs.WalkLemmas.{starts_from, ends_from}
 
 -- ---- lists
-
-range_append : (k a n : ℕ) → range_with_len a (k + n) ≡ range_with_len a k ++ range_with_len (a + k) n
-range_append zero a n =
-    let whole : zero + n ≡ n = omega arith in
-    let start : a ≡ a + zero = omega arith in
-    ap (range_with_len a) whole ∙ ap (λ m. range_with_len m n) start
-range_append (suc k) a n =
-    let whole : suc k + n ≡ suc (k + n) = omega arith in
-    let start : (a + 1) + k ≡ a + suc k = omega arith in
-    ap (range_with_len a) whole ∙ ap (λ t. a ∷ t) (range_append k (a + 1) n ∙ ap (λ m. range_with_len (a + 1) k ++ range_with_len m n) start)
 
 Contains-at : {X : Type 0} (xs front back : List X) (x : X) → xs ≡ front ++ x ∷ back → Contains xs x
 Contains-at xs front back x e =

@@ -15,3 +15,4 @@ mod region;
 mod selector;
 #[cfg(test)]
 mod tests;
+mod walk;

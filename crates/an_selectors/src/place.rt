@@ -1,8 +1,10 @@
-ghost use Rattle.std.specs.Prelude.{◌≡◌, IfOk, chars};
+ghost use Rattle.std.specs.Prelude.{◌≡◌, ◌+◌, ◌<◌, ◌≤◌, length, IfOk, chars};
 ghost use Rattle.an_selectors.specs.Places.{places_of, places_of_quote, places_of_position};
+ghost use Rattle.an_selectors.specs.Walk.{spans_of};
 
-use crate::cut::{Point, char_count, is_between, next_point, point_behind};
+use crate::cut::{Point, char_count};
 use crate::selector::Selector;
+use crate::walk::{next_point, point_after};
 use an_base::Span;
 use std::alloc::{AllocError, Global};
 
@@ -34,7 +36,7 @@ pub fn places(alloc: Global, text: &str, selector: &Selector) -> Result<Vec<Span
     }
 }
 
-/// Walks from each place of the exact text to the next; prefix and suffix are looked at there alone.
+/// The places of a quote are those of its three parts in one.
 fn places_of_quote(
     alloc: Global,
     text: &str,
@@ -45,22 +47,47 @@ fn places_of_quote(
     ensures { IfOk result (λ v. v.items
         ≡ places_of_quote (chars exact.now) (chars prefix.now) (chars suffix.now) (chars text.now)) }
 {
-    let mut found = Vec::new(alloc);
     let width = char_count(exact);
     if width == 0 {
+        return Ok(Vec::new(alloc));
+    }
+    let whole = format!(in alloc; "{prefix}{exact}{suffix}")?;
+    spans_of(alloc, text, whole.as_str(), char_count(prefix), width)
+}
+
+/// Walks from each point where the whole of a quote stands to the next.
+fn spans_of(
+    alloc: Global,
+    text: &str,
+    whole: &str,
+    before: usize,
+    width: usize,
+) -> Result<Vec<Span>, AllocError>
+    requires some { 0 < width }
+    requires within { before + width ≤ length (chars whole.now) }
+    ensures { IfOk result (λ v. v.items ≡ spans_of (chars whole.now) before width (chars text.now)) }
+{
+    let mut found = Vec::new(alloc);
+    let Some(first) = next_point(text, Point { at: 0, number: 0 }, whole) else {
         return Ok(found);
-    }
-    let mut from = Point { at: 0, number: 0 };
-    while let Some(point) = next_point(text, from, exact) {
-        if is_between(text, point.at, point.at + exact.len(), prefix, suffix) {
-            found.push(Span {
-                start: point.number,
-                end: point.number + width,
-            })?;
+    };
+    let size = char_count(whole);
+    let mut last = first;
+    let mut point = first;
+    loop {
+        let start = point.number + before;
+        found.push(Span {
+            start,
+            end: start + width,
+        })?;
+        match point_after(text, whole, size, last, point) {
+            Some(next) => {
+                last = point;
+                point = next;
+            }
+            None => return Ok(found),
         }
-        from = point_behind(text, point);
     }
-    Ok(found)
 }
 
 fn places_of_position(
