@@ -4,5 +4,6 @@ pub mod PlaceLemmas
 pub mod RepeatLemmas
 pub mod QuoteLemmas
 pub mod RegionLemmas
+mod PlaceRows
 mod RegionRows
 mod SelectorRows

@@ -71,7 +71,6 @@ fn spans_of(
     let Some(first) = next_point(text, Point { at: 0, number: 0 }, whole) else {
         return Ok(found);
     };
-    let size = char_count(whole);
     let mut last = first;
     let mut point = first;
     loop {
@@ -80,7 +79,7 @@ fn spans_of(
             start,
             end: start + width,
         })?;
-        match point_after(text, whole, size, last, point) {
+        match point_after(text, whole, last, point) {
             Some(next) => {
                 last = point;
                 point = next;

@@ -20,49 +20,40 @@ pub(crate) fn next_point(text: &str, from: Point, needle: &str) -> Option<Point>
     }
 }
 
-/// The first point behind another at which the needle, which has so many code points, stands. It
-/// stands at this one too, and so did it last at `last`, or nowhere before.
-pub(crate) fn point_after(
-    text: &str,
-    needle: &str,
-    size: usize,
-    last: Point,
-    point: Point,
-) -> Option<Point>
+/// The first point behind another at which the needle stands. It stands at this one too, and
+/// before it last at `last`, or nowhere.
+pub(crate) fn point_after(text: &str, needle: &str, last: Point, point: Point) -> Option<Point>
     requires last { IsAfter needle.now text.now last point }
     requires stands { StandsAt needle.now text.now point }
-    requires size { size ≡ length (chars needle.now) }
-    requires some { 0 < size }
+    requires some { 0 < length needle.now }
     ensures { MatchOption result
         (StandsNowhere (chars needle.now) (chars text.now) (point.number + 1) (length (chars text.now)))
         (IsNext needle.now text.now (point.number + 1)) }
 {
-    match point_repeated(text, needle, size, last, point) {
+    match point_repeated(text, needle, last, point) {
         Some(next) => Some(next),
         None => next_point(text, point_behind(text, point), needle),
     }
 }
 
-/// The same, where the text goes on for as far as from `last` as it does for the needle's end, and
-/// where so short a step says that there is none between. Looks at no more than the step, so that a
-/// text that repeats itself is searched in time.
-fn point_repeated(text: &str, needle: &str, size: usize, last: Point, point: Point) -> Option<Point>
+/// The same, where it is as far away as `last`, and the two aren't further apart than the needle is
+/// long. Then only what stands behind the needle is compared, so that a text that repeats itself is
+/// searched in linear time.
+fn point_repeated(text: &str, needle: &str, last: Point, point: Point) -> Option<Point>
     requires last { IsAfter needle.now text.now last point }
     requires stands { StandsAt needle.now text.now point }
-    requires size { size ≡ length (chars needle.now) }
     ensures { IfSome result (IsNext needle.now text.now (point.number + 1)) }
 {
-    let step = point.number - last.number;
-    if step == 0 || size / 2 < step {
+    let gap = point.at - last.at;
+    if gap == 0 || needle.len() < gap {
         return None;
     }
-    let gap = point.at - last.at;
     let end = &needle.as_bytes()[needle.len() - gap..];
     let rest = &text.as_bytes()[point.at + needle.len()..];
     if rest.starts_with(end) {
         Some(Point {
             at: point.at + gap,
-            number: point.number + step,
+            number: point.number + (point.number - last.number),
         })
     } else {
         None

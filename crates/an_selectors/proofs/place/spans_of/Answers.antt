@@ -27,6 +27,11 @@ overflow_add-start-in-loop-found c =
     let bound = length-chars c.args.text.now c.utf8.text in
     omega (arith, c.requires.within)
 
+pub point_after-requires-clause-some : goal.point_after-requires-clause-some
+point_after-requires-clause-some c =
+    let bound = length-chars c.args.whole.now c.utf8.whole in
+    omega (arith, c.requires.within, c.requires.some)
+
 pub loop-found-smaller : goal.loop-found-smaller
 loop-found-smaller c =
     let next = c.in-Some-point_after in
