@@ -1,4 +1,4 @@
--- What a tree lends of a selector, as the selector.
+-- For private clauses: what a tree lends of a selector, as the selector.
 use Rattle.std.specs.Prelude.{option_map}
 use Rattle.an_selectors.specs.declared.lent.Lent.{Lent}
 use Rattle.an_selectors.specs.declared.lent.Lent.TheVariants as lent
