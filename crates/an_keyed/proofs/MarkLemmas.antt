@@ -141,6 +141,16 @@ module _ {A : Type 0} (test : A → Bool) where
       absurd (omega (arith, f.2)))) in
       rw (at, same) refl
 
+  pub from-first : (start : ℕ) (xs : List A) (found : Option ℕ) → IsFirst (passes_from start xs) found → IfSome found (λ p. start ≤ p)
+  from-first start xs None first = tt
+  from-first start xs (Some p) first = leb-true start p (and_parts (nat_le start p) _ (first.that_counts p refl)).0
+
+  pub within-first : (start : ℕ) (xs : List A) (found : Option ℕ) → IsFirst (passes_from start xs) found → IfSome found (λ p. p < length xs)
+  within-first start xs None first = tt
+  within-first start xs (Some p) first =
+      let here = passes-Some (slice_get xs p) (and_parts (nat_le start p) _ (first.that_counts p refl)).1 in
+      slice_get_within xs p here.0 here.1
+
 -- ---- rows
 
 is_mark-true : (wanted : List ℕ) (mark : Option (List ℕ)) → is_mark wanted mark ≡ true → mark ≡ Some wanted

@@ -13,7 +13,8 @@ use std::alloc::{AllocError, Global};
 use std::marker::Model;
 
 /// Rows under keys, as [`Rows`], that are found by their marks too. Contracts see the list of the
-/// rows, and for how many more there is memory.
+/// rows, and for how many more there is memory. Each mark that a row was ever put with stays entered
+/// and takes memory, but a look-up answers by the rows as they are.
 #[derive(Drop)]
 pub struct MarkedRows<R: Keyed + Marked> {
     rows: Rows<R>,
@@ -74,6 +75,8 @@ impl<R: Keyed + Marked + Drop> MarkedRows<R> {
     /// The first place from `start` on whose row has this mark.
     pub fn place_marked(&self, mark: &str, start: usize) -> Option<usize>
         ensures place { result ≡ marked_place R.mark mark.now start self.now.rows }
+        ensures from { IfSome result (λ place. start ≤ place) }
+        ensures within { IfSome result (λ place. place < length self.now.rows) }
     {
         marked_in(self.rows.as_slice(), &self.marks, mark, start)
     }
@@ -150,6 +153,8 @@ fn enter_mark<R: Marked>(marks: &mut Places, row: &R, place: usize)
 fn marked_in<R: Marked>(rows: &[R], marks: &Places, mark: &str, start: usize) -> Option<usize>
     requires marked { IsMarkIndex (map R.mark rows.now) marks.now }
     ensures place { result ≡ marked_place R.mark mark.now start rows.now }
+    ensures from { IfSome result (λ place. start ≤ place) }
+    ensures within { IfSome result (λ place. place < length rows.now) }
 {
     let mut found = None;
     let mut next = marks.last(hash_of_mark(mark));
