@@ -14,3 +14,5 @@ mod note;
 mod occurrence;
 mod refusal;
 mod target;
+#[cfg(test)]
+mod tests;
