@@ -6,9 +6,8 @@ use Rattle.std.specs.List.{list_any, position, position_or_len}
 use Rattle.std.specs.Str.{bytes_eq}
 use Rattle.an_keyed.specs.Key.{Key}
 use Rattle.an_keyed.specs.Rows.{put_at, put_row}
-use Rattle.an_search.specs.Search.{names_are_distinct}
 use Rattle.an_machine.specs.Entries.{with_row, with_rows, after}
-use Rattle.an_machine.specs.State.{KeptManifest, State, manifest_key, empty}
+use Rattle.an_machine.specs.State.{KeptManifest, State, manifest_key, empty, names_are_distinct}
 use Rattle.an_machine.specs.declared.entry.Entry.{Entry}
 use Rattle.an_machine.specs.declared.entry.Entry.TheVariants.{Done}
 use Rattle.an_machine.specs.declared.entry.Row.{Row}

@@ -3,3 +3,4 @@ mod ReadLemmas
 mod SplitLemmas
 mod SplitRows
 pub mod StatusLemmas
+pub mod FollowLemmas

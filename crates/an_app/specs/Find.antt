@@ -1,12 +1,13 @@
 -- What lines do, one after another: writes change the state, reads print an answer, and the first refusal ends the run.
 use Rattle.std.specs.Prelude.{ℕ, ◌+◌, ℤ, List, [], ◌∷◌, ◌++◌, length, codes, decimal, ◌==◌, nat_lt, if◌then◌else◌, Option, Some, None, Result, Ok, Err}
-use Rattle.std.specs.Result.{result_ok}
 use Rattle.std.specs.Str.{is_utf8}
 use Rattle.serde_json.specs.Data.{Data}
 use Rattle.an_base.specs.Code.{code_text}
 use Rattle.an_base.specs.Tree.{tree_of}
 use Rattle.an_base.specs.declared.code.Code.{Code}
 use Rattle.an_base.specs.declared.code.Code.TheVariants as code
+use Rattle.an_base.specs.declared.tree.TreeError.{TreeError}
+use Rattle.an_base.specs.declared.tree.TreeError.TheVariants as error
 use Rattle.an_policy.specs.Audience.{Identity}
 use Rattle.an_policy.specs.declared.who.Caller.{Caller}
 use Rattle.an_policy.specs.declared.who.Caller.TheVariants as caller
@@ -18,10 +19,11 @@ use Rattle.an_machine.specs.declared.command.Command.{Command}
 use Rattle.an_machine.specs.declared.command.Command.TheVariants.{PutReader, PutManifest, PutNote}
 use Rattle.an_machine.specs.declared.command.Decided.{Decided}
 use Rattle.an_machine.specs.declared.command.Refused.{Refused}
+use Rattle.an_machine.specs.declared.command.Refused.TheVariants.{NotSigned, NotWriter, NotOwn, NoManifest, NotMember, Shape, GroupFixed, TokenTaken, Version, Memory}
 use Rattle.an_machine.specs.declared.entry.Entry.{Entry}
 use Rattle.an_search.specs.Search.{search_of}
 use Rattle.an_search.specs.Site.{Site}
-use Rattle.an_search.specs.declared.hits.AskError.{AskError}
+use Rattle.an_pages.specs.Bodies.{manifest_of_view}
 use Rattle.an_app.specs.Form.{form_of}
 use Rattle.an_app.specs.Input.{input_limit}
 use Rattle.an_app.specs.Line.{Words, words_of, by_of}
@@ -48,14 +50,34 @@ abbrev pub state_after : State → Option Entry → State
 state_after s None = s
 state_after s (Some entry) = after s entry
 
+-- the code that a line prints for a refusal of the machine; so far it prints those of shapes alone
+abbrev pub refusal_code : Refused → Code
+refusal_code (Shape shape) = shape
+refusal_code NotSigned = code.Unbuilt
+refusal_code NotWriter = code.Unbuilt
+refusal_code NotOwn = code.Unbuilt
+refusal_code NoManifest = code.Unbuilt
+refusal_code NotMember = code.Unbuilt
+refusal_code GroupFixed = code.Unbuilt
+refusal_code TokenTaken = code.Unbuilt
+refusal_code (Version current) = code.Unbuilt
+refusal_code Memory = code.Unbuilt
+
 abbrev pub decided_turn : State → Result Decided Refused → Turn
 decided_turn s (Ok decided) = writes (state_after s decided.entry)
-decided_turn s (Err refused) = stops code.Unbuilt
+decided_turn s (Err refused) = stops (refusal_code refused)
+
+-- the code of a text that is no tree; want of memory ends the run, and has none
+abbrev pub text_code : TreeError → Code
+text_code error.Json = code.Json
+text_code error.NotWhole = code.NotWhole
+text_code error.Deep = code.Deep
+text_code error.Memory = code.Unbuilt
 
 -- the write of a tree by a command, at the line's moment; there is none where the text is no tree
-abbrev pub write_turn : State → ℤ → Option (List ℕ) → (Data → Command) → Option Data → Turn
-write_turn s moment by command (Some tree) = decided_turn s (step s moment (writer by) (command tree))
-write_turn s moment by command None = stops code.Unbuilt
+abbrev pub write_turn : State → ℤ → Option (List ℕ) → (Data → Command) → Result Data TreeError → Turn
+write_turn s moment by command (Ok tree) = decided_turn s (step s moment (writer by) (command tree))
+write_turn s moment by command (Err e) = stops (text_code e)
 
 -- ---- a line that reads
 
@@ -65,22 +87,30 @@ reader None = caller.Anonymous
 reader (Some name) = caller.Named name
 
 -- an answer, as a line shows it: its status and its body
-abbrev pub answer_line : Result (List ℕ) AskError → List ℕ
+abbrev pub answer_line : {E : Type 0} → Result (List ℕ) E → List ℕ
 answer_line (Ok body) = codes "200 " ++ (body ++ codes "\n")
 answer_line (Err e) = codes "404 {\"error\":\"absent\"}\n"
 
-abbrev pub read_turn : Site → State → List ℕ → List ℕ → Option Identity → Turn
-read_turn site s manifest word None = stops code.Unbuilt
-read_turn site s manifest word (Some who) = prints (answer_line (search_of site (view_of s who) manifest word))
+-- what is answered to the caller; so far a line by nobody has no answer
+abbrev pub read_turn : (Identity → List ℕ) → Option Identity → Turn
+read_turn answer None = stops code.Unbuilt
+read_turn answer (Some who) = prints (answer who)
+
+abbrev pub search_line : Site → State → List ℕ → List ℕ → Identity → List ℕ
+search_line site s manifest word who = answer_line (search_of site (view_of s who) manifest word)
+
+abbrev pub manifest_line : Site → State → List ℕ → Identity → List ℕ
+manifest_line site s name who = answer_line (manifest_of_view site (view_of s who) name)
 
 -- ---- a line
 
 abbrev pub form_turn : Site → State → Words → Option (List ℕ) → Option Form → Turn
 form_turn site s words by None = stops code.Unbuilt
-form_turn site s words by (Some (form.Reader name)) = write_turn s words.moment by (PutReader name 1) (result_ok (tree_of words.tree))
-form_turn site s words by (Some (form.Manifest name group)) = write_turn s words.moment by (PutManifest name 1 group) (result_ok (tree_of words.tree))
-form_turn site s words by (Some (form.Note owner name manifest group)) = write_turn s words.moment by (PutNote owner name 1 manifest group) (result_ok (tree_of words.tree))
-form_turn site s words by (Some (form.Search manifest word)) = read_turn site s manifest word (who_of s (reader by))
+form_turn site s words by (Some (form.Reader name)) = write_turn s words.moment by (PutReader name 1) (tree_of words.tree)
+form_turn site s words by (Some (form.Manifest name group)) = write_turn s words.moment by (PutManifest name 1 group) (tree_of words.tree)
+form_turn site s words by (Some (form.Note owner name manifest group)) = write_turn s words.moment by (PutNote owner name 1 manifest group) (tree_of words.tree)
+form_turn site s words by (Some (form.Search manifest word)) = read_turn (search_line site s manifest word) (who_of s (reader by))
+form_turn site s words by (Some (form.ShownManifest name)) = read_turn (manifest_line site s name) (who_of s (reader by))
 
 abbrev pub by_turn : Site → State → Words → Option (Option (List ℕ)) → Turn
 by_turn site s words None = stops code.Line

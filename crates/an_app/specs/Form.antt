@@ -107,6 +107,21 @@ unfoldable pub path_form : Method → Option (List ℕ) → List ℕ → List �
 path_form method by path query =
     option_and_then (λ p. if length p.0 == 0 then segment_form method by p.1 query else None) (cut_at 47 path)
 
+-- `GET /manifests/M`
+unfoldable pub bare_routed : Method → List ℕ → List ℕ → Option Form
+bare_routed method kind name = if is_get method && bytes_eq kind (codes "manifests") then option_map form.ShownManifest (name_in name) else None
+
+abbrev pub bare_segments : Method → List ℕ → Option Form
+bare_segments method segments = option_and_then (λ p. bare_routed method p.0 p.1) (cut_at 47 segments)
+
+-- a path without a query
+unfoldable pub bare_form : Method → List ℕ → Option Form
+bare_form method path = option_and_then (λ p. if length p.0 == 0 then bare_segments method p.1 else None) (cut_at 47 path)
+
+abbrev pub form_from : Method → Option (List ℕ) → List ℕ → Option (List ℕ × List ℕ) → Option Form
+form_from method by target None = bare_form method target
+form_from method by target (Some p) = path_form method by p.0 p.1
+
 -- the form of a line with this method, by this name or none, and to this target
 unfoldable pub form_of : Method → Option (List ℕ) → List ℕ → Option Form
-form_of method by target = option_and_then (λ p. path_form method by p.0 p.1) (cut_at 63 target)
+form_of method by target = form_from method by target (cut_at 63 target)

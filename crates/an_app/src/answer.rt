@@ -2,11 +2,13 @@ ghost use Rattle.std.specs.Prelude.{◌≡◌, ◌<◌, ◌++◌, IsTrue, OnOk, 
 ghost use Rattle.an_base.specs.Outcome.{Gives};
 ghost use Rattle.an_policy.specs.Audience.{identity};
 ghost use Rattle.an_machine.specs.View.{view_of};
-ghost use Rattle.an_search.specs.Search.{names_are_distinct, search_of};
-ghost use Rattle.an_app.specs.Find.{answer_line};
+ghost use Rattle.an_search.specs.Search.{search_of};
+ghost use Rattle.an_machine.specs.State.{names_are_distinct};
+ghost use Rattle.an_app.specs.Find.{search_line, manifest_line};
 
 use an_base::{Bytes, Name, Steps, Text};
 use an_machine::{Book, Look};
+use an_pages::{PageError, manifest_answer};
 use an_policy::Who;
 use an_search::{AskError, Settings, search};
 use std::alloc::{AllocError, Global};
@@ -14,7 +16,7 @@ use std::marker::Brand;
 use std::sync::ledger::{Blank, Ledger};
 
 /// Adds the answer to a search, as a line shows it.
-pub(crate) fn answer(
+pub(crate) fn answer_search(
     alloc: Global,
     book: &Book,
     who: &Who<'_>,
@@ -24,17 +26,46 @@ pub(crate) fn answer(
     output: &mut Vec<u8>,
 ) -> Result<(), AllocError>
     requires distinct { IsTrue (names_are_distinct book.now.state.manifests) }
-    ensures { OnOk result (output.new.items ≡ output.old.items ++ answer_line
-        (search_of settings.now (view_of book.now.state (identity who.now)) manifest.now word.now)) }
+    ensures { OnOk result (output.new.items ≡ output.old.items
+        ++ search_line settings.now book.now.state manifest.now word.now (identity who.now)) }
 {
     match search_uncounted(alloc, book, who, settings, manifest, word) {
         Ok(body) => put_body(output, body.as_slice()),
         Err(error) => if matches!(error, AskError::Memory) {
             Err(AllocError)
         } else {
-            output.extend_from_slice("404 {\"error\":\"absent\"}\n".as_bytes())
+            put_absent(output)
         },
     }
+}
+
+/// Adds a manifest, as a line shows it.
+pub(crate) fn answer_manifest(
+    alloc: Global,
+    book: &Book,
+    who: &Who<'_>,
+    settings: &Settings,
+    name: &Name,
+    output: &mut Vec<u8>,
+) -> Result<(), AllocError>
+    requires distinct { IsTrue (names_are_distinct book.now.state.manifests) }
+    ensures { OnOk result (output.new.items ≡ output.old.items
+        ++ manifest_line settings.now book.now.state name.now (identity who.now)) }
+{
+    match manifest_answer(alloc, book, who, name, settings) {
+        Ok(body) => put_body(output, body.as_slice()),
+        Err(error) => if matches!(error, PageError::Memory) {
+            Err(AllocError)
+        } else {
+            put_absent(output)
+        },
+    }
+}
+
+fn put_absent(output: &mut Vec<u8>) -> Result<(), AllocError>
+    ensures { OnOk result (output.new.items ≡ output.old.items ++ codes "404 {\"error\":\"absent\"}\n") }
+{
+    output.extend_from_slice("404 {\"error\":\"absent\"}\n".as_bytes())
 }
 
 fn put_body(output: &mut Vec<u8>, body: &[u8]) -> Result<(), AllocError>

@@ -2,7 +2,7 @@ ghost use Rattle.std.specs.Prelude.{◌≡◌, IfOk, bytes_eq, option_and_then, 
 ghost use Rattle.std.specs.List.{list_all};
 ghost use Rattle.an_base.specs.Outcome.{passes};
 ghost use Rattle.std.specs.Option.{option_copied};
-ghost use Rattle.an_app.specs.Form.{is_put, is_get, value_of, name_in, group_in, group_named, is_letter, is_word, behind_version, both, reader_form, manifest_form, manifest_in, place_in, note_at, note_in, note_form, search_form, routed, segment_form, path_form, form_of};
+ghost use Rattle.an_app.specs.Form.{is_put, is_get, value_of, name_in, group_in, group_named, is_letter, is_word, behind_version, both, reader_form, manifest_form, manifest_in, place_in, note_at, note_in, note_form, search_form, routed, segment_form, path_form, bare_form, bare_segments, bare_routed, form_from, form_of};
 
 use crate::line::{Method, cut};
 use an_base::{Name, NameError, Text};
@@ -29,6 +29,9 @@ pub(crate) enum Form {
         manifest: Name,
         word: Text,
     },
+    ShownManifest {
+        name: Name,
+    },
 }
 
 /// The form of a line with this method, by this name or none, and to this target.
@@ -43,6 +46,48 @@ pub(crate) fn form_of(
 {
     match cut(target, '?') {
         Some((path, query)) => path_form(alloc, method, by, path, query),
+        None => bare_form(alloc, method, target),
+    }
+}
+
+/// The form of a target without a query.
+#[tactic(auto, unfolding(crate::specs::Form::bare_form))]
+fn bare_form(alloc: Global, method: Method, path: &str) -> Result<Option<Form>, AllocError>
+    ensures { IfOk result (λ form. form ≡ bare_form method path.now) }
+{
+    match cut(path, '/') {
+        Some((before, segments)) => if before.is_empty() {
+            bare_segments(alloc, method, segments)
+        } else {
+            Ok(None)
+        },
+        None => Ok(None),
+    }
+}
+
+fn bare_segments(alloc: Global, method: Method, segments: &str) -> Result<Option<Form>, AllocError>
+    ensures { IfOk result (λ form. form ≡ bare_segments method segments.now) }
+{
+    match cut(segments, '/') {
+        Some((kind, name)) => bare_routed(alloc, method, kind, name),
+        None => Ok(None),
+    }
+}
+
+#[tactic(auto, unfolding(crate::specs::Form::bare_routed))]
+fn bare_routed(
+    alloc: Global,
+    method: Method,
+    kind: &str,
+    name: &str,
+) -> Result<Option<Form>, AllocError>
+    ensures { IfOk result (λ form. form ≡ bare_routed method kind.now name.now) }
+{
+    if !(is_get(method) && kind == "manifests") {
+        return Ok(None);
+    }
+    match name_in(alloc, name)? {
+        Some(name) => Ok(Some(Form::ShownManifest { name })),
         None => Ok(None),
     }
 }

@@ -122,3 +122,36 @@ fn runs_end_with_their_statuses(rt: HostRuntime) -> Result<(), Fail> {
     assert_eq!(rt; run(alloc, words.as_slice(), &mut sure), 0);
     Ok(())
 }
+
+#[test]
+fn trees_are_refused_by_codes(rt: HostRuntime) -> Result<(), Fail> {
+    let alloc = rt.alloc();
+    let note =
+        "2024-05-01T10:01:00Z mara PUT /annotations/mara/n1?version=1&manifest=m1&group=public";
+    let shown = "2024-05-01T10:01:00Z - PUT /manifests/m2?version=1&group=public";
+    let hidden = "2024-05-01T10:01:00Z - PUT /manifests/m2?version=1&group=private";
+    for (put, tree, code) in [
+        (note, r#"{"type":"#, "json"),
+        (note, r#"{"at":1.0,"type":"Annotation"}"#, "not_whole"),
+        (note, r#"{"type":"Annotation"}"#, "note_target"),
+        (
+            note,
+            r#"{"body":7,"target":"x","type":"Annotation"}"#,
+            "note_body",
+        ),
+        (
+            shown,
+            r#"{"items":[],"label":{"en":["Log"]},"type":"Manifest"}"#,
+            "manifest_items",
+        ),
+        (shown, r#"{"items":[{"width":1200.5}]}"#, "not_whole"),
+        (hidden, r#"{"type":"Manifest"}"#, "group"),
+    ] {
+        let input = format!(in alloc; "{MARA}{MANIFEST}{put} {tree}")?;
+        let want = format!(in alloc; "line 3 refused: {code}\n")?;
+        let found = printed(alloc, &["-", "find", BASE, "10"], input.as_str(), &[], &[])?;
+        assert_eq!(rt; found.0, 3, "{input}");
+        assert_eq!(rt; found.1.as_slice(), want.as_bytes(), "{input}");
+    }
+    Ok(())
+}

@@ -1,17 +1,16 @@
 ghost use Rattle.std.specs.Prelude.{◌≡◌, ℕ, List, IfOk, OnOk, IsTrue, Ok, Some};
 ghost use Rattle.std.specs.Option.{option_copied};
-ghost use Rattle.std.specs.Result.{result_ok};
+ghost use Rattle.std.specs.Result.{result_map_both};
 ghost use Rattle.std.specs.Str.{is_utf8};
 ghost use Rattle.an_base.specs.Outcome.{only_if};
 ghost use Rattle.an_base.specs.Tree.{tree_of};
 ghost use Rattle.an_machine.specs.Step.{step};
-ghost use Rattle.an_machine.specs.State.{who_of};
-ghost use Rattle.an_search.specs.Search.{names_are_distinct};
+ghost use Rattle.an_machine.specs.State.{names_are_distinct, who_of};
 ghost use Rattle.an_app.specs.Line.{by_of, lent_words, words_of};
-ghost use Rattle.an_app.specs.Find.{turn_of, words_turn, by_turn, form_turn, decided_turn, read_turn, writer, reader};
+ghost use Rattle.an_app.specs.Find.{turn_of, words_turn, by_turn, form_turn, decided_turn, refusal_code, text_code, read_turn, search_line, manifest_line, writer, reader};
 ghost use Rattle.an_app.specs.Turned.{Takes};
 
-use crate::answer::answer;
+use crate::answer::{answer_manifest, answer_search};
 use crate::form::{Form, form_of, name_in};
 use crate::line::{LineWords, words_of};
 use an_base::{Code, Moment, Name, Text, Tree, TreeError, read_tree};
@@ -142,7 +141,7 @@ fn form_turn(
 {
     match form {
         Form::Reader { name } => match tree_in(alloc, words.tree)? {
-            Some(tree) => write(
+            Ok(tree) => write(
                 alloc,
                 book,
                 words.moment,
@@ -153,10 +152,10 @@ fn form_turn(
                     tree,
                 },
             ),
-            None => Ok(Some(Code::Unbuilt)),
+            Err(code) => Ok(Some(code)),
         },
         Form::Manifest { name, group } => match tree_in(alloc, words.tree)? {
-            Some(tree) => write(
+            Ok(tree) => write(
                 alloc,
                 book,
                 words.moment,
@@ -168,7 +167,7 @@ fn form_turn(
                     tree,
                 },
             ),
-            None => Ok(Some(Code::Unbuilt)),
+            Err(code) => Ok(Some(code)),
         },
         Form::Note {
             owner,
@@ -176,7 +175,7 @@ fn form_turn(
             manifest,
             group,
         } => match tree_in(alloc, words.tree)? {
-            Some(tree) => write(
+            Ok(tree) => write(
                 alloc,
                 book,
                 words.moment,
@@ -190,25 +189,37 @@ fn form_turn(
                     tree,
                 },
             ),
-            None => Ok(Some(Code::Unbuilt)),
+            Err(code) => Ok(Some(code)),
         },
-        Form::Search { manifest, word } => read(
+        Form::Search { manifest, word } => search_turn(
             alloc, book, settings, by, &manifest, &word, output,
         ),
+        Form::ShownManifest { name } => manifest_turn(alloc, book, settings, by, &name, output),
     }
 }
 
-/// The tree that a text is.
-fn tree_in(alloc: Global, text: &str) -> Result<Option<Tree>, AllocError>
-    ensures { IfOk result (λ tree. tree ≡ result_ok (tree_of text.now)) }
+/// The tree that a text is, or the code of what it is instead.
+fn tree_in(alloc: Global, text: &str) -> Result<Result<Tree, Code>, AllocError>
+    ensures { IfOk result (λ tree. tree ≡ result_map_both (λ t. t) text_code (tree_of text.now)) }
 {
     match read_tree(alloc, text.as_bytes()) {
-        Ok(tree) => Ok(Some(Tree::new(tree))),
+        Ok(tree) => Ok(Ok(Tree::new(tree))),
         Err(error) => if matches!(error, TreeError::Memory) {
             Err(AllocError)
         } else {
-            Ok(None)
+            Ok(Err(text_code(error)))
         },
+    }
+}
+
+fn text_code(error: TreeError) -> Code
+    ensures { result ≡ text_code error }
+{
+    match error {
+        TreeError::Json => Code::Json,
+        TreeError::NotWhole => Code::NotWhole,
+        TreeError::Deep => Code::Deep,
+        TreeError::Memory => Code::Unbuilt,
     }
 }
 
@@ -232,8 +243,26 @@ fn write(
         Err(refused) => if matches!(refused, Refused::Memory) {
             Err(AllocError)
         } else {
-            Ok(Some(Code::Unbuilt))
+            Ok(Some(refusal_code(refused)))
         },
+    }
+}
+
+/// The code that a line prints for a refusal.
+fn refusal_code(refused: Refused) -> Code
+    ensures { result ≡ refusal_code refused }
+{
+    match refused {
+        Refused::Shape(code) => code,
+        Refused::NotSigned => Code::Unbuilt,
+        Refused::NotWriter => Code::Unbuilt,
+        Refused::NotOwn => Code::Unbuilt,
+        Refused::NoManifest => Code::Unbuilt,
+        Refused::NotMember => Code::Unbuilt,
+        Refused::GroupFixed => Code::Unbuilt,
+        Refused::TokenTaken => Code::Unbuilt,
+        Refused::Version { current: _ } => Code::Unbuilt,
+        Refused::Memory => Code::Unbuilt,
     }
 }
 
@@ -264,7 +293,7 @@ fn apply(book: &mut Book, decided: Decided) -> Result<Option<Code>, AllocError>
 }
 
 /// Prints the answer to a search. Answers the code where the line is by nobody.
-fn read(
+fn search_turn(
     alloc: Global,
     book: &Book,
     settings: &Settings,
@@ -275,13 +304,37 @@ fn read(
 ) -> Result<Option<Code>, AllocError>
     requires distinct { IsTrue (names_are_distinct book.now.state.manifests) }
     ensures { IfOk result (Takes
-        (read_turn settings.now book.now.state manifest.now word.now (who_of book.now.state (reader by)))
+        (read_turn (search_line settings.now book.now.state manifest.now word.now) (who_of book.now.state (reader by)))
         book.now.state book.now.state output.old.items output.new.items) }
 {
     let caller = reader(by);
     match book.who(&caller) {
         Some(who) => {
-            answer(alloc, book, &who, settings, manifest, word, output)?;
+            answer_search(alloc, book, &who, settings, manifest, word, output)?;
+            Ok(None)
+        }
+        None => Ok(Some(Code::Unbuilt)),
+    }
+}
+
+/// Prints a manifest. Answers the code where the line is by nobody.
+fn manifest_turn(
+    alloc: Global,
+    book: &Book,
+    settings: &Settings,
+    by: Option<Name>,
+    name: &Name,
+    output: &mut Vec<u8>,
+) -> Result<Option<Code>, AllocError>
+    requires distinct { IsTrue (names_are_distinct book.now.state.manifests) }
+    ensures { IfOk result (Takes
+        (read_turn (manifest_line settings.now book.now.state name.now) (who_of book.now.state (reader by)))
+        book.now.state book.now.state output.old.items output.new.items) }
+{
+    let caller = reader(by);
+    match book.who(&caller) {
+        Some(who) => {
+            answer_manifest(alloc, book, &who, settings, name, output)?;
             Ok(None)
         }
         None => Ok(Some(Code::Unbuilt)),

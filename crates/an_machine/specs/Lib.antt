@@ -1,6 +1,5 @@
 pub mod State
 pub mod Rows
-pub mod Plain
 pub mod View
 pub mod Step
 pub mod Entries

@@ -1,6 +1,6 @@
 -- What the server knows: four lists, in the order in which their rows were first made. A row stays in its place for good.
-use Rattle.std.specs.Prelude.{ℕ, ℤ, List, [], Option, Some, None, option_map, option_and_then, find, bytes_eq}
-use Rattle.std.specs.List.{filter_map}
+use Rattle.std.specs.Prelude.{ℕ, ℤ, List, [], ◌∷◌, Bool, true, ◌&&◌, not, Option, Some, None, option_map, option_and_then, find, bytes_eq}
+use Rattle.std.specs.List.{filter_map, list_any}
 use Rattle.serde_json.specs.Data.{Data}
 use Rattle.an_policy.specs.declared.group.Group.{Group}
 use Rattle.an_policy.specs.declared.reader.Reader.{Reader}
@@ -72,9 +72,18 @@ manifest_row s name = row_of manifest_key (record { owner = None; name = name })
 abbrev pub note_row : State → List ℕ → List ℕ → Option KeptNote
 note_row s owner name = row_of note_key (record { owner = Some owner; name = name }) s.notes
 
+-- no two manifests have one name
+abbrev pub names_are_distinct : List KeptManifest → Bool
+names_are_distinct [] = true
+names_are_distinct (row ∷ rows) = not (list_any (λ other. bytes_eq other.name row.name) rows) && names_are_distinct rows
+
 -- the readers that aren't deleted
 abbrev pub live_readers : State → List Reader
 live_readers s = filter_map (λ row. row.live) s.readers
+
+-- the token of a row, while its reader is live
+abbrev pub reader_token : KeptReader → Option (List ℕ)
+reader_token row = option_map (λ reader. reader.token) row.live
 
 -- the live reader with this token; no two have one token
 abbrev pub reader_with_token : State → List ℕ → Option Reader

@@ -1,11 +1,17 @@
 -- The small machine: which writes are accepted, and what they come to.
-use Rattle.std.specs.Prelude.{ℕ, ◌-◌, ℤ, int_lt, length, slice_get, List, [], ◌∷◌, Bool, true, false, ◌&&◌, ◌||◌, ◌==◌, not, bytes_eq, is_some, if◌then◌else◌, Option, Some, None, option_map, option_and_then, option_to_list, unwrap_or, Result, Ok, Err}
+use Rattle.std.specs.Prelude.{ℕ, ◌-◌, ℤ, int_lt, length, slice_get, List, [], ◌∷◌, Bool, true, false, ◌&&◌, ◌||◌, ◌==◌, not, bytes_eq, is_some, if◌then◌else◌, Option, Some, None, option_map, option_and_then, option_to_list, unwrap_or, Result, Err}
 use Rattle.std.specs.List.{list_any}
-use Rattle.std.specs.Result.{result_ok}
+use Rattle.std.specs.Result.{result_ok, result_err}
 use Rattle.serde_json.specs.Data.{Data}
 use Rattle.an_base.specs.Outcome.{when, first_of, unless}
 use Rattle.an_base.specs.declared.code.Code.{Code}
 use Rattle.an_base.specs.declared.code.Code.TheVariants as code
+use Rattle.an_manifest.specs.Manifest.{manifest_of, manifest_refusals as manifest_refusals_of}
+use Rattle.an_manifest.specs.declared.sheet.SheetError.{SheetError}
+use Rattle.an_manifest.specs.declared.sheet.SheetError.TheVariants as sheet
+use Rattle.an_model.specs.Note.{note_of, note_refusal}
+use Rattle.an_model.specs.declared.refusal.NoteError.{NoteError}
+use Rattle.an_model.specs.declared.refusal.NoteError.TheVariants as note
 use Rattle.an_policy.specs.declared.group.Group.{Group}
 use Rattle.an_policy.specs.declared.group.Group.TheVariants.{Public, Private, Named}
 use Rattle.an_policy.specs.declared.reader.Reader.{Reader}
@@ -18,7 +24,6 @@ use Rattle.an_policy.specs.Audience.{Identity, anonymous, operator, signed, is_a
 use Rattle.an_policy.specs.Reader.{reader_of}
 use Rattle.an_machine.specs.State.{State, reader_row, manifest_row, note_row, live_readers, who_of}
 use Rattle.an_base.specs.Outcome.{passes}
-use Rattle.an_machine.specs.Plain.{is_plain_manifest, is_plain_note}
 use Rattle.an_machine.specs.View.{shows_manifest}
 use Rattle.an_machine.specs.declared.activity.Activity.{Activity}
 use Rattle.an_machine.specs.declared.command.Command.{Command}
@@ -66,9 +71,27 @@ reader_code error.User = Some code.ReaderUser
 reader_code error.Groups = Some code.ReaderGroups
 reader_code error.Memory = None
 
-abbrev pub reader_shape : Result Reader ReaderError → Option Refused
-reader_shape (Ok reader) = None
-reader_shape (Err e) = option_map Shape (reader_code e)
+-- the code of a tree that is no manifest
+abbrev pub manifest_code : SheetError → Option Code
+manifest_code sheet.Version2 = Some code.ManifestVersion2
+manifest_code sheet.WrongType = Some code.ManifestType
+manifest_code sheet.Label = Some code.ManifestLabel
+manifest_code sheet.Items = Some code.ManifestItems
+manifest_code (sheet.Canvas at) = Some (code.ManifestCanvas at)
+manifest_code sheet.Memory = None
+
+-- the code of a tree that is no annotation
+abbrev pub note_code : NoteError → Option Code
+note_code note.WrongType = Some code.NoteType
+note_code (note.Target at) = Some (code.NoteTarget at)
+note_code (note.Selector at) = Some (code.NoteSelector at)
+note_code (note.Body at) = Some (code.NoteBody at)
+note_code (note.Motivation at) = Some (code.NoteMotivation at)
+note_code note.Memory = None
+
+-- a tree that isn't of its shape is refused by its code
+abbrev pub shape : {E : Type 0} → (E → Option Code) → Option E → Option Refused
+shape code refusal = option_map Shape (option_and_then code refusal)
 
 -- the reader has another name and this token
 abbrev pub is_taken_from : List ℕ → List ℕ → Reader → Bool
@@ -85,7 +108,7 @@ version_refusal current version = when (is_some current || not (version == 1)) (
 abbrev pub reader_refusals : State → Identity → List ℕ → ℕ → Data → List (Option Refused)
 reader_refusals s who name version tree =
     when (not (may_manage who)) NotWriter
-    ∷ reader_shape (reader_of tree name version)
+    ∷ shape reader_code (result_err (reader_of tree name version))
     ∷ when (passes (λ reader. is_token_taken s name reader.token) (result_ok (reader_of tree name version))) TokenTaken
     ∷ version_refusal (option_map (λ row. row.version) (reader_row s name)) version
     ∷ []
@@ -110,7 +133,7 @@ abbrev pub manifest_refusals : State → Identity → List ℕ → ℕ → Group
 manifest_refusals s who name version group tree =
     when (not (may_manage who)) NotWriter
     ∷ when (is_private group) (Shape code.Group)
-    ∷ when (not (is_plain_manifest tree)) (Shape code.Unbuilt)
+    ∷ shape manifest_code (first_of (manifest_refusals_of tree))
     ∷ when (passes (λ row. not (same_group row.group group)) (manifest_row s name)) GroupFixed
     ∷ version_refusal (option_map (λ row. row.version) (manifest_row s name)) version
     ∷ []
@@ -127,7 +150,7 @@ note_refusals s who owner name version manifest group tree =
     ∷ when (not (is_named who owner)) NotOwn
     ∷ when (not (passes (shows_manifest who) (manifest_row s manifest))) NoManifest
     ∷ when (is_outside who group) NotMember
-    ∷ when (not (is_plain_note tree)) (Shape code.Unbuilt)
+    ∷ shape note_code (note_refusal tree)
     ∷ version_refusal (option_map (λ row. row.version) (note_row s owner name)) version
     ∷ []
 
@@ -174,8 +197,8 @@ version_of (PutNote owner name version manifest group tree) = version
 -- the row of an object that wasn't there
 abbrev pub new_row : Identity → ℤ → Command → Row
 new_row who at (PutReader name version tree) = kept.Reader (record { name = name; version = version; live = result_ok (reader_of tree name version) })
-new_row who at (PutManifest name version group tree) = kept.Manifest (record { name = name; version = version; group = group; live = Some (record { created = at; modified = None; tree = tree }) })
-new_row who at (PutNote owner name version manifest group tree) = kept.Note (record { owner = owner; name = name; version = version; live = Some (record { manifest = manifest; group = group; creator = user_of who; created = at; modified = None; tree = tree }) })
+new_row who at (PutManifest name version group tree) = kept.Manifest (record { name = name; version = version; group = group; live = option_map (λ kept. record { created = at; modified = None; tree = kept }) (result_ok (manifest_of tree)) })
+new_row who at (PutNote owner name version manifest group tree) = kept.Note (record { owner = owner; name = name; version = version; live = option_map (λ kept. record { manifest = manifest; group = group; creator = user_of who; created = at; modified = None; tree = kept }) (result_ok (note_of tree)) })
 
 -- what the stream of changes gets: readers make no activity
 abbrev pub new_activity : State → Identity → ℤ → Command → Option Activity

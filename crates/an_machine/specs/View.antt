@@ -1,5 +1,5 @@
 -- What a caller may read.
-use Rattle.std.specs.Prelude.{ℕ, ◌+◌, List, [], ◌∷◌, Bool, ◌&&◌, if◌then◌else◌, bytes_eq, filter, is_some, Some, None}
+use Rattle.std.specs.Prelude.{ℕ, ◌+◌, List, [], ◌∷◌, Bool, ◌&&◌, if◌then◌else◌, bytes_eq, filter, find, is_some, Option, Some, None}
 use Rattle.an_policy.specs.declared.group.Audience.{Audience}
 use Rattle.an_policy.specs.declared.group.Group.TheVariants.{Public}
 use Rattle.an_policy.specs.Audience.{Identity, may}
@@ -28,6 +28,10 @@ pub record View : Type 0 where
 
 abbrev pub view_of : State → Identity → View
 view_of s who = record { manifests = filter (shows_manifest who) s.manifests; notes = filter (shows_note s who) s.notes }
+
+-- the manifest of this name in the view
+abbrev pub manifest_in : View → List ℕ → Option KeptManifest
+manifest_in view name = find (λ row. bytes_eq row.name name) view.manifests
 
 -- the annotation is live, and on this manifest
 abbrev pub is_on : List ℕ → KeptNote → Bool

@@ -3,6 +3,8 @@ ghost use Rattle.std.specs.Option.{option_copied};
 ghost use Rattle.std.specs.Result.{result_ok};
 ghost use Rattle.an_policy.specs.Audience.{identity};
 ghost use Rattle.an_policy.specs.Reader.{reader_of};
+ghost use Rattle.an_manifest.specs.Manifest.{manifest_of};
+ghost use Rattle.an_model.specs.Note.{note_of};
 ghost use Rattle.an_machine.specs.Step.{accepted, by_whom, user_of, moment_of_write, entry_of, new_row, new_activity, object_of, version_of};
 ghost use Rattle.an_machine.specs.Rows.{reader_agrees};
 ghost use Rattle.an_machine.specs.State.{manifest_row};
@@ -13,6 +15,8 @@ use crate::command::{Command, Decided, Object, WriteReply};
 use crate::entry::{Entry, Row};
 use crate::row::{ManifestRow, NoteRow, ReaderRow};
 use an_base::{List, Moment, Name, Text, Tree, TryCopy};
+use an_manifest::{Sheet, SheetError, read_manifest};
+use an_model::{Note, NoteError, read_note};
 use an_policy::{Audience, Group, Reader, ReaderError, Who, read_reader};
 use std::alloc::{AllocError, Global};
 
@@ -211,7 +215,10 @@ fn new_row(alloc: Global, who: &Who<'_>, at: Moment, command: &Command) -> Resul
             version,
             group,
             tree,
-        } => Ok(Row::Manifest(new_manifest(at, name, *version, group, tree)?)),
+        } => {
+            let sheet = sheet_in(alloc, tree)?;
+            Ok(Row::Manifest(new_manifest(at, name, *version, group, sheet)?))
+        }
         Command::PutNote {
             owner,
             name,
@@ -221,7 +228,7 @@ fn new_row(alloc: Global, who: &Who<'_>, at: Moment, command: &Command) -> Resul
             tree,
         } => {
             let creator = user_of(alloc, who)?;
-            let live = new_live(manifest, group, tree)?;
+            let live = new_live(alloc, manifest, group, tree)?;
             Ok(Row::Note(new_note(at, owner, name, *version, creator, live)?))
         }
     }
@@ -271,30 +278,84 @@ fn new_manifest(
     name: &Name,
     version: u32,
     group: &Group,
-    tree: &Tree,
+    sheet: Option<Sheet>,
 ) -> Result<ManifestRow, AllocError>
     ensures { IfOk result (λ row. row ≡ record {
       name = name.now;
       version = version;
       group = group.now;
-      live = Some (record { created = at; modified = None; tree = tree.now });
+      live = option_map (λ kept. record { created = at; modified = None; tree = kept }) sheet;
     }) }
 {
-    Ok(ManifestRow {
-        name: name.copy()?,
-        version,
-        live: true,
-        group: group.copy()?,
-        created: Some(at),
-        modified: None,
-        tree: Some(tree.copy()?),
-    })
+    let name = name.copy()?;
+    let group = group.copy()?;
+    match sheet {
+        Some(sheet) => Ok(ManifestRow {
+            name,
+            version,
+            live: true,
+            group,
+            created: Some(at),
+            modified: None,
+            tree: Some(sheet),
+        }),
+        None => Ok(no_manifest(name, version, group)),
+    }
 }
 
-fn new_live(manifest: &Name, group: &Group, tree: &Tree) -> Result<(Name, Group, Tree), AllocError>
-    ensures { IfOk result (λ parts. parts ≡ (manifest.now, group.now, tree.now)) }
+/// The row of a manifest that isn't there.
+fn no_manifest(name: Name, version: u32, group: Group) -> ManifestRow
+    ensures { result ≡ record { name = name; version = version; group = group; live = None } }
 {
-    Ok((manifest.copy()?, group.copy()?, tree.copy()?))
+    ManifestRow {
+        name,
+        version,
+        live: false,
+        group,
+        created: None,
+        modified: None,
+        tree: None,
+    }
+}
+
+/// The manifest that the tree is.
+fn sheet_in(alloc: Global, tree: &Tree) -> Result<Option<Sheet>, AllocError>
+    ensures { IfOk result (λ sheet. sheet ≡ result_ok (manifest_of tree.now)) }
+{
+    match read_manifest(alloc, tree.as_value()) {
+        Ok(sheet) => Ok(Some(sheet)),
+        Err(error) => if matches!(error, SheetError::Memory) {
+            Err(AllocError)
+        } else {
+            Ok(None)
+        },
+    }
+}
+
+/// The annotation that the tree is.
+fn note_in(alloc: Global, tree: &Tree) -> Result<Option<Note>, AllocError>
+    ensures { IfOk result (λ note. note ≡ result_ok (note_of tree.now)) }
+{
+    match read_note(alloc, tree.as_value()) {
+        Ok(note) => Ok(Some(note)),
+        Err(error) => if matches!(error, NoteError::Memory) {
+            Err(AllocError)
+        } else {
+            Ok(None)
+        },
+    }
+}
+
+fn new_live(
+    alloc: Global,
+    manifest: &Name,
+    group: &Group,
+    tree: &Tree,
+) -> Result<(Name, Group, Option<Note>), AllocError>
+    ensures { IfOk result (λ parts. parts ≡ (manifest.now, group.now, result_ok (note_of tree.now))) }
+{
+    let note = note_in(alloc, tree)?;
+    Ok((manifest.copy()?, group.copy()?, note))
 }
 
 fn new_note(
@@ -303,28 +364,51 @@ fn new_note(
     name: &Name,
     version: u32,
     creator: Text,
-    live: (Name, Group, Tree),
+    live: (Name, Group, Option<Note>),
 ) -> Result<NoteRow, AllocError>
     ensures { IfOk result (λ row. row ≡ record {
       owner = owner.now;
       name = name.now;
       version = version;
-      live = Some (record { manifest = live.0; group = live.1; creator = creator; created = at; modified = None; tree = live.2 });
+      live = option_map (λ kept. record { manifest = live.0; group = live.1; creator = creator; created = at; modified = None; tree = kept }) live.2;
     }) }
 {
-    let (manifest, group, tree) = live;
-    Ok(NoteRow {
-        owner: owner.copy()?,
-        name: name.copy()?,
+    let owner = owner.copy()?;
+    let name = name.copy()?;
+    let (manifest, group, note) = live;
+    match note {
+        Some(note) => Ok(NoteRow {
+            owner,
+            name,
+            version,
+            live: true,
+            manifest: Some(manifest),
+            group: Some(group),
+            creator: Some(creator),
+            created: Some(at),
+            modified: None,
+            tree: Some(note),
+        }),
+        None => Ok(no_note(owner, name, version)),
+    }
+}
+
+/// The row of an annotation that isn't there.
+fn no_note(owner: Name, name: Name, version: u32) -> NoteRow
+    ensures { result ≡ record { owner = owner; name = name; version = version; live = None } }
+{
+    NoteRow {
+        owner,
+        name,
         version,
-        live: true,
-        manifest: Some(manifest),
-        group: Some(group),
-        creator: Some(creator),
-        created: Some(at),
+        live: false,
+        manifest: None,
+        group: None,
+        creator: None,
+        created: None,
         modified: None,
-        tree: Some(tree),
-    })
+        tree: None,
+    }
 }
 
 /// What the stream of changes gets.

@@ -1,13 +1,14 @@
 ghost use Rattle.std.specs.Prelude.{◌≡◌, ◌+◌, ◌<◌, ◌≤◌, ◌++◌, OnOk, length};
 ghost use Rattle.std.specs.Option.{option_copied};
-ghost use Rattle.an_machine.specs.State.{empty, reader_row, manifest_row, note_row};
+ghost use Rattle.an_machine.specs.State.{empty, reader_row, manifest_row, note_row, reader_token};
+ghost use Rattle.an_keyed.specs.Marks.{marked_row};
 ghost use Rattle.an_machine.specs.Entries.{with_row, with_rows, after, needs};
 
 use crate::activity::Activity;
 use crate::entry::{Entry, Row};
 use crate::row::{ManifestRow, NoteRow, ReaderRow};
 use an_base::Name;
-use an_keyed::Rows;
+use an_keyed::{MarkedRows, Rows};
 use std::alloc::{AllocError, Global};
 use std::marker::Model;
 
@@ -15,7 +16,7 @@ use std::marker::Model;
 /// has room.
 #[derive(Drop)]
 pub struct Book {
-    readers: Rows<ReaderRow>,
+    readers: MarkedRows<ReaderRow>,
     manifests: Rows<ManifestRow>,
     notes: Rows<NoteRow>,
     activities: Vec<Activity>,
@@ -44,7 +45,7 @@ impl Book {
         ensures empty { result.state ≡ empty }
     {
         Book {
-            readers: Rows::new(alloc),
+            readers: MarkedRows::new(alloc),
             manifests: Rows::new(alloc),
             notes: Rows::new(alloc),
             activities: Vec::new(alloc),
@@ -78,6 +79,13 @@ impl Book {
         ensures row { option_copied result ≡ reader_row self.now.state name.now }
     {
         self.readers.find(None, name)
+    }
+
+    /// The row of the live reader with this token.
+    pub(crate) fn reader_with_token(&self, token: &str) -> Option<&ReaderRow>
+        ensures row { option_copied result ≡ marked_row reader_token token.now self.now.state.readers }
+    {
+        self.readers.find_marked(token)
     }
 
     /// The row of a manifest, live or a tombstone.

@@ -7,6 +7,7 @@ pub use command::{Command, Decided, Object, Refused, WriteReply};
 pub use entry::{Entry, Row};
 pub use look::Look;
 pub use row::{LiveNote, ManifestRow, NoteRow, ReaderRow};
+pub use shown::shown_manifest;
 
 mod accept;
 mod activity;
@@ -15,8 +16,8 @@ mod command;
 mod decide;
 mod entry;
 mod look;
-mod plain;
 mod refusal;
 mod row;
+mod shown;
 #[cfg(test)]
 mod tests;

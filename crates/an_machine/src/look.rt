@@ -1,13 +1,11 @@
-ghost use Rattle.std.specs.Prelude.{◌≡◌, ◌+◌, IfOk, bytes_eq, find, option_and_then, option_map, slice_get};
-ghost use Rattle.std.specs.List.{filter_map};
-ghost use Rattle.an_base.specs.Outcome.{passes};
+ghost use Rattle.std.specs.Prelude.{◌≡◌, ◌+◌, IfOk, option_and_then, option_map, slice_get};
 ghost use Rattle.std.specs.Option.{option_copied};
 ghost use Rattle.an_policy.specs.Audience.{identity, signed};
-ghost use Rattle.an_machine.specs.State.{who_of, reader_row, manifest_row, note_row};
+ghost use Rattle.an_machine.specs.State.{who_of, reader_row, reader_with_token, manifest_row, note_row};
 ghost use Rattle.an_machine.specs.View.{readable_places, is_on, shows_note};
 
 use crate::book::Book;
-use crate::row::{ManifestRow, NoteRow, ReaderRow};
+use crate::row::{ManifestRow, NoteRow};
 use an_base::{Name, Steps};
 use an_keyed::Keyed;
 use an_policy::{Caller, Reader, Who, may_read};
@@ -54,7 +52,7 @@ impl Look for Book {
         match caller {
             Caller::Anonymous => Some(Who::Anonymous),
             Caller::Operator => Some(Who::Operator),
-            Caller::Token(token) => lent(with_token(self.readers(), token.as_str())),
+            Caller::Token(token) => lent(with_token(self, token.as_str())),
             Caller::Named(name) => lent(live_reader(self, name)),
         }
     }
@@ -92,24 +90,13 @@ fn lent(reader: Option<&Reader>) -> Option<Who<'_>>
 }
 
 /// The live reader with this token.
-fn with_token<'a>(rows: &'a [ReaderRow], token: &str) -> Option<&'a Reader>
-    ensures { option_copied result
-        ≡ find (λ reader. bytes_eq reader.token token.now) (filter_map (λ row. row.live) rows.now) }
+#[tactic(auto, using(crate::proofs::TokenLemmas::tokens))]
+fn with_token<'a>(book: &'a Book, token: &str) -> Option<&'a Reader>
+    ensures { option_copied result ≡ reader_with_token book.now.state token.now }
 {
-    for row in rows {
-        if has_token(row, token) {
-            return row.reader();
-        }
-    }
-    None
-}
-
-fn has_token(row: &ReaderRow, token: &str) -> bool
-    ensures { result ≡ passes (λ reader. bytes_eq reader.token token.now) row.now.live }
-{
-    match row.reader() {
-        Some(reader) => reader.token.as_str() == token,
-        None => false,
+    match book.reader_with_token(token) {
+        Some(row) => row.reader(),
+        None => None,
     }
 }
 

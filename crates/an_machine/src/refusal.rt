@@ -1,20 +1,21 @@
 ghost use Rattle.std.specs.Prelude.{◌≡◌, [], ◌∷◌, IfOk, not, option_map};
 ghost use Rattle.std.specs.List.{list_any, filter_map};
-ghost use Rattle.serde_json.specs.View.{view};
 ghost use Rattle.an_base.specs.Outcome.{first_of, passes, when};
+ghost use Rattle.an_manifest.specs.Manifest.{manifest_refusals as manifest_refusals_of};
+ghost use Rattle.an_model.specs.Note.{note_refusal};
 ghost use Rattle.an_policy.specs.Audience.{identity};
 ghost use Rattle.an_machine.specs.State.{manifest_row, note_row, reader_row};
-ghost use Rattle.an_machine.specs.Step.{may_manage, only_reads, is_token_taken, is_taken_from, reader_code, version_refusal, reader_refusals, manifest_refusals, note_refusals, refusals, is_private, same_group, is_outside};
+ghost use Rattle.an_machine.specs.Step.{may_manage, only_reads, is_token_taken, is_taken_from, reader_code, manifest_code, note_code, shape, version_refusal, reader_refusals, manifest_refusals, note_refusals, refusals, is_private, same_group, is_outside};
 ghost use Rattle.an_machine.specs.View.{shows_manifest};
 
 use crate::book::Book;
 use crate::command::{Command, Refused};
-use crate::plain;
-use crate::row::{ManifestRow, ReaderRow};
+use crate::row::ReaderRow;
+use crate::shown::is_shown;
 use an_base::{Code, Name, Text, Tree, TryCopy};
-use an_policy::{
-    Group, Reader, ReaderError, Role, Who, is_member, is_named, may_read, read_reader,
-};
+use an_manifest::{SheetError, manifest_refusal as sheet_refusal};
+use an_model::{NoteError, note_refusal as tree_refusal};
+use an_policy::{Group, Reader, ReaderError, Role, Who, is_member, is_named, read_reader};
 use std::alloc::{AllocError, Global};
 
 /// The first refusal of a command by this caller.
@@ -88,7 +89,7 @@ fn reader_conflict(book: &Book, name: &Name, version: u32, token: &Text) -> Opti
     ensures { result ≡ first_of (when (is_token_taken book.now.state name.now token.now) Refused.TokenTaken
         ∷ version_refusal (option_map (λ row. row.version) (reader_row book.now.state name.now)) version ∷ []) }
 {
-    if is_token_taken(book.readers(), name, token) {
+    if is_token_taken(book, name, token) {
         return Some(Refused::TokenTaken);
     }
     match book.reader_row(name) {
@@ -97,8 +98,19 @@ fn reader_conflict(book: &Book, name: &Name, version: u32, token: &Text) -> Opti
     }
 }
 
-/// Whether a live reader of another name has the token.
-fn is_token_taken(rows: &[ReaderRow], name: &Name, token: &Text) -> bool
+/// Whether a live reader of another name has the token. All rows are walked only where the first
+/// live reader with the token has this name.
+#[tactic(auto, using(crate::proofs::TokenLemmas::tokens))]
+fn is_token_taken(book: &Book, name: &Name, token: &Text) -> bool
+    ensures { result ≡ is_token_taken book.now.state name.now token.now }
+{
+    match book.reader_with_token(token.as_str()) {
+        Some(row) => takes_token(row, name, token) || is_taken_in(book.readers(), name, token),
+        None => false,
+    }
+}
+
+fn is_taken_in(rows: &[ReaderRow], name: &Name, token: &Text) -> bool
     ensures { result ≡ list_any (is_taken_from name.now token.now) (filter_map (λ row. row.live) rows.now) }
 {
     for row in rows {
@@ -148,8 +160,8 @@ fn manifest_refusal(
     if is_private(group) {
         return Some(Refused::Shape(Code::Group));
     }
-    if !plain::is_plain_manifest(tree.as_value()) {
-        return Some(Refused::Shape(Code::Unbuilt));
+    if let Some(refusal) = manifest_shape(tree) {
+        return Some(refusal);
     }
     match book.manifest_row(name) {
         Some(row) => if is_same_group(row.group(), group) {
@@ -186,12 +198,64 @@ fn note_refusal(
     if is_outside(who, group) {
         return Some(Refused::NotMember);
     }
-    if !plain::is_plain_note(tree.as_value()) {
-        return Some(Refused::Shape(Code::Unbuilt));
+    if let Some(refusal) = note_shape(tree) {
+        return Some(refusal);
     }
     match book.note_row(owner, name) {
         Some(row) => version_refusal(Some(row.version()), version),
         None => version_refusal(None, version),
+    }
+}
+
+/// Why a tree is no manifest.
+fn manifest_shape(tree: &Tree) -> Option<Refused>
+    ensures { result ≡ shape manifest_code (first_of (manifest_refusals_of tree.now)) }
+{
+    match sheet_refusal(tree.as_value()) {
+        Some(error) => match manifest_code(error) {
+            Some(code) => Some(Refused::Shape(code)),
+            None => None,
+        },
+        None => None,
+    }
+}
+
+fn manifest_code(error: SheetError) -> Option<Code>
+    ensures { result ≡ manifest_code error }
+{
+    match error {
+        SheetError::Version2 => Some(Code::ManifestVersion2),
+        SheetError::WrongType => Some(Code::ManifestType),
+        SheetError::Label => Some(Code::ManifestLabel),
+        SheetError::Items => Some(Code::ManifestItems),
+        SheetError::Canvas { at } => Some(Code::ManifestCanvas { at }),
+        SheetError::Memory => None,
+    }
+}
+
+/// Why a tree is no annotation.
+fn note_shape(tree: &Tree) -> Option<Refused>
+    ensures { result ≡ shape note_code (note_refusal tree.now) }
+{
+    match tree_refusal(tree.as_value()) {
+        Some(error) => match note_code(error) {
+            Some(code) => Some(Refused::Shape(code)),
+            None => None,
+        },
+        None => None,
+    }
+}
+
+fn note_code(error: NoteError) -> Option<Code>
+    ensures { result ≡ note_code error }
+{
+    match error {
+        NoteError::WrongType => Some(Code::NoteType),
+        NoteError::Target { at } => Some(Code::NoteTarget { at }),
+        NoteError::Selector { at } => Some(Code::NoteSelector { at }),
+        NoteError::Body { at } => Some(Code::NoteBody { at }),
+        NoteError::Motivation { at } => Some(Code::NoteMotivation { at }),
+        NoteError::Memory => None,
     }
 }
 
@@ -257,12 +321,4 @@ fn shows_manifest(book: &Book, who: &Who<'_>, name: &Name) -> bool
         Some(row) => is_shown(who, row),
         None => false,
     }
-}
-
-/// Whether the manifest is live, and the caller may read it.
-fn is_shown(who: &Who<'_>, row: &ManifestRow) -> bool
-    ensures { result ≡ shows_manifest (identity who.now) row.now }
-{
-    let everybody = Group::Public;
-    row.is_live() && may_read(who, row.group(), &everybody, None)
 }

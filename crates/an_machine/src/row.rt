@@ -1,8 +1,10 @@
 ghost use Rattle.std.specs.Prelude.{◌≡◌, is_some, option_map};
 ghost use Rattle.std.specs.Option.{option_copied};
 
-use an_base::{Moment, Name, Text, Tree, TryCopy};
-use an_keyed::Keyed;
+use an_base::{Moment, Name, Text, TryCopy};
+use an_keyed::{Keyed, Marked};
+use an_manifest::Sheet;
+use an_model::Note;
 use an_policy::{Group, Reader};
 use std::alloc::AllocError;
 use std::marker::Model;
@@ -42,6 +44,19 @@ impl Keyed for ReaderRow {
     }
 }
 
+impl Marked for ReaderRow {
+    ghost use Rattle.an_machine.specs.State.{reader_token};
+
+    ghost mark = { reader_token };
+
+    fn mark(&self) -> Option<&str> {
+        match &self.reader {
+            Some(reader) => Some(reader.token.as_str()),
+            None => None,
+        }
+    }
+}
+
 impl TryCopy for ReaderRow {
     fn copy(&self) -> Result<ReaderRow, AllocError> {
         Ok(ReaderRow {
@@ -78,7 +93,7 @@ pub struct ManifestRow {
     pub group: Group,
     pub created: Option<Moment>,
     pub modified: Option<Moment>,
-    pub tree: Option<Tree>,
+    pub tree: Option<Sheet>,
 }
 
 impl Model for ManifestRow {
@@ -140,6 +155,14 @@ impl ManifestRow {
         &self.group
     }
 
+    /// What is kept of the manifest's tree while it is live.
+    pub fn sheet(&self) -> Option<&Sheet>
+        ensures sheet { option_copied result ≡ option_map (λ live. live.tree) self.now.live }
+    {
+        let _created = self.created?;
+        self.tree.as_ref()
+    }
+
     /// Whether the manifest is there.
     pub fn is_live(&self) -> bool
         ensures live { result ≡ is_some self.now.live }
@@ -161,7 +184,7 @@ pub struct NoteRow {
     pub creator: Option<Text>,
     pub created: Option<Moment>,
     pub modified: Option<Moment>,
-    pub tree: Option<Tree>,
+    pub tree: Option<Note>,
 }
 
 impl Model for NoteRow {
@@ -220,7 +243,7 @@ pub struct LiveNote<'a> {
     pub creator: &'a Text,
     pub created: Moment,
     pub modified: Option<Moment>,
-    pub tree: &'a Tree,
+    pub tree: &'a Note,
 }
 
 impl NoteRow {

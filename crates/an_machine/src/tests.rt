@@ -74,11 +74,20 @@ fn note(
     version: u32,
     shown: &str,
 ) -> Result<Command, Fail> {
+    annotation(alloc, path, version, shown, tree(alloc, NOTE)?)
+}
+
+fn annotation(
+    alloc: Global,
+    path: (&str, &str, &str),
+    version: u32,
+    shown: &str,
+    tree: Tree,
+) -> Result<Command, Fail> {
     let owner = name(alloc, path.0)?;
     let own = name(alloc, path.1)?;
     let manifest = name(alloc, path.2)?;
     let group = group(alloc, shown)?;
-    let tree = tree(alloc, NOTE)?;
     Ok(Command::PutNote {
         owner,
         name: own,
@@ -186,7 +195,23 @@ fn writes_are_refused(rt: HostRuntime) -> Result<(), Fail> {
         assert_eq!(rt; refusal(alloc, &book, by, &command)?, want, "{by} {shown}");
     }
     readers_are_refused(&rt, alloc, &book)?;
+    shapes_are_refused(&rt, alloc, &book)?;
     manifests_are_refused(&rt, alloc, &book)
+}
+
+/// An annotation without a target is no annotation, but its group is looked at first.
+fn shapes_are_refused(rt: &impl Abort, alloc: Global, book: &Book) -> Result<(), Fail> {
+    let aimless = tree(alloc, r#"{"type":"Annotation"}"#)?;
+    let command = annotation(alloc, ("ivo", "o1", "m1"), 1, "public", aimless)?;
+    let target = Refused::Shape(Code::NoteTarget { at: 0 });
+    assert_eq!(rt; refusal(alloc, book, "tok-ivo0", &command)?, Some(target));
+    let aimless = tree(alloc, r#"{"type":"Annotation"}"#)?;
+    let command = annotation(alloc, ("ivo", "o1", "m1"), 1, "a", aimless)?;
+    assert_eq!(rt;
+        refusal(alloc, book, "tok-ivo0", &command)?,
+        Some(Refused::NotMember)
+    );
+    Ok(())
 }
 
 fn readers_are_refused(rt: &impl Abort, alloc: Global, book: &Book) -> Result<(), Fail> {
@@ -206,7 +231,7 @@ fn manifests_are_refused(rt: &impl Abort, alloc: Global, book: &Book) -> Result<
     let more = r#"{"items":[],"label":{"en":["Log"]},"rights":"","type":"Manifest"}"#;
     for (text, shown, described, want) in [
         ("m2", "private", MANIFEST, Refused::Shape(Code::Group)),
-        ("m2", "public", more, Refused::Shape(Code::Unbuilt)),
+        ("m2", "public", more, Refused::Shape(Code::ManifestItems)),
         ("m1", "a", MANIFEST, Refused::GroupFixed),
         ("m1", "public", MANIFEST, Refused::Version { current: 1 }),
     ] {

@@ -1,5 +1,4 @@
 pub mod FoundLemmas
-pub mod ListedLemmas
 pub mod PageLemmas
 pub mod TermLemmas
 pub mod ViewLemmas

@@ -2,21 +2,21 @@ ghost use Rattle.std.specs.Prelude.{◌≡◌, ℕ, ◌+◌, ◌<◌, ◌≤◌,
 ghost use Rattle.std.specs.List.{filter_map, list_all, list_any};
 ghost use Rattle.serde_json.specs.View.{view, items_view};
 ghost use Rattle.serde_json.specs.Written.{items_have_float, compact_text};
-ghost use Rattle.an_base.specs.Outcome.{passes, Gives};
+ghost use Rattle.an_base.specs.Outcome.{Gives};
 ghost use Rattle.an_terms.specs.Terms.{terms_of};
 ghost use Rattle.an_policy.specs.Audience.{identity};
-ghost use Rattle.an_machine.specs.Plain.{text_of_note};
-ghost use Rattle.an_machine.specs.State.{KeptNote, manifest_row};
-ghost use Rattle.an_machine.specs.View.{view_of, shows_manifest};
+ghost use Rattle.an_machine.specs.State.{KeptNote, names_are_distinct};
+ghost use Rattle.an_machine.specs.View.{view_of};
 ghost use Rattle.an_search.specs.Found.{HasFound};
-ghost use Rattle.an_search.specs.Search.{names_are_distinct, matches, hits, search_iri, page_of_search, search_of};
+ghost use Rattle.an_search.specs.Search.{matches, hits, search_iri, page_of_search, search_of};
 
 use crate::listed::listed_note;
 use crate::page::{Place, page_text};
 use crate::settings::Settings;
-use an_base::{Bytes, Name, Steps, Text, text_in};
-use an_machine::{Look, NoteRow};
-use an_policy::{Group, Who, may_read};
+use an_base::{Bytes, Name, Steps, Text};
+use an_machine::{Look, NoteRow, shown_manifest};
+use an_model::NoteOccurrence;
+use an_policy::Who;
 use an_terms::{Occurrence, occurrences};
 use form_urlencoded::Serializer;
 use serde_json::Value;
@@ -39,7 +39,7 @@ struct Found {
 }
 
 /// The first page of a search for one word in the annotations on a manifest (IIIF Content Search
-/// API 2.0): those that the caller may read and whose text has each term of the word, in their
+/// API 2.0): those that the caller may read and whose texts have each term of the word, in their
 /// order.
 pub fn search<T: Look, L: Ledger>(
     alloc: Global,
@@ -56,23 +56,12 @@ pub fn search<T: Look, L: Ledger>(
         → Gives (λ page. page) AskError.Memory result (search_of settings.now
         (view_of (T.state look.now) (identity who.now)) manifest.now word.now) }
 {
-    if !shows_manifest(look, who, manifest) {
-        return Err(AskError::NoManifest);
-    }
-    match first_page(alloc, look, who, manifest, word, settings, steps) {
-        Ok(page) => Ok(page),
-        Err(_) => Err(AskError::Memory),
-    }
-}
-
-/// Whether the manifest is there and the caller may read it.
-fn shows_manifest<T: Look>(look: &T, who: &Who<'_>, manifest: &Name) -> bool
-    ensures { result ≡ passes (shows_manifest (identity who.now))
-        (manifest_row (T.state look.now) manifest.now) }
-{
-    match look.manifest(manifest) {
-        Some(row) => row.is_live() && may_read(who, row.group(), &Group::Public, None),
-        None => false,
+    match shown_manifest(look, who, manifest) {
+        Some(_) => match first_page(alloc, look, who, manifest, word, settings, steps) {
+            Ok(page) => Ok(page),
+            Err(_) => Err(AskError::Memory),
+        },
+        None => Err(AskError::NoManifest),
     }
 }
 
@@ -174,7 +163,7 @@ fn try_row(
         → HasFound settings.now.base settings.now.size (rows ++ filter (matches (map (λ o. o.term) wanted.now)) (row.now ∷ [])) found.new) }
     ensures count { found.new.total ≤ found.old.total + 1 }
 {
-    if matches(alloc, row, wanted)? {
+    if matches(row, wanted) {
         add(alloc, found, row, settings)
     } else {
         Ok(())
@@ -204,37 +193,23 @@ fn add(
     }
 }
 
-/// Whether the annotation is live and its text has each of the terms.
-fn matches(alloc: Global, row: &NoteRow, wanted: &[Occurrence]) -> Result<bool, AllocError>
-    ensures { IfOk result (λ is. is ≡ matches (map (λ o. o.term) wanted.now) row.now) }
+/// Whether the annotation is live and its texts have each of the terms.
+fn matches(row: &NoteRow, wanted: &[Occurrence]) -> bool
+    ensures { result ≡ matches (map (λ o. o.term) wanted.now) row.now }
 {
     match row.live() {
-        Some(live) => {
-            let found = occurrences(alloc, text_of(live.tree.as_value()))?;
-            Ok(has_terms(wanted, found.as_slice()))
-        }
-        None => Ok(false),
+        Some(live) => has_terms(wanted, live.tree.occurrences()),
+        None => false,
     }
 }
 
-/// The text of an annotation.
-#[tactic(auto, unfolding(an_machine::specs::Plain::text_of_note))]
-fn text_of(tree: &Value) -> &str
-    ensures { result.now ≡ text_of_note (view tree.now) }
-{
-    match tree.get("body") {
-        Some(body) => text_in(body, "value").unwrap_or(""),
-        None => "",
-    }
-}
-
-fn has_terms(wanted: &[Occurrence], found: &[Occurrence]) -> bool
+fn has_terms(wanted: &[Occurrence], found: &[NoteOccurrence]) -> bool
     ensures { result ≡ list_all (λ w. list_any (λ o. bytes_eq o.term w.term) found.now) wanted.now }
 {
     wanted.iter().all(|wanted| has_term(found, &wanted.term))
 }
 
-fn has_term(found: &[Occurrence], term: &Text) -> bool
+fn has_term(found: &[NoteOccurrence], term: &Text) -> bool
     ensures { result ≡ list_any (λ o. bytes_eq o.term term.now) found.now }
 {
     found.iter().any(|found| found.term == *term)

@@ -1,6 +1,6 @@
 use Rattle.std.proofs.Common.{◌≡◌, ◌+◌, ◌^◌, ◌<◌, ◌≤◌, ◌++◌, IsTrue, length}
 use Rattle.an_machine.specs.State.{empty}
-use Rattle.an_search.specs.Search.{names_are_distinct}
+use Rattle.an_machine.specs.State.{names_are_distinct}
 use Rattle.an_app.specs.Find.{play}
 use Rattle.an_app.specs.Split.{lines_of}
 use Rattle.an_app.proofs.lines.play.Given as goal

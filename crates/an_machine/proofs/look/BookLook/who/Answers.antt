@@ -2,4 +2,4 @@ use Rattle.std.proofs.Common.{◌∙◌}
 use Rattle.an_machine.proofs.look.BookLook.who.Goals as goal
 
 pub returns-in-Token : goal.returns-in-Token
-returns-in-Token c = record { who = c.lent.ensures ∙ simp (c.with_token.ensures, c.as_str.ensures.value, c.readers.ensures.rows, c.in-Token.is) }
+returns-in-Token c = record { who = c.lent.ensures ∙ simp (c.with_token.ensures, c.as_str.ensures.value, c.in-Token.is) }

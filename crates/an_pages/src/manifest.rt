@@ -1,0 +1,79 @@
+ghost use Rattle.std.specs.Prelude.{◌≡◌, IfOk, IsTrue, Ok};
+ghost use Rattle.serde_json.specs.Written.{compact_text};
+ghost use Rattle.an_base.specs.Outcome.{Gives};
+ghost use Rattle.an_policy.specs.Audience.{identity};
+ghost use Rattle.an_machine.specs.State.{names_are_distinct};
+ghost use Rattle.an_machine.specs.View.{view_of};
+ghost use Rattle.an_manifest.specs.Dress.{dressed};
+ghost use Rattle.an_pages.specs.Bodies.{manifest_body, manifest_of_view};
+
+use an_base::{Bytes, Name, tree_text};
+use an_keyed::Keyed;
+use an_machine::{Look, ManifestRow, shown_manifest};
+use an_manifest::{Sheet, dress_manifest};
+use an_policy::Who;
+use an_search::Settings;
+use std::alloc::{AllocError, Global};
+
+/// Why there is nothing to show.
+#[derive(Clone, Copy, Debug, PartialEq, Eq)]
+pub enum PageError {
+    /// There is no such thing that the caller may read.
+    Absent,
+    Memory,
+}
+
+/// A manifest as the caller is shown it (IIIF Presentation API 3.0), with the search in its
+/// annotations and a page of annotations in each canvas. A hidden manifest is answered as one that
+/// never was.
+#[tactic(auto, unfolding(crate::specs::Bodies::manifest_of_view))]
+pub fn manifest_answer<T: Look>(
+    alloc: Global,
+    look: &T,
+    who: &Who<'_>,
+    name: &Name,
+    settings: &Settings,
+) -> Result<Bytes, PageError>
+    ensures body { IfOk result (λ body. manifest_of_view settings.now
+        (view_of (T.state look.now) (identity who.now)) name.now ≡ Ok body) }
+    ensures answer { IsTrue (names_are_distinct (T.state look.now).manifests)
+        → Gives (λ body. body) PageError.Memory result (manifest_of_view settings.now
+        (view_of (T.state look.now) (identity who.now)) name.now) }
+{
+    match shown_manifest(look, who, name) {
+        Some(row) => match row_body(alloc, row, settings) {
+            Ok(body) => match body {
+                Some(body) => Ok(body),
+                None => Err(PageError::Absent),
+            },
+            Err(_) => Err(PageError::Memory),
+        },
+        None => Err(PageError::Absent),
+    }
+}
+
+/// The text by which a manifest is served, while it is live.
+fn row_body(
+    alloc: Global,
+    row: &ManifestRow,
+    settings: &Settings,
+) -> Result<Option<Bytes>, AllocError>
+    ensures { IfOk result (λ body. body ≡ manifest_body settings.now row.now) }
+{
+    match row.sheet() {
+        Some(sheet) => Ok(Some(sheet_body(alloc, sheet, row.name(), settings)?)),
+        None => Ok(None),
+    }
+}
+
+fn sheet_body(
+    alloc: Global,
+    sheet: &Sheet,
+    name: &Name,
+    settings: &Settings,
+) -> Result<Bytes, AllocError>
+    ensures { IfOk result (λ body. body ≡ compact_text (dressed settings.now.base name.now sheet.now)) }
+{
+    let tree = dress_manifest(alloc, sheet, settings.base(), name)?;
+    tree_text(alloc, &tree)
+}
