@@ -201,16 +201,15 @@ fn writes_are_refused(rt: HostRuntime) -> Result<(), Fail> {
 
 /// An annotation without a target is no annotation, but its group is looked at first.
 fn shapes_are_refused(rt: &impl Abort, alloc: Global, book: &Book) -> Result<(), Fail> {
-    let aimless = tree(alloc, r#"{"type":"Annotation"}"#)?;
-    let command = annotation(alloc, ("ivo", "o1", "m1"), 1, "public", aimless)?;
-    let target = Refused::Shape(Code::NoteTarget { at: 0 });
-    assert_eq!(rt; refusal(alloc, book, "tok-ivo0", &command)?, Some(target));
-    let aimless = tree(alloc, r#"{"type":"Annotation"}"#)?;
-    let command = annotation(alloc, ("ivo", "o1", "m1"), 1, "a", aimless)?;
-    assert_eq!(rt;
-        refusal(alloc, book, "tok-ivo0", &command)?,
-        Some(Refused::NotMember)
-    );
+    for (shown, want) in [
+        ("public", Refused::Shape(Code::NoteTarget { at: 0 })),
+        ("a", Refused::NotMember),
+    ] {
+        let aimless = tree(alloc, r#"{"type":"Annotation"}"#)?;
+        let command = annotation(alloc, ("ivo", "o1", "m1"), 1, shown, aimless)?;
+        let found = refusal(alloc, book, "tok-ivo0", &command)?;
+        assert_eq!(rt; found, Some(want), "{shown}");
+    }
     Ok(())
 }
 
