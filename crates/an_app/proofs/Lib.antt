@@ -1,4 +1,3 @@
-pub mod DistinctLemmas
 mod ReadLemmas
 mod SplitLemmas
 mod SplitRows

@@ -1,5 +1,5 @@
 -- What lines do, one after another: writes change the state, reads print an answer, and the first refusal ends the run.
-use Rattle.std.specs.Prelude.{ℕ, ◌+◌, ℤ, List, [], ◌∷◌, ◌++◌, length, codes, decimal, ◌==◌, nat_lt, if◌then◌else◌, Option, Some, None, Result, Ok, Err}
+use Rattle.std.specs.Prelude.{ℕ, ◌+◌, ℤ, List, [], ◌∷◌, ◌++◌, length, codes, decimal, Bool, false, ◌==◌, nat_lt, if◌then◌else◌, Option, Some, None, Result, Ok, Err}
 use Rattle.std.specs.Str.{is_utf8}
 use Rattle.serde_json.specs.Data.{Data}
 use Rattle.an_base.specs.Code.{code_text}
@@ -16,14 +16,17 @@ use Rattle.an_machine.specs.State.{State, empty, who_of}
 use Rattle.an_machine.specs.Step.{step}
 use Rattle.an_machine.specs.View.{view_of}
 use Rattle.an_machine.specs.declared.command.Command.{Command}
-use Rattle.an_machine.specs.declared.command.Command.TheVariants.{PutReader, PutManifest, PutNote}
+use Rattle.an_machine.specs.declared.command.Command.TheVariants.{PutReader, DropReader, PutManifest, DropManifest, PutNote, DropNote}
 use Rattle.an_machine.specs.declared.command.Decided.{Decided}
 use Rattle.an_machine.specs.declared.command.Refused.{Refused}
 use Rattle.an_machine.specs.declared.command.Refused.TheVariants.{NotSigned, NotWriter, NotOwn, NoManifest, NotMember, Shape, GroupFixed, TokenTaken, Version, Memory}
 use Rattle.an_machine.specs.declared.entry.Entry.{Entry}
 use Rattle.an_search.specs.Search.{search_of}
 use Rattle.an_search.specs.Site.{Site}
-use Rattle.an_pages.specs.Bodies.{manifest_of_view}
+use Rattle.an_machine.specs.Accepted.{version_of}
+use Rattle.an_pages.specs.Bodies.{manifest_of_view, annotation_of_view}
+use Rattle.an_pages.specs.declared.error.PageError.{PageError}
+use Rattle.an_pages.specs.declared.error.PageError.TheVariants as page
 use Rattle.an_app.specs.Form.{form_of}
 use Rattle.an_app.specs.Input.{input_limit}
 use Rattle.an_app.specs.Line.{Words, words_of, by_of}
@@ -50,22 +53,39 @@ abbrev pub state_after : State → Option Entry → State
 state_after s None = s
 state_after s (Some entry) = after s entry
 
--- the code that a line prints for a refusal of the machine; so far it prints those of shapes alone
+-- the code of a refusal of the machine; want of memory ends the run, and has none
 abbrev pub refusal_code : Refused → Code
 refusal_code (Shape shape) = shape
-refusal_code NotSigned = code.Unbuilt
-refusal_code NotWriter = code.Unbuilt
-refusal_code NotOwn = code.Unbuilt
-refusal_code NoManifest = code.Unbuilt
-refusal_code NotMember = code.Unbuilt
-refusal_code GroupFixed = code.Unbuilt
-refusal_code TokenTaken = code.Unbuilt
-refusal_code (Version current) = code.Unbuilt
+refusal_code NotSigned = code.NotSigned
+refusal_code NotWriter = code.NotWriter
+refusal_code NotOwn = code.NotOwn
+refusal_code NoManifest = code.Absent
+refusal_code NotMember = code.NotMember
+refusal_code GroupFixed = code.GroupFixed
+refusal_code TokenTaken = code.TokenTaken
+refusal_code (Version current) = code.Version current
 refusal_code Memory = code.Unbuilt
 
-abbrev pub decided_turn : State → Result Decided Refused → Turn
-decided_turn s (Ok decided) = writes (state_after s decided.entry)
-decided_turn s (Err refused) = stops (refusal_code refused)
+-- a write whose number is below the current one is old, and passed over
+abbrev pub is_old : ℕ → Refused → Bool
+is_old version (Version current) = nat_lt version current
+is_old version NotSigned = false
+is_old version NotWriter = false
+is_old version NotOwn = false
+is_old version NoManifest = false
+is_old version NotMember = false
+is_old version (Shape shape) = false
+is_old version GroupFixed = false
+is_old version TokenTaken = false
+is_old version Memory = false
+
+abbrev pub decided_turn : State → ℕ → Result Decided Refused → Turn
+decided_turn s version (Ok decided) = writes (state_after s decided.entry)
+decided_turn s version (Err refused) = if is_old version refused then passes else stops (refusal_code refused)
+
+-- a command of this caller, at the line's moment
+abbrev pub command_turn : State → ℤ → Option (List ℕ) → Command → Turn
+command_turn s moment by command = decided_turn s (version_of command) (step s moment (writer by) command)
 
 -- the code of a text that is no tree; want of memory ends the run, and has none
 abbrev pub text_code : TreeError → Code
@@ -76,7 +96,7 @@ text_code error.Memory = code.Unbuilt
 
 -- the write of a tree by a command, at the line's moment; there is none where the text is no tree
 abbrev pub write_turn : State → ℤ → Option (List ℕ) → (Data → Command) → Result Data TreeError → Turn
-write_turn s moment by command (Ok tree) = decided_turn s (step s moment (writer by) (command tree))
+write_turn s moment by command (Ok tree) = command_turn s moment by (command tree)
 write_turn s moment by command (Err e) = stops (text_code e)
 
 -- ---- a line that reads
@@ -91,13 +111,27 @@ abbrev pub answer_line : {E : Type 0} → Result (List ℕ) E → List ℕ
 answer_line (Ok body) = codes "200 " ++ (body ++ codes "\n")
 answer_line (Err e) = codes "404 {\"error\":\"absent\"}\n"
 
--- what is answered to the caller; so far a line by nobody has no answer
+-- what is answered to nobody
+abbrev pub not_signed_line : List ℕ
+not_signed_line = codes "401 {\"error\":\"not_signed\"}\n"
+
+-- what is answered to the caller
 abbrev pub read_turn : (Identity → List ℕ) → Option Identity → Turn
-read_turn answer None = stops code.Unbuilt
+read_turn answer None = prints not_signed_line
 read_turn answer (Some who) = prints (answer who)
 
 abbrev pub search_line : Site → State → List ℕ → List ℕ → Identity → List ℕ
 search_line site s manifest word who = answer_line (search_of site (view_of s who) manifest word)
+
+-- the answer to a read of an annotation
+abbrev pub note_line : Result (List ℕ) PageError → List ℕ
+note_line (Ok body) = codes "200 " ++ (body ++ codes "\n")
+note_line (Err page.Gone) = codes "410 {\"error\":\"gone\"}\n"
+note_line (Err page.Absent) = codes "404 {\"error\":\"absent\"}\n"
+note_line (Err page.Memory) = codes "404 {\"error\":\"absent\"}\n"
+
+abbrev pub annotation_line : Site → State → List ℕ → List ℕ → Identity → List ℕ
+annotation_line site s owner name who = note_line (annotation_of_view site (view_of s who) owner name)
 
 abbrev pub manifest_line : Site → State → List ℕ → Identity → List ℕ
 manifest_line site s name who = answer_line (manifest_of_view site (view_of s who) name)
@@ -106,15 +140,19 @@ manifest_line site s name who = answer_line (manifest_of_view site (view_of s wh
 
 abbrev pub form_turn : Site → State → Words → Option (List ℕ) → Option Form → Turn
 form_turn site s words by None = stops code.Unbuilt
-form_turn site s words by (Some (form.Reader name)) = write_turn s words.moment by (PutReader name 1) (tree_of words.tree)
-form_turn site s words by (Some (form.Manifest name group)) = write_turn s words.moment by (PutManifest name 1 group) (tree_of words.tree)
-form_turn site s words by (Some (form.Note owner name manifest group)) = write_turn s words.moment by (PutNote owner name 1 manifest group) (tree_of words.tree)
+form_turn site s words by (Some (form.PutReader name version)) = write_turn s words.moment by (PutReader name version) (tree_of words.tree)
+form_turn site s words by (Some (form.DropReader name version)) = command_turn s words.moment by (DropReader name version)
+form_turn site s words by (Some (form.PutManifest name version group)) = write_turn s words.moment by (PutManifest name version group) (tree_of words.tree)
+form_turn site s words by (Some (form.DropManifest name version)) = command_turn s words.moment by (DropManifest name version)
+form_turn site s words by (Some (form.PutNote owner name version manifest group)) = write_turn s words.moment by (PutNote owner name version manifest group) (tree_of words.tree)
+form_turn site s words by (Some (form.DropNote owner name version)) = command_turn s words.moment by (DropNote owner name version)
 form_turn site s words by (Some (form.Search manifest word)) = read_turn (search_line site s manifest word) (who_of s (reader by))
+form_turn site s words by (Some (form.ShownNote owner name)) = read_turn (annotation_line site s owner name) (who_of s (reader by))
 form_turn site s words by (Some (form.ShownManifest name)) = read_turn (manifest_line site s name) (who_of s (reader by))
 
 abbrev pub by_turn : Site → State → Words → Option (Option (List ℕ)) → Turn
 by_turn site s words None = stops code.Line
-by_turn site s words (Some by) = form_turn site s words by (form_of words.method by words.target)
+by_turn site s words (Some by) = form_turn site s words by (form_of words.method words.target)
 
 abbrev pub words_turn : Site → State → Option Words → Turn
 words_turn site s None = stops code.Line

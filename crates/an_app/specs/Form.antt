@@ -1,8 +1,9 @@
 -- The forms of lines that are known so far, by their targets.
-use Rattle.std.specs.Prelude.{ℕ, List, length, Bool, true, false, ◌&&◌, ◌==◌, nat_le, bytes_eq, codes, is_none, if◌then◌else◌, Option, Some, None, option_map, option_and_then}
+use Rattle.std.specs.Prelude.{ℕ, List, length, Bool, true, false, ◌&&◌, ◌==◌, nat_le, bytes_eq, codes, if◌then◌else◌, Option, Some, None, option_map, option_and_then}
 use Rattle.std.specs.List.{list_all}
+use Rattle.an_base.specs.Decimal.{decimal_of}
 use Rattle.an_base.specs.Name.{is_name}
-use Rattle.an_base.specs.Outcome.{only_if, passes}
+use Rattle.an_base.specs.Outcome.{only_if}
 use Rattle.an_policy.specs.declared.group.Group.{Group}
 use Rattle.an_policy.specs.declared.group.Group.TheVariants.{Public, Private, Named}
 use Rattle.an_app.specs.Line.{cut_at}
@@ -10,11 +11,6 @@ use Rattle.an_app.specs.declared.line.Method.{Method}
 use Rattle.an_app.specs.declared.line.Method.TheVariants.{Get, Put, Delete}
 use Rattle.an_app.specs.declared.form.Form.{Form}
 use Rattle.an_app.specs.declared.form.Form.TheVariants as form
-
-abbrev pub is_put : Method → Bool
-is_put Get = false
-is_put Put = true
-is_put Delete = false
 
 abbrev pub is_get : Method → Bool
 is_get Get = true
@@ -37,14 +33,22 @@ group_named text =
 unfoldable pub group_in : List ℕ → Option Group
 group_in query = option_and_then group_named (value_of (codes "group") query)
 
--- what stands behind `version=1&`
-unfoldable pub behind_version : List ℕ → Option (List ℕ)
-behind_version query = option_and_then (λ p. if bytes_eq p.0 (codes "version=1") then Some p.1 else None) (cut_at 38 query)
+-- a group that isn't said is that of everybody
+abbrev pub group_or_public : Option (List ℕ) → Option Group
+group_or_public None = Some Public
+group_or_public (Some query) = group_in query
 
--- both values, where both are there
-abbrev pub both : {A B : Type 0} → Option A → Option B → Option (A × B)
-both None b = None
-both (Some x) b = option_map (λ y. (x, y)) b
+-- the first parameter of a query, and the parameters behind it, where there are any
+abbrev pub parted : List ℕ → Option (List ℕ × List ℕ) → List ℕ × Option (List ℕ)
+parted query None = (query, None)
+parted query (Some p) = (p.0, Some p.1)
+
+abbrev pub parameters : List ℕ → List ℕ × Option (List ℕ)
+parameters query = parted query (cut_at 38 query)
+
+-- the number of `version=V`, from 1 to 999,999,999
+unfoldable pub version_in : List ℕ → Option ℕ
+version_in parameter = option_and_then (only_if (nat_le 1)) (option_and_then (decimal_of 999999999) (value_of (codes "version") parameter))
 
 -- a letter from a to z
 abbrev pub is_letter : ℕ → Bool
@@ -54,35 +58,59 @@ is_letter b = nat_le 97 b && nat_le b 122
 abbrev pub is_word : List ℕ → Bool
 is_word text = nat_le 1 (length text) && nat_le (length text) 64 && list_all is_letter text
 
--- `PUT /readers/N?version=1` by the operator
-unfoldable pub reader_form : Method → Option (List ℕ) → List ℕ → List ℕ → Option Form
-reader_form method by name query =
-    if is_put method && is_none by && bytes_eq query (codes "version=1") then option_map form.Reader (name_in name) else None
+-- ---- writes
 
-unfoldable pub manifest_in : List ℕ → List ℕ → Option Form
-manifest_in name query = option_map (λ p. form.Manifest p.0 p.1) (both (name_in name) (group_in query))
+abbrev pub reader_write : Method → List ℕ → ℕ → Option Form
+reader_write Get name version = None
+reader_write Put name version = Some (form.PutReader name version)
+reader_write Delete name version = Some (form.DropReader name version)
 
--- `PUT /manifests/M?version=1&group=G` by the operator
-unfoldable pub manifest_form : Method → Option (List ℕ) → List ℕ → List ℕ → Option Form
-manifest_form method by name query =
-    if is_put method && is_none by then option_and_then (manifest_in name) (behind_version query) else None
+-- `/readers/N?version=V`
+unfoldable pub reader_form : Method → List ℕ → List ℕ → Option Form
+reader_form method name query =
+    option_and_then (λ name. option_and_then (reader_write method name) (version_in query)) (name_in name)
 
--- the manifest and the group of `manifest=M&group=G`
+abbrev pub manifest_write : Method → List ℕ → ℕ → Group → Option Form
+manifest_write Get name version group = None
+manifest_write Put name version group = Some (form.PutManifest name version group)
+manifest_write Delete name version group = Some (form.DropManifest name version)
+
+-- `/manifests/M?version=V` or `/manifests/M?version=V&group=G`
+unfoldable pub manifest_form : Method → List ℕ → List ℕ → Option Form
+manifest_form method name query =
+    option_and_then (λ name.
+    option_and_then (λ version.
+    option_and_then (manifest_write method name version) (group_or_public (parameters query).1))
+    (version_in (parameters query).0)) (name_in name)
+
+-- the manifest and the group of `manifest=M` or `manifest=M&group=G`
 unfoldable pub place_in : List ℕ → Option (List ℕ × Group)
-place_in query = option_and_then (λ p. both (option_and_then name_in (value_of (codes "manifest") p.0)) (group_in p.1)) (cut_at 38 query)
+place_in query =
+    option_and_then (λ manifest. option_map (λ group. (manifest, group)) (group_or_public (parameters query).1))
+    (option_and_then name_in (value_of (codes "manifest") (parameters query).0))
 
-abbrev pub note_at : Option (List ℕ) → Option (List ℕ) → Option (List ℕ × Group) → Option Form
-note_at owner name place = option_and_then (λ p. option_map (λ q. form.Note q.0 q.1 p.0 p.1) (both owner name)) place
+-- a put names its manifest; a deletion may, and it means nothing
+abbrev pub note_write : Method → List ℕ → List ℕ → ℕ → Option (List ℕ × Group) → Option Form
+note_write Get owner name version place = None
+note_write Put owner name version None = None
+note_write Put owner name version (Some place) = Some (form.PutNote owner name version place.0 place.1)
+note_write Delete owner name version place = Some (form.DropNote owner name version)
 
-unfoldable pub note_in : List ℕ → List ℕ → List ℕ → Option Form
-note_in owner name query = note_at (name_in owner) (name_in name) (option_and_then place_in (behind_version query))
+-- what stands behind the version: nothing, or a place
+abbrev pub note_placed : Method → List ℕ → List ℕ → ℕ → Option (List ℕ) → Option Form
+note_placed method owner name version None = note_write method owner name version None
+note_placed method owner name version (Some query) = option_and_then (λ place. note_write method owner name version (Some place)) (place_in query)
 
--- `PUT /annotations/O/N?version=1&manifest=M&group=G` by O
-unfoldable pub note_form : Method → Option (List ℕ) → List ℕ → List ℕ → Option Form
-note_form method by names query =
-    if is_put method then
-    option_and_then (λ p. if passes (bytes_eq p.0) by then note_in p.0 p.1 query else None) (cut_at 47 names)
-    else None
+unfoldable pub note_named : Method → List ℕ → List ℕ → List ℕ → Option Form
+note_named method owner name query =
+    option_and_then (λ version. note_placed method owner name version (parameters query).1) (version_in (parameters query).0)
+
+-- `/annotations/O/N?version=V`, `..&manifest=M` or `..&manifest=M&group=G`
+unfoldable pub note_form : Method → List ℕ → List ℕ → Option Form
+note_form method names query =
+    option_and_then (λ p. option_and_then (λ owner. option_and_then (λ name. note_named method owner name query) (name_in p.1)) (name_in p.0)) (cut_at 47 names)
+
+-- ---- reads
 
 -- `GET /search/M?q=W`
 unfoldable pub search_form : Method → List ℕ → List ℕ → Option Form
@@ -92,24 +120,32 @@ search_form method manifest query =
     else None
 
 -- by the first segment of the path
-unfoldable pub routed : Method → Option (List ℕ) → List ℕ → List ℕ → List ℕ → Option Form
-routed method by kind names query =
-    if bytes_eq kind (codes "readers") then reader_form method by names query
-    else (if bytes_eq kind (codes "manifests") then manifest_form method by names query
-    else (if bytes_eq kind (codes "annotations") then note_form method by names query
+unfoldable pub routed : Method → List ℕ → List ℕ → List ℕ → Option Form
+routed method kind names query =
+    if bytes_eq kind (codes "readers") then reader_form method names query
+    else (if bytes_eq kind (codes "manifests") then manifest_form method names query
+    else (if bytes_eq kind (codes "annotations") then note_form method names query
     else (if bytes_eq kind (codes "search") then search_form method names query else None)))
 
-abbrev pub segment_form : Method → Option (List ℕ) → List ℕ → List ℕ → Option Form
-segment_form method by segments query = option_and_then (λ p. routed method by p.0 p.1 query) (cut_at 47 segments)
+abbrev pub segment_form : Method → List ℕ → List ℕ → Option Form
+segment_form method segments query = option_and_then (λ p. routed method p.0 p.1 query) (cut_at 47 segments)
 
 -- the path begins with `/`
-unfoldable pub path_form : Method → Option (List ℕ) → List ℕ → List ℕ → Option Form
-path_form method by path query =
-    option_and_then (λ p. if length p.0 == 0 then segment_form method by p.1 query else None) (cut_at 47 path)
+unfoldable pub path_form : Method → List ℕ → List ℕ → Option Form
+path_form method path query =
+    option_and_then (λ p. if length p.0 == 0 then segment_form method p.1 query else None) (cut_at 47 path)
 
--- `GET /manifests/M`
+-- `O/N` of an annotation that is read
+abbrev pub shown_note : List ℕ → Option Form
+shown_note names = option_and_then (λ p. option_and_then (λ owner. option_map (form.ShownNote owner) (name_in p.1)) (name_in p.0)) (cut_at 47 names)
+
+-- `GET /manifests/M` and `GET /annotations/O/N`
 unfoldable pub bare_routed : Method → List ℕ → List ℕ → Option Form
-bare_routed method kind name = if is_get method && bytes_eq kind (codes "manifests") then option_map form.ShownManifest (name_in name) else None
+bare_routed method kind names =
+    if is_get method then
+    (if bytes_eq kind (codes "manifests") then option_map form.ShownManifest (name_in names)
+    else (if bytes_eq kind (codes "annotations") then shown_note names else None))
+    else None
 
 abbrev pub bare_segments : Method → List ℕ → Option Form
 bare_segments method segments = option_and_then (λ p. bare_routed method p.0 p.1) (cut_at 47 segments)
@@ -118,10 +154,10 @@ bare_segments method segments = option_and_then (λ p. bare_routed method p.0 p.
 unfoldable pub bare_form : Method → List ℕ → Option Form
 bare_form method path = option_and_then (λ p. if length p.0 == 0 then bare_segments method p.1 else None) (cut_at 47 path)
 
-abbrev pub form_from : Method → Option (List ℕ) → List ℕ → Option (List ℕ × List ℕ) → Option Form
-form_from method by target None = bare_form method target
-form_from method by target (Some p) = path_form method by p.0 p.1
+abbrev pub form_from : Method → List ℕ → Option (List ℕ × List ℕ) → Option Form
+form_from method target None = bare_form method target
+form_from method target (Some p) = path_form method p.0 p.1
 
--- the form of a line with this method, by this name or none, and to this target
-unfoldable pub form_of : Method → Option (List ℕ) → List ℕ → Option Form
-form_of method by target = form_from method by target (cut_at 63 target)
+-- the form of a line with this method and to this target
+unfoldable pub form_of : Method → List ℕ → Option Form
+form_of method target = form_from method target (cut_at 63 target)

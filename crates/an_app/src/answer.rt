@@ -3,12 +3,12 @@ ghost use Rattle.an_base.specs.Outcome.{Gives};
 ghost use Rattle.an_policy.specs.Audience.{identity};
 ghost use Rattle.an_machine.specs.View.{view_of};
 ghost use Rattle.an_search.specs.Search.{search_of};
-ghost use Rattle.an_machine.specs.State.{names_are_distinct};
-ghost use Rattle.an_app.specs.Find.{search_line, manifest_line};
+ghost use Rattle.an_machine.specs.State.{is_distinct};
+ghost use Rattle.an_app.specs.Find.{search_line, manifest_line, annotation_line};
 
 use an_base::{Bytes, Name, Steps, Text};
 use an_machine::{Book, Look};
-use an_pages::{PageError, manifest_answer};
+use an_pages::{PageError, annotation, manifest_answer};
 use an_policy::Who;
 use an_search::{AskError, Settings, search};
 use std::alloc::{AllocError, Global};
@@ -25,7 +25,7 @@ pub(crate) fn answer_search(
     word: &Text,
     output: &mut Vec<u8>,
 ) -> Result<(), AllocError>
-    requires distinct { IsTrue (names_are_distinct book.now.state.manifests) }
+    requires distinct { IsTrue (is_distinct book.now.state) }
     ensures { OnOk result (output.new.items ≡ output.old.items
         ++ search_line settings.now book.now.state manifest.now word.now (identity who.now)) }
 {
@@ -48,7 +48,7 @@ pub(crate) fn answer_manifest(
     name: &Name,
     output: &mut Vec<u8>,
 ) -> Result<(), AllocError>
-    requires distinct { IsTrue (names_are_distinct book.now.state.manifests) }
+    requires distinct { IsTrue (is_distinct book.now.state) }
     ensures { OnOk result (output.new.items ≡ output.old.items
         ++ manifest_line settings.now book.now.state name.now (identity who.now)) }
 {
@@ -60,6 +60,36 @@ pub(crate) fn answer_manifest(
             put_absent(output)
         },
     }
+}
+
+/// Adds an annotation, as a line shows it.
+pub(crate) fn answer_annotation(
+    alloc: Global,
+    book: &Book,
+    who: &Who<'_>,
+    settings: &Settings,
+    owner: &Name,
+    name: &Name,
+    output: &mut Vec<u8>,
+) -> Result<(), AllocError>
+    requires distinct { IsTrue (is_distinct book.now.state) }
+    ensures { OnOk result (output.new.items ≡ output.old.items
+        ++ annotation_line settings.now book.now.state owner.now name.now (identity who.now)) }
+{
+    match annotation(alloc, book, who, owner, name, settings) {
+        Ok(body) => put_body(output, body.as_slice()),
+        Err(error) => match error {
+            PageError::Absent => put_absent(output),
+            PageError::Gone => put_gone(output),
+            PageError::Memory => Err(AllocError),
+        },
+    }
+}
+
+fn put_gone(output: &mut Vec<u8>) -> Result<(), AllocError>
+    ensures { OnOk result (output.new.items ≡ output.old.items ++ codes "410 {\"error\":\"gone\"}\n") }
+{
+    output.extend_from_slice("410 {\"error\":\"gone\"}\n".as_bytes())
 }
 
 fn put_absent(output: &mut Vec<u8>) -> Result<(), AllocError>
@@ -86,7 +116,7 @@ fn search_uncounted(
     manifest: &Name,
     word: &Text,
 ) -> Result<Bytes, AskError>
-    requires distinct { IsTrue (names_are_distinct book.now.state.manifests) }
+    requires distinct { IsTrue (is_distinct book.now.state) }
     ensures { Gives (λ page. page) AskError.Memory result
         (search_of settings.now (view_of book.now.state (identity who.now)) manifest.now word.now) }
 {
@@ -105,7 +135,7 @@ fn search_from<L: Ledger>(
     requires name { blank.name ≡ L.name }
     requires parts { blank.parts ≡ L.parts }
     requires some { 0 < blank.parts }
-    requires distinct { IsTrue (names_are_distinct book.now.state.manifests) }
+    requires distinct { IsTrue (is_distinct book.now.state) }
     ensures { Gives (λ page. page) AskError.Memory result
         (search_of settings.now (view_of book.now.state (identity who.now)) manifest.now word.now) }
 {

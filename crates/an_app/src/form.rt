@@ -1,29 +1,47 @@
 ghost use Rattle.std.specs.Prelude.{◌≡◌, IfOk, bytes_eq, option_and_then, option_map};
 ghost use Rattle.std.specs.List.{list_all};
-ghost use Rattle.an_base.specs.Outcome.{passes};
 ghost use Rattle.std.specs.Option.{option_copied};
-ghost use Rattle.an_app.specs.Form.{is_put, is_get, value_of, name_in, group_in, group_named, is_letter, is_word, behind_version, both, reader_form, manifest_form, manifest_in, place_in, note_at, note_in, note_form, search_form, routed, segment_form, path_form, bare_form, bare_segments, bare_routed, form_from, form_of};
+ghost use Rattle.an_app.specs.Form.{is_get, value_of, name_in, group_in, group_named, group_or_public, parted, parameters, version_in, is_letter, is_word, reader_write, reader_form, manifest_write, manifest_form, place_in, note_write, note_placed, note_named, note_form, search_form, routed, segment_form, path_form, shown_note, bare_routed, bare_segments, bare_form, form_from, form_of};
 
 use crate::line::{Method, cut};
-use an_base::{Name, NameError, Text};
+use an_base::{Name, NameError, Text, read_decimal};
 use an_policy::Group;
 use std::alloc::{AllocError, Global};
+
+/// The greatest number that a write may have.
+const LAST_VERSION: u32 = 999_999_999;
 
 /// What a line of a known form speaks of.
 #[derive(Debug, Drop)]
 pub(crate) enum Form {
-    Reader {
+    PutReader {
         name: Name,
+        version: u32,
     },
-    Manifest {
+    DropReader {
         name: Name,
+        version: u32,
+    },
+    PutManifest {
+        name: Name,
+        version: u32,
         group: Group,
     },
-    Note {
+    DropManifest {
+        name: Name,
+        version: u32,
+    },
+    PutNote {
         owner: Name,
         name: Name,
+        version: u32,
         manifest: Name,
         group: Group,
+    },
+    DropNote {
+        owner: Name,
+        name: Name,
+        version: u32,
     },
     Search {
         manifest: Name,
@@ -32,80 +50,41 @@ pub(crate) enum Form {
     ShownManifest {
         name: Name,
     },
+    ShownNote {
+        owner: Name,
+        name: Name,
+    },
 }
 
-/// The form of a line with this method, by this name or none, and to this target.
+/// The form of a line with this method and to this target.
 #[tactic(auto, unfolding(crate::specs::Form::form_of))]
 pub(crate) fn form_of(
     alloc: Global,
     method: Method,
-    by: Option<&Name>,
     target: &str,
 ) -> Result<Option<Form>, AllocError>
-    ensures { IfOk result (λ form. form ≡ form_of method (option_copied by.entry) target.now) }
+    ensures { IfOk result (λ form. form ≡ form_of method target.now) }
 {
     match cut(target, '?') {
-        Some((path, query)) => path_form(alloc, method, by, path, query),
+        Some((path, query)) => path_form(alloc, method, path, query),
         None => bare_form(alloc, method, target),
     }
 }
 
-/// The form of a target without a query.
-#[tactic(auto, unfolding(crate::specs::Form::bare_form))]
-fn bare_form(alloc: Global, method: Method, path: &str) -> Result<Option<Form>, AllocError>
-    ensures { IfOk result (λ form. form ≡ bare_form method path.now) }
-{
-    match cut(path, '/') {
-        Some((before, segments)) => if before.is_empty() {
-            bare_segments(alloc, method, segments)
-        } else {
-            Ok(None)
-        },
-        None => Ok(None),
-    }
-}
-
-fn bare_segments(alloc: Global, method: Method, segments: &str) -> Result<Option<Form>, AllocError>
-    ensures { IfOk result (λ form. form ≡ bare_segments method segments.now) }
-{
-    match cut(segments, '/') {
-        Some((kind, name)) => bare_routed(alloc, method, kind, name),
-        None => Ok(None),
-    }
-}
-
-#[tactic(auto, unfolding(crate::specs::Form::bare_routed))]
-fn bare_routed(
-    alloc: Global,
-    method: Method,
-    kind: &str,
-    name: &str,
-) -> Result<Option<Form>, AllocError>
-    ensures { IfOk result (λ form. form ≡ bare_routed method kind.now name.now) }
-{
-    if !(is_get(method) && kind == "manifests") {
-        return Ok(None);
-    }
-    match name_in(alloc, name)? {
-        Some(name) => Ok(Some(Form::ShownManifest { name })),
-        None => Ok(None),
-    }
-}
+// ---- targets with a query
 
 #[tactic(auto, unfolding(crate::specs::Form::path_form))]
 fn path_form(
     alloc: Global,
     method: Method,
-    by: Option<&Name>,
     path: &str,
     query: &str,
 ) -> Result<Option<Form>, AllocError>
-    ensures { IfOk result
-        (λ form. form ≡ path_form method (option_copied by.entry) path.now query.now) }
+    ensures { IfOk result (λ form. form ≡ path_form method path.now query.now) }
 {
     match cut(path, '/') {
         Some((before, rest)) => if before.is_empty() {
-            segment_form(alloc, method, by, rest, query)
+            segment_form(alloc, method, rest, query)
         } else {
             Ok(None)
         },
@@ -116,39 +95,35 @@ fn path_form(
 fn segment_form(
     alloc: Global,
     method: Method,
-    by: Option<&Name>,
     segments: &str,
     query: &str,
 ) -> Result<Option<Form>, AllocError>
-    ensures { IfOk result (λ form. form ≡ segment_form method (option_copied by.entry) segments.now query.now) }
+    ensures { IfOk result (λ form. form ≡ segment_form method segments.now query.now) }
 {
     match cut(segments, '/') {
-        Some((kind, names)) => routed(alloc, method, by, kind, names, query),
+        Some((kind, names)) => routed(alloc, method, kind, names, query),
         None => Ok(None),
     }
 }
 
-/// By the first segment of the path.
 #[tactic(auto, unfolding(crate::specs::Form::routed))]
 fn routed(
     alloc: Global,
     method: Method,
-    by: Option<&Name>,
     kind: &str,
     names: &str,
     query: &str,
 ) -> Result<Option<Form>, AllocError>
-    ensures { IfOk result
-        (λ form. form ≡ routed method (option_copied by.entry) kind.now names.now query.now) }
+    ensures { IfOk result (λ form. form ≡ routed method kind.now names.now query.now) }
 {
     if kind == "readers" {
-        return reader_form(alloc, method, by, names, query);
+        return reader_form(alloc, method, names, query);
     }
     if kind == "manifests" {
-        return manifest_form(alloc, method, by, names, query);
+        return manifest_form(alloc, method, names, query);
     }
     if kind == "annotations" {
-        return note_form(alloc, method, by, names, query);
+        return note_form(alloc, method, names, query);
     }
     if kind == "search" {
         return search_form(alloc, method, names, query);
@@ -156,26 +131,56 @@ fn routed(
     Ok(None)
 }
 
+/// The first parameter of a query, and the parameters behind it, where there are any.
+fn parameters(query: &str) -> (&str, Option<&str>)
+    ensures first { result.0.now ≡ (parameters query.now).0 }
+    ensures behind { option_copied result.1 ≡ (parameters query.now).1 }
+{
+    match cut(query, '&') {
+        Some((first, behind)) => (first, Some(behind)),
+        None => (query, None),
+    }
+}
+
+/// The number of `version=V`.
+#[tactic(auto, unfolding(crate::specs::Form::version_in))]
+fn version_in(parameter: &str) -> Option<u32>
+    ensures { result ≡ version_in parameter.now }
+{
+    match value_of("version", parameter) {
+        Some(text) => match read_decimal(text, LAST_VERSION) {
+            Some(version) => if 1 <= version { Some(version) } else { None },
+            None => None,
+        },
+        None => None,
+    }
+}
+
 #[tactic(auto, unfolding(crate::specs::Form::reader_form))]
 fn reader_form(
     alloc: Global,
     method: Method,
-    by: Option<&Name>,
     name: &str,
     query: &str,
 ) -> Result<Option<Form>, AllocError>
-    ensures { IfOk result
-        (λ form. form ≡ reader_form method (option_copied by.entry) name.now query.now) }
+    ensures { IfOk result (λ form. form ≡ reader_form method name.now query.now) }
 {
-    if !(is_put(method) && by.is_none() && query == "version=1") {
-        return Ok(None);
-    }
-    match name_in(alloc, name) {
-        Ok(name) => match name {
-            Some(name) => Ok(Some(Form::Reader { name })),
+    match name_in(alloc, name)? {
+        Some(name) => match version_in(query) {
+            Some(version) => Ok(reader_write(method, name, version)),
             None => Ok(None),
         },
-        Err(error) => Err(error),
+        None => Ok(None),
+    }
+}
+
+fn reader_write(method: Method, name: Name, version: u32) -> Option<Form>
+    ensures { result ≡ reader_write method name version }
+{
+    match method {
+        Method::Get => None,
+        Method::Put => Some(Form::PutReader { name, version }),
+        Method::Delete => Some(Form::DropReader { name, version }),
     }
 }
 
@@ -183,49 +188,45 @@ fn reader_form(
 fn manifest_form(
     alloc: Global,
     method: Method,
-    by: Option<&Name>,
     name: &str,
     query: &str,
 ) -> Result<Option<Form>, AllocError>
-    ensures { IfOk result
-        (λ form. form ≡ manifest_form method (option_copied by.entry) name.now query.now) }
+    ensures { IfOk result (λ form. form ≡ manifest_form method name.now query.now) }
 {
-    if !(is_put(method) && by.is_none()) {
-        return Ok(None);
-    }
-    match behind_version(query) {
-        Some(rest) => manifest_in(alloc, name, rest),
-        None => Ok(None),
-    }
-}
-
-/// What stands behind `version=1&`.
-#[tactic(auto, unfolding(crate::specs::Form::behind_version))]
-fn behind_version(query: &str) -> Option<&str>
-    ensures { option_copied result ≡ behind_version query.now }
-{
-    match cut(query, '&') {
-        Some((version, rest)) => if version == "version=1" {
-            Some(rest)
-        } else {
-            None
-        },
-        None => None,
-    }
-}
-
-#[tactic(auto, unfolding(crate::specs::Form::manifest_in))]
-fn manifest_in(alloc: Global, name: &str, query: &str) -> Result<Option<Form>, AllocError>
-    ensures { IfOk result (λ form. form ≡ manifest_in name.now query.now) }
-{
-    let group = group_in(alloc, query)?;
-    let name = name_in(alloc, name)?;
-    match name {
-        Some(name) => match group {
-            Some(group) => Ok(Some(Form::Manifest { name, group })),
+    let (first, behind) = parameters(query);
+    match name_in(alloc, name)? {
+        Some(name) => match version_in(first) {
+            Some(version) => match group_or_public(alloc, behind)? {
+                Some(group) => Ok(manifest_write(method, name, version, group)),
+                None => Ok(None),
+            },
             None => Ok(None),
         },
         None => Ok(None),
+    }
+}
+
+fn manifest_write(method: Method, name: Name, version: u32, group: Group) -> Option<Form>
+    ensures { result ≡ manifest_write method name version group }
+{
+    match method {
+        Method::Get => None,
+        Method::Put => Some(Form::PutManifest {
+            name,
+            version,
+            group,
+        }),
+        Method::Delete => Some(Form::DropManifest { name, version }),
+    }
+}
+
+/// A group that isn't said is that of everybody.
+fn group_or_public(alloc: Global, query: Option<&str>) -> Result<Option<Group>, AllocError>
+    ensures { IfOk result (λ group. group ≡ group_or_public (option_copied query.entry)) }
+{
+    match query {
+        Some(query) => group_in(alloc, query),
+        None => Ok(Some(Group::Public)),
     }
 }
 
@@ -262,84 +263,101 @@ fn group_named(alloc: Global, text: &str) -> Result<Option<Group>, AllocError>
 fn note_form(
     alloc: Global,
     method: Method,
-    by: Option<&Name>,
     names: &str,
     query: &str,
 ) -> Result<Option<Form>, AllocError>
-    ensures { IfOk result
-        (λ form. form ≡ note_form method (option_copied by.entry) names.now query.now) }
+    ensures { IfOk result (λ form. form ≡ note_form method names.now query.now) }
 {
-    if !is_put(method) {
-        return Ok(None);
-    }
     match cut(names, '/') {
-        Some((owner, name)) => if is_by(owner, by) {
-            note_in(alloc, owner, name, query)
-        } else {
-            Ok(None)
+        Some((owner, name)) => match name_in(alloc, owner)? {
+            Some(owner) => match name_in(alloc, name)? {
+                Some(name) => note_named(alloc, method, owner, name, query),
+                None => Ok(None),
+            },
+            None => Ok(None),
         },
         None => Ok(None),
     }
 }
 
-/// Whether the line is by the owner.
-fn is_by(owner: &str, by: Option<&Name>) -> bool
-    ensures { result ≡ passes (bytes_eq owner.now) (option_copied by.entry) }
+#[tactic(auto, unfolding(crate::specs::Form::note_named))]
+fn note_named(
+    alloc: Global,
+    method: Method,
+    owner: Name,
+    name: Name,
+    query: &str,
+) -> Result<Option<Form>, AllocError>
+    ensures { IfOk result (λ form. form ≡ note_named method owner name query.now) }
 {
-    match by {
-        Some(by) => owner == by.as_str(),
-        None => false,
-    }
-}
-
-#[tactic(auto, unfolding(crate::specs::Form::note_in))]
-fn note_in(alloc: Global, owner: &str, name: &str, query: &str) -> Result<Option<Form>, AllocError>
-    ensures { IfOk result (λ form. form ≡ note_in owner.now name.now query.now) }
-{
-    let place = match behind_version(query) {
-        Some(rest) => place_in(alloc, rest)?,
-        None => None,
-    };
-    let owner = name_in(alloc, owner)?;
-    let name = name_in(alloc, name)?;
-    Ok(note_at(owner, name, place))
-}
-
-fn note_at(owner: Option<Name>, name: Option<Name>, place: Option<(Name, Group)>) -> Option<Form>
-    ensures { result ≡ note_at owner name place }
-{
-    let (manifest, group) = place?;
-    let owner = owner?;
-    let name = name?;
-    Some(Form::Note {
-        owner,
-        name,
-        manifest,
-        group,
-    })
-}
-
-/// The manifest and the group of `manifest=M&group=G`.
-#[tactic(auto, unfolding(crate::specs::Form::place_in))]
-fn place_in(alloc: Global, query: &str) -> Result<Option<(Name, Group)>, AllocError>
-    ensures { IfOk result (λ place. place ≡ place_in query.now) }
-{
-    match cut(query, '&') {
-        Some((manifest, group)) => {
-            let group = group_in(alloc, group)?;
-            let manifest = named_value(alloc, "manifest", manifest)?;
-            Ok(both(manifest, group))
-        }
+    let (first, behind) = parameters(query);
+    match version_in(first) {
+        Some(version) => note_placed(alloc, method, owner, name, version, behind),
         None => Ok(None),
     }
 }
 
-fn both<A: Drop, B: Drop>(a: Option<A>, b: Option<B>) -> Option<(A, B)>
-    ensures { result ≡ both a b }
+fn note_placed(
+    alloc: Global,
+    method: Method,
+    owner: Name,
+    name: Name,
+    version: u32,
+    query: Option<&str>,
+) -> Result<Option<Form>, AllocError>
+    ensures { IfOk result (λ form. form ≡ note_placed method owner name version (option_copied query.entry)) }
 {
-    let a = a?;
-    let b = b?;
-    Some((a, b))
+    match query {
+        Some(query) => match place_in(alloc, query)? {
+            Some(place) => Ok(note_write(method, owner, name, version, Some(place))),
+            None => Ok(None),
+        },
+        None => Ok(note_write(method, owner, name, version, None)),
+    }
+}
+
+fn note_write(
+    method: Method,
+    owner: Name,
+    name: Name,
+    version: u32,
+    place: Option<(Name, Group)>,
+) -> Option<Form>
+    ensures { result ≡ note_write method owner name version place }
+{
+    match method {
+        Method::Get => None,
+        Method::Put => match place {
+            Some((manifest, group)) => Some(Form::PutNote {
+                owner,
+                name,
+                version,
+                manifest,
+                group,
+            }),
+            None => None,
+        },
+        Method::Delete => Some(Form::DropNote {
+            owner,
+            name,
+            version,
+        }),
+    }
+}
+
+/// The manifest and the group of `manifest=M` or `manifest=M&group=G`.
+#[tactic(auto, unfolding(crate::specs::Form::place_in))]
+fn place_in(alloc: Global, query: &str) -> Result<Option<(Name, Group)>, AllocError>
+    ensures { IfOk result (λ place. place ≡ place_in query.now) }
+{
+    let (first, behind) = parameters(query);
+    match named_value(alloc, "manifest", first)? {
+        Some(manifest) => match group_or_public(alloc, behind)? {
+            Some(group) => Ok(Some((manifest, group))),
+            None => Ok(None),
+        },
+        None => Ok(None),
+    }
 }
 
 /// The name that the value of a parameter is.
@@ -386,10 +404,74 @@ fn search_for(alloc: Global, manifest: &str, word: &str) -> Result<Option<Form>,
     }
 }
 
-fn is_put(method: Method) -> bool
-    ensures { result ≡ is_put method }
+// ---- targets without a query
+
+#[tactic(auto, unfolding(crate::specs::Form::bare_form))]
+fn bare_form(alloc: Global, method: Method, path: &str) -> Result<Option<Form>, AllocError>
+    ensures { IfOk result (λ form. form ≡ bare_form method path.now) }
 {
-    matches!(method, Method::Put)
+    match cut(path, '/') {
+        Some((before, segments)) => if before.is_empty() {
+            bare_segments(alloc, method, segments)
+        } else {
+            Ok(None)
+        },
+        None => Ok(None),
+    }
+}
+
+fn bare_segments(alloc: Global, method: Method, segments: &str) -> Result<Option<Form>, AllocError>
+    ensures { IfOk result (λ form. form ≡ bare_segments method segments.now) }
+{
+    match cut(segments, '/') {
+        Some((kind, names)) => bare_routed(alloc, method, kind, names),
+        None => Ok(None),
+    }
+}
+
+#[tactic(auto, unfolding(crate::specs::Form::bare_routed))]
+fn bare_routed(
+    alloc: Global,
+    method: Method,
+    kind: &str,
+    names: &str,
+) -> Result<Option<Form>, AllocError>
+    ensures { IfOk result (λ form. form ≡ bare_routed method kind.now names.now) }
+{
+    if !is_get(method) {
+        return Ok(None);
+    }
+    if kind == "manifests" {
+        return shown_manifest(alloc, names);
+    }
+    if kind == "annotations" {
+        return shown_note(alloc, names);
+    }
+    Ok(None)
+}
+
+fn shown_manifest(alloc: Global, name: &str) -> Result<Option<Form>, AllocError>
+    ensures { IfOk result (λ form. form ≡ option_map Form.ShownManifest (name_in name.now)) }
+{
+    match name_in(alloc, name)? {
+        Some(name) => Ok(Some(Form::ShownManifest { name })),
+        None => Ok(None),
+    }
+}
+
+fn shown_note(alloc: Global, names: &str) -> Result<Option<Form>, AllocError>
+    ensures { IfOk result (λ form. form ≡ shown_note names.now) }
+{
+    match cut(names, '/') {
+        Some((owner, name)) => match name_in(alloc, owner)? {
+            Some(owner) => match name_in(alloc, name)? {
+                Some(name) => Ok(Some(Form::ShownNote { owner, name })),
+                None => Ok(None),
+            },
+            None => Ok(None),
+        },
+        None => Ok(None),
+    }
 }
 
 fn is_get(method: Method) -> bool

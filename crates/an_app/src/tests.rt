@@ -1,5 +1,5 @@
 use super::*;
-use an_base::Bytes;
+use an_base::{Bytes, read_decimal};
 use an_world::{MemLink, SureLink};
 use std::alloc::Global;
 use std::test::Fail;
@@ -14,6 +14,13 @@ const MANIFEST: &str =
 
 const NOTE: &str =
     "2024-05-01T10:01:00Z mara PUT /annotations/mara/n1?version=1&manifest=m1&group=a {\"body\":{\"type\":\"TextualBody\",\"value\":\"a grey heron\"},\"target\":\"http://a.example/c1\",\"type\":\"Annotation\"}\n";
+
+const HERON: &str =
+    "{\"body\":{\"type\":\"TextualBody\",\"value\":\"heron\"},\"target\":\"http://a.example/c1\",\"type\":\"Annotation\"}\n";
+
+/// What is printed of an annotation on a heron that was moved to another group.
+const MOVED: &str =
+    "200 {\"@context\":\"http://www.w3.org/ns/anno.jsonld\",\"body\":{\"type\":\"TextualBody\",\"value\":\"heron\"},\"created\":\"2024-05-01T10:01:00Z\",\"creator\":\"http://a.example/u/mara\",\"id\":\"http://a.example/annotations/mara/n1\",\"modified\":\"2024-05-01T10:02:00Z\",\"target\":\"http://a.example/c1\",\"type\":\"Annotation\"}\n";
 
 const NO_HITS: &str =
     "200 {\"@context\":\"http://iiif.io/api/search/2/context.json\",\"id\":\"http://a.example/search/m1?q=heron&page=1\",\"items\":[],\"partOf\":{\"first\":{\"id\":\"http://a.example/search/m1?q=heron&page=1\",\"type\":\"AnnotationPage\"},\"id\":\"http://a.example/search/m1?q=heron\",\"last\":{\"id\":\"http://a.example/search/m1?q=heron&page=1\",\"type\":\"AnnotationPage\"},\"total\":0,\"type\":\"AnnotationCollection\"},\"startIndex\":0,\"type\":\"AnnotationPage\"}\n";
@@ -54,12 +61,8 @@ fn lines_print_answers_and_refusals(rt: HostRuntime) -> Result<(), Fail> {
     let seen_by_nobody = format!(in alloc; "{MARA}{MANIFEST}\n{NOTE}{anonymous}")?;
     let no_manifest = format!(in alloc; "{MARA}{absent}")?;
     let by_nobody = format!(in alloc; "{MARA}{MANIFEST}{anonymous}{unknown}")?;
-    let twice = format!(in alloc; "{MARA}{MARA}")?;
-    let other_owner = format!(in alloc;
-        "{MARA}{MANIFEST}2024-05-01T10:01:00Z mara PUT /annotations/ivo/n1?version=1&manifest=m1&group=a x"
-    )?;
-    let stopped = format!(in alloc; "{NO_HITS}line 4 refused: unbuilt\n")?;
-    let rows: [(&str, u8, &str); 10] = [
+    let unknown_after = format!(in alloc; "{NO_HITS}401 {{\"error\":\"not_signed\"}}\n")?;
+    let rows: [(&str, u8, &str); 8] = [
         ("", 0, ""),
         ("hello", 3, "line 1 refused: line\n"),
         ("\n\nhello\n", 3, "line 3 refused: line\n"),
@@ -75,9 +78,7 @@ fn lines_print_answers_and_refusals(rt: HostRuntime) -> Result<(), Fail> {
         ),
         (seen_by_nobody.as_str(), 0, NO_HITS),
         (no_manifest.as_str(), 0, "404 {\"error\":\"absent\"}\n"),
-        (by_nobody.as_str(), 3, stopped.as_str()),
-        (twice.as_str(), 3, "line 2 refused: unbuilt\n"),
-        (other_owner.as_str(), 3, "line 3 refused: unbuilt\n"),
+        (by_nobody.as_str(), 0, unknown_after.as_str()),
     ];
     for (input, status, text) in rows {
         let found = printed(alloc, &["-", "find", BASE, "10"], input, &[], &[])?;
@@ -152,6 +153,102 @@ fn trees_are_refused_by_codes(rt: HostRuntime) -> Result<(), Fail> {
         let found = printed(alloc, &["-", "find", BASE, "10"], input.as_str(), &[], &[])?;
         assert_eq!(rt; found.0, 3, "{input}");
         assert_eq!(rt; found.1.as_slice(), want.as_bytes(), "{input}");
+    }
+    Ok(())
+}
+
+/// The annotation of a group is moved to another: whoever is in the first alone sees it go.
+#[test]
+fn moved_annotations_are_gone_for_a_group(rt: HostRuntime) -> Result<(), Fail> {
+    let alloc = rt.alloc();
+    let readers =
+        "2024-05-01T10:00:30Z - PUT /readers/mara?version=2 {\"groups\":[\"a\",\"b\"],\"role\":\"writer\",\"token\":\"tok-mara\",\"user\":\"http://a.example/u/mara\"}\n2024-05-01T10:00:30Z - PUT /readers/ana?version=1 {\"groups\":[\"a\"],\"role\":\"reader\",\"token\":\"tok-ana-\",\"user\":\"http://a.example/u/ana\"}\n2024-05-01T10:00:30Z - PUT /readers/bo?version=1 {\"groups\":[\"b\"],\"role\":\"reader\",\"token\":\"tok-bo--\",\"user\":\"http://a.example/u/bo\"}\n";
+    let first = format!(in alloc;
+        "2024-05-01T10:01:00Z mara PUT /annotations/mara/n1?version=1&manifest=m1&group=a {HERON}"
+    )?;
+    let second = format!(in alloc;
+        "2024-05-01T10:02:00Z mara PUT /annotations/mara/n1?version=2&manifest=m1&group=b {HERON}"
+    )?;
+    let start = format!(in alloc; "{MARA}{MANIFEST}{readers}{first}{second}")?;
+    for (by, want) in [
+        ("ana", "410 {\"error\":\"gone\"}\n"),
+        ("bo", MOVED),
+        ("mara", MOVED),
+        ("-", "404 {\"error\":\"absent\"}\n"),
+    ] {
+        let input = format!(in alloc;
+            "{start}2024-05-01T11:00:00Z {by} GET /annotations/mara/n1\n"
+        )?;
+        let found = printed(alloc, &["-", "find", BASE, "10"], input.as_str(), &[], &[])?;
+        assert_eq!(rt; found.0, 0, "{by}");
+        assert_eq!(rt; found.1.as_slice(), want.as_bytes(), "{by}");
+    }
+    Ok(())
+}
+
+/// Two readers, a manifest, two annotations on it, and its deletion.
+const LINES: &str =
+    r#"2024-05-01T10:00:00Z - PUT /readers/mara?version=1 {"groups":["a"],"role":"writer","token":"tok-mara","user":"http://a.example/u/mara"}
+2024-05-01T10:00:00Z - PUT /readers/ivo?version=1 {"groups":[],"role":"writer","token":"tok-ivo-","user":"http://a.example/u/ivo"}
+2024-05-01T10:00:00Z - PUT /manifests/m1?version=1&group=public {"items":[{"height":100,"id":"http://a.example/c1","type":"Canvas","width":80}],"label":{"en":["Log"]},"type":"Manifest"}
+2024-05-01T10:01:00Z mara PUT /annotations/mara/n1?version=1&manifest=m1&group=public {"body":{"type":"TextualBody","value":"heron"},"target":"http://a.example/c1","type":"Annotation"}
+2024-05-01T10:02:00Z mara PUT /annotations/mara/n2?version=1&manifest=m1&group=public {"body":{"type":"TextualBody","value":"heron"},"target":"http://a.example/c1","type":"Annotation"}
+2024-05-01T10:03:00Z - DELETE /manifests/m1?version=2"#;
+
+/// Lines, each behind the number of the lines above that stand before it, and before the code by
+/// which it is refused, or `done`.
+const JUDGED: &str =
+    r#"5 | mara PUT /annotations/mara/n1?version=1&manifest=m1&group=public {"body":{"type":"TextualBody","value":"heron"},"target":"http://a.example/c1","type":"Annotation"} | done
+5 | mara PUT /annotations/mara/n1?version=1&manifest=m1&group=a {"body":{"type":"TextualBody","value":"heron"},"target":"http://a.example/c1","type":"Annotation"} | version
+5 | mara PUT /annotations/mara/n1?version=3&manifest=m1 {"body":{"type":"TextualBody","value":"heron"},"target":"http://a.example/c1","type":"Annotation"} | version
+5 | mara PUT /annotations/mara/n1?version=2&manifest=m1 {"body":{"type":"TextualBody","value":"heron"},"target":"http://a.example/c1","type":"Annotation"} | done
+3 | ivo PUT /annotations/mara/x?version=1&manifest=m1 {"target":"http://a.example/c1","type":"Annotation"} | not_own
+3 | - PUT /annotations/mara/x?version=1&manifest=m1 {"body":{"type":"TextualBody","value":"heron"},"target":"http://a.example/c1","type":"Annotation"} | not_own
+3 | zoe PUT /annotations/zoe/x?version=1&manifest=m1 {"body":{"type":"TextualBody","value":"heron"},"target":"http://a.example/c1","type":"Annotation"} | not_signed
+3 | mara PUT /annotations/mara/x?version=1&manifest=m9 {"body":{"type":"TextualBody","value":"heron"},"target":"http://a.example/c1","type":"Annotation"} | absent
+3 | mara PUT /annotations/mara/x?version=1&manifest=m1&group=b {"body":{"type":"TextualBody","value":"heron"},"target":"http://a.example/c1","type":"Annotation"} | not_member
+3 | mara PUT /annotations/mara/x?version=1 {"body":{"type":"TextualBody","value":"heron"},"target":"http://a.example/c1","type":"Annotation"} | unbuilt
+3 | mara PUT /manifests/m2?version=1 {"items":[{"height":100,"id":"http://a.example/c1","type":"Canvas","width":80}],"label":{"en":["Log"]},"type":"Manifest"} | not_writer
+3 | mara DELETE /manifests/m1?version=2 | not_writer
+3 | - PUT /readers/eva?version=1 {"role":"writer","token":"tok-mara","user":"http://a.example/u/eva"} | token_taken
+3 | - DELETE /readers/eva?version=1 | version
+3 | - DELETE /readers/ivo?version=2 | done
+5 | mara DELETE /annotations/mara/n1?version=1 | version
+6 | mara DELETE /annotations/mara/n1?version=2 | done
+6 | mara PUT /annotations/mara/n1?version=1&manifest=m1 {"body":{"type":"TextualBody","value":"heron"},"target":"http://a.example/c1","type":"Annotation"} | absent
+6 | - PUT /manifests/m1?version=1 {"items":[{"height":100,"id":"http://a.example/c1","type":"Canvas","width":80}],"label":{"en":["Log"]},"type":"Manifest"} | done
+6 | - PUT /manifests/m1?version=3&group=public {"items":[{"height":100,"id":"http://a.example/c1","type":"Canvas","width":80}],"label":{"en":["Log"]},"type":"Manifest"} | done
+6 | - PUT /manifests/m1?version=3&group=a {"items":[{"height":100,"id":"http://a.example/c1","type":"Canvas","width":80}],"label":{"en":["Log"]},"type":"Manifest"} | group_fixed"#;
+
+/// So many of the lines, and one behind them.
+fn behind(alloc: Global, count: u32, last: &str) -> Result<String, Fail> {
+    let mut text = String::new(alloc);
+    let mut left = count;
+    for line in LINES.lines() {
+        if left == 0 {
+            break;
+        }
+        left -= 1;
+        text.push_str(line)?;
+        text.push_str("\n")?;
+    }
+    text.push_str("2024-05-01T10:05:00Z ")?;
+    text.push_str(last)?;
+    Ok(text)
+}
+
+#[test]
+fn writes_are_judged_by_the_machine(rt: HostRuntime) -> Result<(), Fail> {
+    let alloc = rt.alloc();
+    for row in JUDGED.lines() {
+        let (count, rest) = row.split_once(" | ").ok_or("no row")?;
+        let (last, code) = rest.split_once(" | ").ok_or("no row")?;
+        let count = read_decimal(count, 6).ok_or("no number")?;
+        let input = behind(alloc, count, last)?;
+        let found = printed(alloc, &["-", "find", BASE, "10"], input.as_str(), &[], &[])?;
+        let told = format!(in alloc; "line {} refused: {code}\n", count + 1)?;
+        let want = if code == "done" { "" } else { told.as_str() };
+        assert_eq!(rt; found.1.as_slice(), want.as_bytes(), "{row}");
     }
     Ok(())
 }

@@ -1,16 +1,16 @@
-ghost use Rattle.std.specs.Prelude.{◌≡◌, ℕ, List, IfOk, OnOk, IsTrue, Ok, Some};
+ghost use Rattle.std.specs.Prelude.{◌≡◌, ◌++◌, ℕ, List, IfOk, OnOk, IsTrue, None, Some, if◌then◌else◌};
 ghost use Rattle.std.specs.Option.{option_copied};
 ghost use Rattle.std.specs.Result.{result_map_both};
 ghost use Rattle.std.specs.Str.{is_utf8};
 ghost use Rattle.an_base.specs.Outcome.{only_if};
 ghost use Rattle.an_base.specs.Tree.{tree_of};
 ghost use Rattle.an_machine.specs.Step.{step};
-ghost use Rattle.an_machine.specs.State.{names_are_distinct, who_of};
+ghost use Rattle.an_machine.specs.State.{is_distinct, who_of};
 ghost use Rattle.an_app.specs.Line.{by_of, lent_words, words_of};
-ghost use Rattle.an_app.specs.Find.{turn_of, words_turn, by_turn, form_turn, decided_turn, refusal_code, text_code, read_turn, search_line, manifest_line, writer, reader};
+ghost use Rattle.an_app.specs.Find.{turn_of, words_turn, by_turn, form_turn, writes, state_after, refusal_code, text_code, read_turn, search_line, manifest_line, annotation_line, not_signed_line, command_turn, is_old, writer, reader};
 ghost use Rattle.an_app.specs.Turned.{Takes};
 
-use crate::answer::{answer_manifest, answer_search};
+use crate::answer::{answer_annotation, answer_manifest, answer_search};
 use crate::form::{Form, form_of, name_in};
 use crate::line::{LineWords, words_of};
 use an_base::{Code, Moment, Name, Text, Tree, TreeError, read_tree};
@@ -30,10 +30,10 @@ pub(crate) fn turn(
     line: &[u8],
     output: &mut Vec<u8>,
 ) -> Result<Option<Code>, AllocError>
-    requires distinct { IsTrue (names_are_distinct book.old.state.manifests) }
+    requires distinct { IsTrue (is_distinct book.old.state) }
     ensures takes { IfOk result (Takes (turn_of settings.now book.old.state line.now)
         book.old.state book.new.state output.old.items output.new.items) }
-    ensures distinct { OnOk result (IsTrue (names_are_distinct book.new.state.manifests)) }
+    ensures distinct { OnOk result (IsTrue (is_distinct book.new.state)) }
 {
     if line.is_empty() {
         return Ok(None);
@@ -61,10 +61,10 @@ fn text_turn(
     text: &str,
     output: &mut Vec<u8>,
 ) -> Result<Option<Code>, AllocError>
-    requires distinct { IsTrue (names_are_distinct book.old.state.manifests) }
+    requires distinct { IsTrue (is_distinct book.old.state) }
     ensures takes { IfOk result (Takes (words_turn settings.now book.old.state (words_of text.now))
         book.old.state book.new.state output.old.items output.new.items) }
-    ensures distinct { OnOk result (IsTrue (names_are_distinct book.new.state.manifests)) }
+    ensures distinct { OnOk result (IsTrue (is_distinct book.new.state)) }
 {
     match words_of(text) {
         Some(words) => by_turn(alloc, book, settings, &words, output),
@@ -79,10 +79,10 @@ fn by_turn(
     words: &LineWords<'_>,
     output: &mut Vec<u8>,
 ) -> Result<Option<Code>, AllocError>
-    requires distinct { IsTrue (names_are_distinct book.old.state.manifests) }
+    requires distinct { IsTrue (is_distinct book.old.state) }
     ensures takes { IfOk result (Takes (words_turn settings.now book.old.state (Some (lent_words words.now)))
         book.old.state book.new.state output.old.items output.new.items) }
-    ensures distinct { OnOk result (IsTrue (names_are_distinct book.new.state.manifests)) }
+    ensures distinct { OnOk result (IsTrue (is_distinct book.new.state)) }
 {
     match by_of(alloc, words.by)? {
         Some(by) => known_turn(alloc, book, settings, words, by, output),
@@ -114,12 +114,12 @@ fn known_turn(
     by: Option<Name>,
     output: &mut Vec<u8>,
 ) -> Result<Option<Code>, AllocError>
-    requires distinct { IsTrue (names_are_distinct book.old.state.manifests) }
+    requires distinct { IsTrue (is_distinct book.old.state) }
     ensures takes { IfOk result (Takes (by_turn settings.now book.old.state (lent_words words.now) (Some by))
         book.old.state book.new.state output.old.items output.new.items) }
-    ensures distinct { OnOk result (IsTrue (names_are_distinct book.new.state.manifests)) }
+    ensures distinct { OnOk result (IsTrue (is_distinct book.new.state)) }
 {
-    match form_of(alloc, words.method, by.as_ref(), words.target)? {
+    match form_of(alloc, words.method, words.target)? {
         Some(form) => form_turn(alloc, book, settings, words, by, form, output),
         None => Ok(Some(Code::Unbuilt)),
     }
@@ -134,13 +134,13 @@ fn form_turn(
     form: Form,
     output: &mut Vec<u8>,
 ) -> Result<Option<Code>, AllocError>
-    requires distinct { IsTrue (names_are_distinct book.old.state.manifests) }
+    requires distinct { IsTrue (is_distinct book.old.state) }
     ensures takes { IfOk result (Takes (form_turn settings.now book.old.state (lent_words words.now) by (Some form))
         book.old.state book.new.state output.old.items output.new.items) }
-    ensures distinct { OnOk result (IsTrue (names_are_distinct book.new.state.manifests)) }
+    ensures distinct { OnOk result (IsTrue (is_distinct book.new.state)) }
 {
     match form {
-        Form::Reader { name } => match tree_in(alloc, words.tree)? {
+        Form::PutReader { name, version } => match tree_in(alloc, words.tree)? {
             Ok(tree) => write(
                 alloc,
                 book,
@@ -148,13 +148,24 @@ fn form_turn(
                 by,
                 Command::PutReader {
                     name,
-                    version: 1,
+                    version,
                     tree,
                 },
             ),
             Err(code) => Ok(Some(code)),
         },
-        Form::Manifest { name, group } => match tree_in(alloc, words.tree)? {
+        Form::DropReader { name, version } => write(
+            alloc,
+            book,
+            words.moment,
+            by,
+            Command::DropReader { name, version },
+        ),
+        Form::PutManifest {
+            name,
+            version,
+            group,
+        } => match tree_in(alloc, words.tree)? {
             Ok(tree) => write(
                 alloc,
                 book,
@@ -162,16 +173,24 @@ fn form_turn(
                 by,
                 Command::PutManifest {
                     name,
-                    version: 1,
+                    version,
                     group,
                     tree,
                 },
             ),
             Err(code) => Ok(Some(code)),
         },
-        Form::Note {
+        Form::DropManifest { name, version } => write(
+            alloc,
+            book,
+            words.moment,
+            by,
+            Command::DropManifest { name, version },
+        ),
+        Form::PutNote {
             owner,
             name,
+            version,
             manifest,
             group,
         } => match tree_in(alloc, words.tree)? {
@@ -183,7 +202,7 @@ fn form_turn(
                 Command::PutNote {
                     owner,
                     name,
-                    version: 1,
+                    version,
                     manifest,
                     group,
                     tree,
@@ -191,10 +210,28 @@ fn form_turn(
             ),
             Err(code) => Ok(Some(code)),
         },
+        Form::DropNote {
+            owner,
+            name,
+            version,
+        } => write(
+            alloc,
+            book,
+            words.moment,
+            by,
+            Command::DropNote {
+                owner,
+                name,
+                version,
+            },
+        ),
         Form::Search { manifest, word } => search_turn(
             alloc, book, settings, by, &manifest, &word, output,
         ),
         Form::ShownManifest { name } => manifest_turn(alloc, book, settings, by, &name, output),
+        Form::ShownNote { owner, name } => {
+            annotation_turn(alloc, book, settings, by, &owner, &name, output)
+        }
     }
 }
 
@@ -231,11 +268,11 @@ fn write(
     by: Option<Name>,
     command: Command,
 ) -> Result<Option<Code>, AllocError>
-    requires distinct { IsTrue (names_are_distinct book.old.state.manifests) }
+    requires distinct { IsTrue (is_distinct book.old.state) }
     ensures takes { IfOk result (λ stop. (output : List ℕ) → Takes
-        (decided_turn book.old.state (step book.old.state moment (writer by) command))
+        (command_turn book.old.state moment by command)
         book.old.state book.new.state output output stop) }
-    ensures distinct { OnOk result (IsTrue (names_are_distinct book.new.state.manifests)) }
+    ensures distinct { OnOk result (IsTrue (is_distinct book.new.state)) }
 {
     let caller = writer(by);
     match book.decide(alloc, moment, &caller, &command) {
@@ -243,8 +280,36 @@ fn write(
         Err(refused) => if matches!(refused, Refused::Memory) {
             Err(AllocError)
         } else {
-            Ok(Some(refusal_code(refused)))
+            Ok(stop_of(command.version(), refused))
         },
+    }
+}
+
+/// The code that ends the run; an old write is passed over.
+fn stop_of(version: u32, refused: Refused) -> Option<Code>
+    ensures { result ≡ (if is_old version refused then None else Some (refusal_code refused)) }
+{
+    if is_old(version, refused) {
+        None
+    } else {
+        Some(refusal_code(refused))
+    }
+}
+
+fn is_old(version: u32, refused: Refused) -> bool
+    ensures { result ≡ is_old version refused }
+{
+    match refused {
+        Refused::Version { current } => version < current,
+        Refused::NotSigned => false,
+        Refused::NotWriter => false,
+        Refused::NotOwn => false,
+        Refused::NoManifest => false,
+        Refused::NotMember => false,
+        Refused::Shape(_) => false,
+        Refused::GroupFixed => false,
+        Refused::TokenTaken => false,
+        Refused::Memory => false,
     }
 }
 
@@ -254,14 +319,14 @@ fn refusal_code(refused: Refused) -> Code
 {
     match refused {
         Refused::Shape(code) => code,
-        Refused::NotSigned => Code::Unbuilt,
-        Refused::NotWriter => Code::Unbuilt,
-        Refused::NotOwn => Code::Unbuilt,
-        Refused::NoManifest => Code::Unbuilt,
-        Refused::NotMember => Code::Unbuilt,
-        Refused::GroupFixed => Code::Unbuilt,
-        Refused::TokenTaken => Code::Unbuilt,
-        Refused::Version { current: _ } => Code::Unbuilt,
+        Refused::NotSigned => Code::NotSigned,
+        Refused::NotWriter => Code::NotWriter,
+        Refused::NotOwn => Code::NotOwn,
+        Refused::NoManifest => Code::Absent,
+        Refused::NotMember => Code::NotMember,
+        Refused::GroupFixed => Code::GroupFixed,
+        Refused::TokenTaken => Code::TokenTaken,
+        Refused::Version { current } => Code::Version { current },
         Refused::Memory => Code::Unbuilt,
     }
 }
@@ -276,10 +341,10 @@ fn writer(by: Option<Name>) -> Caller
 }
 
 fn apply(book: &mut Book, decided: Decided) -> Result<Option<Code>, AllocError>
-    requires distinct { IsTrue (names_are_distinct book.old.state.manifests) }
-    ensures takes { IfOk result (λ stop. (output : List ℕ) → Takes (decided_turn book.old.state (Ok decided))
+    requires distinct { IsTrue (is_distinct book.old.state) }
+    ensures takes { IfOk result (λ stop. (output : List ℕ) → Takes (writes (state_after book.old.state decided.entry))
         book.old.state book.new.state output output stop) }
-    ensures distinct { OnOk result (IsTrue (names_are_distinct book.new.state.manifests)) }
+    ensures distinct { OnOk result (IsTrue (is_distinct book.new.state)) }
 {
     let Decided { entry, reply: _ } = decided;
     match entry {
@@ -292,7 +357,7 @@ fn apply(book: &mut Book, decided: Decided) -> Result<Option<Code>, AllocError>
     }
 }
 
-/// Prints the answer to a search. Answers the code where the line is by nobody.
+/// Prints the answer to a search.
 fn search_turn(
     alloc: Global,
     book: &Book,
@@ -302,7 +367,7 @@ fn search_turn(
     word: &Text,
     output: &mut Vec<u8>,
 ) -> Result<Option<Code>, AllocError>
-    requires distinct { IsTrue (names_are_distinct book.now.state.manifests) }
+    requires distinct { IsTrue (is_distinct book.now.state) }
     ensures { IfOk result (Takes
         (read_turn (search_line settings.now book.now.state manifest.now word.now) (who_of book.now.state (reader by)))
         book.now.state book.now.state output.old.items output.new.items) }
@@ -313,11 +378,11 @@ fn search_turn(
             answer_search(alloc, book, &who, settings, manifest, word, output)?;
             Ok(None)
         }
-        None => Ok(Some(Code::Unbuilt)),
+        None => put_not_signed(output),
     }
 }
 
-/// Prints a manifest. Answers the code where the line is by nobody.
+/// Prints a manifest.
 fn manifest_turn(
     alloc: Global,
     book: &Book,
@@ -326,7 +391,7 @@ fn manifest_turn(
     name: &Name,
     output: &mut Vec<u8>,
 ) -> Result<Option<Code>, AllocError>
-    requires distinct { IsTrue (names_are_distinct book.now.state.manifests) }
+    requires distinct { IsTrue (is_distinct book.now.state) }
     ensures { IfOk result (Takes
         (read_turn (manifest_line settings.now book.now.state name.now) (who_of book.now.state (reader by)))
         book.now.state book.now.state output.old.items output.new.items) }
@@ -337,8 +402,41 @@ fn manifest_turn(
             answer_manifest(alloc, book, &who, settings, name, output)?;
             Ok(None)
         }
-        None => Ok(Some(Code::Unbuilt)),
+        None => put_not_signed(output),
     }
+}
+
+/// Prints an annotation.
+fn annotation_turn(
+    alloc: Global,
+    book: &Book,
+    settings: &Settings,
+    by: Option<Name>,
+    owner: &Name,
+    name: &Name,
+    output: &mut Vec<u8>,
+) -> Result<Option<Code>, AllocError>
+    requires distinct { IsTrue (is_distinct book.now.state) }
+    ensures { IfOk result (Takes
+        (read_turn (annotation_line settings.now book.now.state owner.now name.now) (who_of book.now.state (reader by)))
+        book.now.state book.now.state output.old.items output.new.items) }
+{
+    let caller = reader(by);
+    match book.who(&caller) {
+        Some(who) => {
+            answer_annotation(alloc, book, &who, settings, owner, name, output)?;
+            Ok(None)
+        }
+        None => put_not_signed(output),
+    }
+}
+
+/// What is answered to nobody.
+fn put_not_signed(output: &mut Vec<u8>) -> Result<Option<Code>, AllocError>
+    ensures { IfOk result (λ stop. (stop ≡ None) × (output.new.items ≡ output.old.items ++ not_signed_line)) }
+{
+    output.extend_from_slice("401 {\"error\":\"not_signed\"}\n".as_bytes())?;
+    Ok(None)
 }
 
 fn reader(by: Option<Name>) -> Caller

@@ -7,7 +7,7 @@ use Rattle.an_base.specs.Outcome.{passes}
 use Rattle.an_policy.specs.declared.reader.Reader.{Reader}
 use Rattle.an_keyed.specs.Marks.{marked_row}
 use Rattle.an_machine.specs.State.{State, KeptReader, reader_token, live_readers, reader_with_token}
-use Rattle.an_machine.specs.Step.{is_taken_from, is_token_taken}
+use Rattle.an_machine.specs.Refusals.{is_taken_from, is_token_taken}
 
 -- ---- lists
 

@@ -1,5 +1,5 @@
--- The manifest of a name, among all rows and among those that are shown.
-use Rattle.std.proofs.Common.{◌≡◌, ℕ, ◌≤◌, List, [], ◌∷◌, length, Bool, true, false, cond, not, nat_lt, bytes_eq, Some, None, option_and_then, inl, inr, refl, sym, ap, ◌∙◌, subst, arith}
+-- The row of a key, among all rows and among those that are shown.
+use Rattle.std.proofs.Common.{◌≡◌, ℕ, ◌≤◌, List, [], ◌∷◌, length, Bool, true, false, cond, not, nat_lt, bytes_eq, Option, Some, None, option_and_then, inl, inr, refl, sym, ap, ap₂, ◌∙◌, subst, arith}
 use Rattle.std.specs.Prelude.{filter, find, position, slice_get, IsTrue}
 use Rattle.std.specs.List.{list_any, position_or_len}
 use Rattle.std.proofs.lemmas.Bool.{cases_Bool, and_parts, or_parts, cond-true, cond-false}
@@ -9,10 +9,11 @@ use Rattle.std.proofs.lemmas.Option.{slice_get_past}
 use Rattle.std.proofs.lemmas.Slice.Eq.{bytes_eq-Decides}
 use Rattle.an_base.specs.Outcome.{only_if}
 use Rattle.an_policy.specs.Audience.{Identity}
-use Rattle.an_machine.specs.State.{State, KeptManifest, manifest_row, names_are_distinct}
-use Rattle.an_machine.specs.View.{view_of, shows_manifest, manifest_in}
+use Rattle.an_keyed.specs.Key.{Key, same_key, same_owner}
+use Rattle.an_machine.specs.State.{State, KeptManifest, KeptNote, manifest_key, note_key, manifest_row, note_row, keys_are_distinct, is_distinct}
+use Rattle.an_machine.specs.View.{view_of, shows_manifest, shows_note, manifest_in, note_in}
 
-row_found : {A : Type 0} (test : A → Bool) (rows : List A) → option_and_then (slice_get rows) (position test rows) ≡ find test rows
+pub row_found : {A : Type 0} (test : A → Bool) (rows : List A) → option_and_then (slice_get rows) (position test rows) ≡ find test rows
 row_found test rows =
     let place = position_or_len test rows in
     elim (cases_Bool (nat_lt place (length rows))) [
@@ -22,74 +23,102 @@ row_found test rows =
           rw isnt (sym (find_at test rows ∙ slice_get_past rows place behind))
     ]
 
-module _ (shows : KeptManifest → Bool) (name : List ℕ) where
-  abbrev is_named : KeptManifest → Bool
-  is_named row = bytes_eq row.name name
+-- two keys that are the same are equal
+same_owner-equal : (a b : Option (List ℕ)) → same_owner a b ≡ true → a ≡ b
+same_owner-equal None None is = refl
+same_owner-equal None (Some b) is = absurd (cc)
+same_owner-equal (Some a) None is = absurd (cc)
+same_owner-equal (Some a) (Some b) is = ap (λ t. Some t) ((bytes_eq-Decides a b).0 is)
 
-  -- a name that no row has is no name of those that are shown
-  none_shown : (rows : List KeptManifest) → list_any is_named rows ≡ false → find is_named (filter shows rows) ≡ None
+pub same_key-equal : (a b : Key) → same_key a b ≡ true → a ≡ b
+same_key-equal a b is =
+    let parts = and_parts (same_owner a.owner b.owner) (bytes_eq a.name b.name) is in
+    let owner = same_owner-equal a.owner b.owner parts.0 in
+    let name = (bytes_eq-Decides a.name b.name).0 parts.1 in
+    ap₂ (λ o n. record { owner = o; name = n }) owner name
+
+module _ {R : Type 0} (key : R → Key) (shows : R → Bool) (wanted : Key) where
+  abbrev has_key : R → Bool
+  has_key row = same_key (key row) wanted
+
+  -- a key that no row has is no key of those that are shown
+  none_shown : (rows : List R) → list_any has_key rows ≡ false → find has_key (filter shows rows) ≡ None
   none_shown [] none = refl
   none_shown (row ∷ rows) none =
-      let parts = or_parts (is_named row) (list_any is_named rows) none in
-      elim (shows row) as (λ b. find is_named (cond b (row ∷ filter shows rows) (filter shows rows)) ≡ None) [
+      let parts = or_parts (has_key row) (list_any has_key rows) none in
+      elim (shows row) as (λ b. find has_key (cond b (row ∷ filter shows rows) (filter shows rows)) ≡ None) [
         | true ↦ cond-false _ _ _ parts.0 ∙ none_shown rows parts.1
         | false ↦ none_shown rows parts.1
       ]
 
-  -- a row of another name makes no difference
-  other_name : (row : KeptManifest) (rows : List KeptManifest) → is_named row ≡ false → find is_named (filter shows (row ∷ rows)) ≡ find is_named (filter shows rows)
-  other_name row rows isnt = elim (shows row) as (λ b. find is_named (cond b (row ∷ filter shows rows) (filter shows rows)) ≡ find is_named (filter shows rows)) [
+  -- a row of another key makes no difference
+  other_key : (row : R) (rows : List R) → has_key row ≡ false → find has_key (filter shows (row ∷ rows)) ≡ find has_key (filter shows rows)
+  other_key row rows isnt = elim (shows row) as (λ b. find has_key (cond b (row ∷ filter shows rows) (filter shows rows)) ≡ find has_key (filter shows rows)) [
     | true ↦ cond-false _ _ _ isnt
     | false ↦ refl
   ]
 
-  none_later : (row : KeptManifest) (rows : List KeptManifest) → is_named row ≡ true → not (list_any (λ other. bytes_eq other.name row.name) rows) ≡ true → list_any is_named rows ≡ false
+  none_later : (row : R) (rows : List R) → has_key row ≡ true → not (list_any (λ other. same_key (key other) (key row)) rows) ≡ true → list_any has_key rows ≡ false
   none_later row rows is distinct =
-      let same : row.name ≡ name = (bytes_eq-Decides row.name name).0 is in
-      let none : list_any (λ other. bytes_eq other.name row.name) rows ≡ false = grind arith in
-      subst (λ text. list_any (λ other. bytes_eq other.name text) rows ≡ false) same none
+      let same : key row ≡ wanted = same_key-equal (key row) wanted is in
+      let none : list_any (λ other. same_key (key other) (key row)) rows ≡ false = grind arith in
+      subst (λ k. list_any (λ other. same_key (key other) k) rows ≡ false) same none
 
-  -- where no two rows have one name, the row of a name is among those shown exactly where it is shown
-  one_shown : (rows : List KeptManifest) → names_are_distinct rows ≡ true → find is_named (filter shows rows) ≡ option_and_then (only_if shows) (find is_named rows)
+  -- where no two rows have one key, the row of a key is among those shown exactly where it is shown
+  pub one_shown : (rows : List R) → keys_are_distinct key rows ≡ true → find has_key (filter shows rows) ≡ option_and_then (only_if shows) (find has_key rows)
   one_shown [] distinct = refl
   one_shown (row ∷ rows) distinct =
-      let parts = and_parts (not (list_any (λ other. bytes_eq other.name row.name) rows)) (names_are_distinct rows) distinct in
-      elim (cases_Bool (is_named row)) [
+      let parts = and_parts (not (list_any (λ other. same_key (key other) (key row)) rows)) (keys_are_distinct key rows) distinct in
+      elim (cases_Bool (has_key row)) [
         | inl is ↦
-            let found : option_and_then (only_if shows) (find is_named (row ∷ rows)) ≡ only_if shows row = ap (option_and_then (only_if shows)) (cond-true _ _ _ is) in
-            let any : find is_named (filter shows (row ∷ rows)) ≡ only_if shows row = elim (shows row) as (λ b. find is_named (cond b (row ∷ filter shows rows) (filter shows rows)) ≡ cond b (Some row) None) [
+            let found : option_and_then (only_if shows) (find has_key (row ∷ rows)) ≡ only_if shows row = ap (option_and_then (only_if shows)) (cond-true _ _ _ is) in
+            let any : find has_key (filter shows (row ∷ rows)) ≡ only_if shows row = elim (shows row) as (λ b. find has_key (cond b (row ∷ filter shows rows) (filter shows rows)) ≡ cond b (Some row) None) [
               | true ↦ cond-true _ _ _ is
               | false ↦ none_shown rows (none_later row rows is parts.0)
             ] in
             any ∙ sym found
         | inr isnt ↦
-            let found : option_and_then (only_if shows) (find is_named (row ∷ rows)) ≡ option_and_then (only_if shows) (find is_named rows) = ap (option_and_then (only_if shows)) (cond-false _ _ _ isnt) in
-            other_name row rows isnt ∙ one_shown rows parts.1 ∙ sym found
+            let found : option_and_then (only_if shows) (find has_key (row ∷ rows)) ≡ option_and_then (only_if shows) (find has_key rows) = ap (option_and_then (only_if shows)) (cond-false _ _ _ isnt) in
+            other_key row rows isnt ∙ one_shown rows parts.1 ∙ sym found
       ]
 
-  -- the row of a name that is shown is the first of its name among those shown
-  shown_is_first : (rows : List KeptManifest) (first : KeptManifest) → option_and_then (only_if shows) (find is_named rows) ≡ Some first → find is_named (filter shows rows) ≡ Some first
+  -- the row of a key that is shown is the first of its key among those shown
+  pub shown_is_first : (rows : List R) (first : R) → option_and_then (only_if shows) (find has_key rows) ≡ Some first → find has_key (filter shows rows) ≡ Some first
   shown_is_first [] first shown = shown
-  shown_is_first (row ∷ rows) first shown = elim (cases_Bool (is_named row)) [
+  shown_is_first (row ∷ rows) first shown = elim (cases_Bool (has_key row)) [
     | inl is ↦
-        let found : option_and_then (only_if shows) (find is_named (row ∷ rows)) ≡ only_if shows row = ap (option_and_then (only_if shows)) (cond-true _ _ _ is) in
-        elim (shows row) as (λ b. cond b (Some row) None ≡ Some first → find is_named (cond b (row ∷ filter shows rows) (filter shows rows)) ≡ Some first) [
+        let found : option_and_then (only_if shows) (find has_key (row ∷ rows)) ≡ only_if shows row = ap (option_and_then (only_if shows)) (cond-true _ _ _ is) in
+        elim (shows row) as (λ b. cond b (Some row) None ≡ Some first → find has_key (cond b (row ∷ filter shows rows) (filter shows rows)) ≡ Some first) [
           | true ↦ λ h. cond-true _ _ _ is ∙ h
           | false ↦ λ h. absurd (cc)
         ] (sym found ∙ shown)
     | inr isnt ↦
-        let found : option_and_then (only_if shows) (find is_named (row ∷ rows)) ≡ option_and_then (only_if shows) (find is_named rows) = ap (option_and_then (only_if shows)) (cond-false _ _ _ isnt) in
-        other_name row rows isnt ∙ shown_is_first rows first (sym found ∙ shown)
+        let found : option_and_then (only_if shows) (find has_key (row ∷ rows)) ≡ option_and_then (only_if shows) (find has_key rows) = ap (option_and_then (only_if shows)) (cond-false _ _ _ isnt) in
+        other_key row rows isnt ∙ shown_is_first rows first (sym found ∙ shown)
   ]
 
-pub manifest_in-distinct : (s : State) (who : Identity) (name : List ℕ) → IsTrue (names_are_distinct s.manifests)
+pub manifest_in-distinct : (s : State) (who : Identity) (name : List ℕ) → IsTrue (is_distinct s)
     → option_and_then (only_if (shows_manifest who)) (manifest_row s name) ≡ manifest_in (view_of s who) name
+unfolding is_distinct
 manifest_in-distinct s who name distinct =
-    ap (option_and_then (only_if (shows_manifest who))) (row_found (is_named (shows_manifest who) name) s.manifests)
-    ∙ sym (one_shown (shows_manifest who) name s.manifests distinct)
+    let parts = and_parts (keys_are_distinct manifest_key s.manifests) (keys_are_distinct note_key s.notes) distinct in
+    ap (option_and_then (only_if (shows_manifest who))) (row_found (λ row. same_key (manifest_key row) (record { owner = None; name = name })) s.manifests)
+    ∙ sym (one_shown manifest_key (shows_manifest who) (record { owner = None; name = name }) s.manifests parts.0)
 
 pub manifest_in-shown : (s : State) (who : Identity) (name : List ℕ) (row : KeptManifest) → option_and_then (only_if (shows_manifest who)) (manifest_row s name) ≡ Some row → manifest_in (view_of s who) name ≡ Some row
 manifest_in-shown s who name row shown =
-    shown_is_first (shows_manifest who) name s.manifests row (sym (ap (option_and_then (only_if (shows_manifest who))) (row_found (is_named (shows_manifest who) name) s.manifests)) ∙ shown)
+    shown_is_first manifest_key (shows_manifest who) (record { owner = None; name = name }) s.manifests row (sym (ap (option_and_then (only_if (shows_manifest who))) (row_found (λ row. same_key (manifest_key row) (record { owner = None; name = name })) s.manifests)) ∙ shown)
 
-pub ruleset shown_rows = (manifest_in-distinct, manifest_in-shown)
+pub note_in-distinct : (s : State) (who : Identity) (owner name : List ℕ) → IsTrue (is_distinct s)
+    → option_and_then (only_if (shows_note s who)) (note_row s owner name) ≡ note_in (view_of s who) owner name
+unfolding is_distinct
+note_in-distinct s who owner name distinct =
+    let parts = and_parts (keys_are_distinct manifest_key s.manifests) (keys_are_distinct note_key s.notes) distinct in
+    ap (option_and_then (only_if (shows_note s who))) (row_found (λ row. same_key (note_key row) (record { owner = Some owner; name = name })) s.notes)
+    ∙ sym (one_shown note_key (shows_note s who) (record { owner = Some owner; name = name }) s.notes parts.1)
+
+pub note_in-shown : (s : State) (who : Identity) (owner name : List ℕ) (row : KeptNote) → option_and_then (only_if (shows_note s who)) (note_row s owner name) ≡ Some row → note_in (view_of s who) owner name ≡ Some row
+note_in-shown s who owner name row shown =
+    shown_is_first note_key (shows_note s who) (record { owner = Some owner; name = name }) s.notes row (sym (ap (option_and_then (only_if (shows_note s who))) (row_found (λ row. same_key (note_key row) (record { owner = Some owner; name = name })) s.notes)) ∙ shown)
+
+pub ruleset shown_rows = (manifest_in-distinct, manifest_in-shown, note_in-distinct, note_in-shown)

@@ -1,6 +1,9 @@
 pub mod State
 pub mod Rows
 pub mod View
+pub mod Versions
+pub mod Refusals
+pub mod Accepted
 pub mod Step
 pub mod Entries
 pub mod Book

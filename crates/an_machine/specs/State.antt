@@ -7,7 +7,7 @@ use Rattle.an_policy.specs.declared.reader.Reader.{Reader}
 use Rattle.an_policy.specs.declared.who.Caller.{Caller}
 use Rattle.an_policy.specs.declared.who.Caller.TheVariants.{Anonymous, Operator, Token, Named}
 use Rattle.an_policy.specs.Audience.{Identity, anonymous, operator, signed}
-use Rattle.an_keyed.specs.Key.{Key}
+use Rattle.an_keyed.specs.Key.{Key, same_key}
 use Rattle.an_keyed.specs.Rows.{row_of}
 use Rattle.an_machine.specs.declared.activity.Activity.{Activity}
 
@@ -72,10 +72,14 @@ manifest_row s name = row_of manifest_key (record { owner = None; name = name })
 abbrev pub note_row : State → List ℕ → List ℕ → Option KeptNote
 note_row s owner name = row_of note_key (record { owner = Some owner; name = name }) s.notes
 
--- no two manifests have one name
-abbrev pub names_are_distinct : List KeptManifest → Bool
-names_are_distinct [] = true
-names_are_distinct (row ∷ rows) = not (list_any (λ other. bytes_eq other.name row.name) rows) && names_are_distinct rows
+-- no two rows have one key
+abbrev pub keys_are_distinct : {R : Type 0} → (R → Key) → List R → Bool
+keys_are_distinct key [] = true
+keys_are_distinct key (row ∷ rows) = not (list_any (λ other. same_key (key other) (key row)) rows) && keys_are_distinct key rows
+
+-- no two manifests have one name, and no two annotations one owner and name
+unfoldable pub is_distinct : State → Bool
+is_distinct s = keys_are_distinct manifest_key s.manifests && keys_are_distinct note_key s.notes
 
 -- the readers that aren't deleted
 abbrev pub live_readers : State → List Reader

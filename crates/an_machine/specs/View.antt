@@ -1,10 +1,16 @@
 -- What a caller may read.
-use Rattle.std.specs.Prelude.{ℕ, ◌+◌, List, [], ◌∷◌, Bool, ◌&&◌, if◌then◌else◌, bytes_eq, filter, find, is_some, Option, Some, None}
+use Rattle.std.specs.Prelude.{ℕ, ◌+◌, List, [], ◌∷◌, Bool, ◌&&◌, if◌then◌else◌, bytes_eq, filter, find, is_some, Option, Some, None, option_map}
+use Rattle.std.specs.List.{filter_map}
 use Rattle.an_policy.specs.declared.group.Audience.{Audience}
 use Rattle.an_policy.specs.declared.group.Group.TheVariants.{Public}
 use Rattle.an_policy.specs.Audience.{Identity, may}
 use Rattle.an_machine.specs.State.{State, KeptManifest, KeptNote, LiveNote, manifest_row}
 use Rattle.an_base.specs.Outcome.{passes}
+use Rattle.an_policy.specs.Seen.{as_seen}
+use Rattle.an_machine.specs.declared.activity.Activity.{Activity}
+use Rattle.an_machine.specs.declared.activity.Seen.{Seen}
+use Rattle.an_machine.specs.declared.command.Object.{Object}
+use Rattle.an_machine.specs.declared.command.Object.TheVariants as object
 
 abbrev pub manifest_audience : KeptManifest → Audience
 manifest_audience row = record { outer = row.group; inner = Public; owner = None }
@@ -21,17 +27,34 @@ shows_manifest who row = is_some row.live && may who (manifest_audience row)
 abbrev pub shows_note : State → Identity → KeptNote → Bool
 shows_note s who row = passes (λ live. passes (λ manifest. may who (note_audience manifest row live)) (manifest_row s live.manifest)) row.live
 
--- the live manifests and the live annotations that the caller may read, in their order
+-- what an activity changed
+abbrev pub object_of_activity : Activity → Object
+object_of_activity activity = elim activity.owner [ None ↦ object.Manifest activity.name | Some owner ↦ object.Note owner activity.name ]
+
+-- an activity as the caller sees it, if it does
+abbrev pub seen_as : Identity → Activity → Option Seen
+seen_as who activity = option_map (λ kind. record { moment = activity.at; object = object_of_activity activity; kind = kind }) (as_seen who activity.before activity.after)
+
+-- the activities that the caller sees, in their order
+abbrev pub seen_by : Identity → List Activity → List Seen
+seen_by who activities = filter_map (seen_as who) activities
+
+-- the live manifests and the live annotations that the caller may read, and the activities that it sees, in their order
 pub record View : Type 0 where
   pub manifests : List KeptManifest
   pub notes : List KeptNote
+  pub seen : List Seen
 
 abbrev pub view_of : State → Identity → View
-view_of s who = record { manifests = filter (shows_manifest who) s.manifests; notes = filter (shows_note s who) s.notes }
+view_of s who = record { manifests = filter (shows_manifest who) s.manifests; notes = filter (shows_note s who) s.notes; seen = seen_by who s.activities }
 
 -- the manifest of this name in the view
 abbrev pub manifest_in : View → List ℕ → Option KeptManifest
 manifest_in view name = find (λ row. bytes_eq row.name name) view.manifests
+
+-- the annotation of this owner and name in the view
+abbrev pub note_in : View → List ℕ → List ℕ → Option KeptNote
+note_in view owner name = find (λ row. bytes_eq row.owner owner && bytes_eq row.name name) view.notes
 
 -- the annotation is live, and on this manifest
 abbrev pub is_on : List ℕ → KeptNote → Bool

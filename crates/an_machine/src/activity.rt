@@ -1,5 +1,6 @@
+use crate::command::Object;
 use an_base::{Moment, Name, TryCopy};
-use an_policy::Audience;
+use an_policy::{Audience, Kind};
 use std::alloc::AllocError;
 
 /// A change of a manifest or of an annotation (IIIF Change Discovery 1.0, section 3.2), with who
@@ -27,4 +28,12 @@ impl TryCopy for Activity {
             after: self.after.copy()?,
         })
     }
+}
+
+/// A change as a caller sees it.
+#[derive(Debug, Drop, PartialEq, Eq)]
+pub struct Seen {
+    pub moment: Moment,
+    pub object: Object,
+    pub kind: Kind,
 }

@@ -1,3 +1,6 @@
+ghost use Rattle.std.specs.Prelude.{◌≡◌};
+
+use crate::accept::version_of;
 use crate::entry::Entry;
 use an_base::{Code, Name, Tree, TryCopy};
 use an_policy::Group;
@@ -11,11 +14,20 @@ pub enum Command {
         version: u32,
         tree: Tree,
     },
+    DropReader {
+        name: Name,
+        version: u32,
+    },
     PutManifest {
         name: Name,
         version: u32,
         group: Group,
         tree: Tree,
+    },
+    /// The manifest goes with the annotations on it.
+    DropManifest {
+        name: Name,
+        version: u32,
     },
     PutNote {
         owner: Name,
@@ -25,6 +37,22 @@ pub enum Command {
         group: Group,
         tree: Tree,
     },
+    DropNote {
+        owner: Name,
+        name: Name,
+        version: u32,
+    },
+}
+
+impl Command {
+    ghost use Rattle.an_machine.specs.Accepted.{version_of};
+
+    /// The number of the write.
+    pub fn version(&self) -> u32
+        ensures version { result ≡ version_of self.now }
+    {
+        version_of(self)
+    }
 }
 
 impl TryCopy for Command {
@@ -39,6 +67,10 @@ impl TryCopy for Command {
                 version: *version,
                 tree: tree.copy()?,
             }),
+            Command::DropReader { name, version } => Ok(Command::DropReader {
+                name: name.copy()?,
+                version: *version,
+            }),
             Command::PutManifest {
                 name,
                 version,
@@ -49,6 +81,19 @@ impl TryCopy for Command {
                 version: *version,
                 group: group.copy()?,
                 tree: tree.copy()?,
+            }),
+            Command::DropManifest { name, version } => Ok(Command::DropManifest {
+                name: name.copy()?,
+                version: *version,
+            }),
+            Command::DropNote {
+                owner,
+                name,
+                version,
+            } => Ok(Command::DropNote {
+                owner: owner.copy()?,
+                name: name.copy()?,
+                version: *version,
             }),
             Command::PutNote {
                 owner,
@@ -115,7 +160,7 @@ pub enum Refused {
     GroupFixed,
     /// Another live reader has the token.
     TokenTaken,
-    /// The number isn't the next one.
+    /// The number is neither the next one nor that of the same write.
     Version { current: u32 },
     Memory,
 }

@@ -2,13 +2,16 @@ ghost use Rattle.std.specs.Prelude.{◌≡◌, ◌+◌, IfOk, option_and_then, o
 ghost use Rattle.std.specs.Option.{option_copied};
 ghost use Rattle.an_policy.specs.Audience.{identity, signed};
 ghost use Rattle.an_machine.specs.State.{who_of, reader_row, reader_with_token, manifest_row, note_row};
-ghost use Rattle.an_machine.specs.View.{readable_places, is_on, shows_note};
+ghost use Rattle.an_machine.specs.View.{readable_places, is_on, shows_note, seen_by, seen_as, object_of_activity};
 
+use crate::activity::{Activity, Seen};
 use crate::book::Book;
+use crate::command::Object;
 use crate::row::{ManifestRow, NoteRow};
-use an_base::{Name, Steps};
+use crate::shown::is_read_below;
+use an_base::{Name, Steps, TryCopy};
 use an_keyed::Keyed;
-use an_policy::{Caller, Reader, Who, may_read};
+use an_policy::{Caller, Reader, Who, as_seen};
 use std::alloc::{AllocError, Global};
 use std::sync::ledger::Ledger;
 
@@ -43,6 +46,10 @@ pub trait Look {
         manifest: &Name,
     ) -> Result<Vec<usize>, AllocError>
         ensures places { IfOk result (λ places. places.items ≡ readable_places (state self.now) (identity who.now) manifest.now) };
+
+    /// The changes that the caller sees, the earliest first.
+    fn seen(&self, alloc: Global, who: &Who<'_>) -> Result<Vec<Seen>, AllocError>
+        ensures seen { IfOk result (λ seen. seen.items ≡ seen_by (identity who.now) (state self.now).activities) };
 }
 
 impl Look for Book {
@@ -77,6 +84,50 @@ impl Look for Book {
         manifest: &Name,
     ) -> Result<Vec<usize>, AllocError> {
         readable_in(alloc, self, who, manifest)
+    }
+
+    fn seen(&self, alloc: Global, who: &Who<'_>) -> Result<Vec<Seen>, AllocError> {
+        seen_in(alloc, self.activities(), who)
+    }
+}
+
+fn seen_in(alloc: Global, activities: &[Activity], who: &Who<'_>) -> Result<Vec<Seen>, AllocError>
+    ensures { IfOk result (λ seen. seen.items ≡ seen_by (identity who.now) activities.now) }
+{
+    let mut seen = Vec::new(alloc);
+    for activity in activities {
+        if let Some(change) = seen_as(activity, who)? {
+            seen.push(change)?;
+        }
+    }
+    Ok(seen)
+}
+
+/// An activity as the caller sees it, if it does.
+fn seen_as(activity: &Activity, who: &Who<'_>) -> Result<Option<Seen>, AllocError>
+    ensures { IfOk result (λ seen. seen ≡ seen_as (identity who.now) activity.now) }
+{
+    match as_seen(who, activity.before.as_ref(), activity.after.as_ref()) {
+        Some(kind) => Ok(Some(Seen {
+            moment: activity.at,
+            object: object_of(activity)?,
+            kind,
+        })),
+        None => Ok(None),
+    }
+}
+
+/// What an activity changed.
+fn object_of(activity: &Activity) -> Result<Object, AllocError>
+    ensures { IfOk result (λ object. object ≡ object_of_activity activity.now) }
+{
+    let name = activity.name.copy()?;
+    match &activity.owner {
+        Some(owner) => Ok(Object::Note {
+            owner: owner.copy()?,
+            name,
+        }),
+        None => Ok(Object::Manifest(name)),
     }
 }
 
@@ -121,7 +172,7 @@ fn readable_in(
     let mut places = Vec::new(alloc);
     let mut place = 0;
     for row in book.notes() {
-        if is_on(row, manifest) && shows_note(book, who, row) {
+        if is_on(row, manifest) && is_shown_in(book, who, row) {
             places.push(place)?;
         }
         place += 1;
@@ -129,25 +180,27 @@ fn readable_in(
     Ok(places)
 }
 
-/// Whether the annotation is live, and on this manifest.
-fn is_on(row: &NoteRow, manifest: &Name) -> bool
-    ensures { result ≡ is_on manifest.now row.now }
+/// Whether the annotation is live, and the caller may read it.
+fn is_shown_in(book: &Book, who: &Who<'_>, row: &NoteRow) -> bool
+    ensures { result ≡ shows_note book.now.state (identity who.now) row.now }
 {
     match row.live() {
-        Some(live) => live.manifest == manifest,
+        Some(live) => is_read_below(
+            who,
+            book.manifest_row(live.manifest),
+            live.group,
+            row.owned_by(),
+        ),
         None => false,
     }
 }
 
-/// Whether the annotation is live, and the caller may read it.
-fn shows_note(book: &Book, who: &Who<'_>, row: &NoteRow) -> bool
-    ensures { result ≡ shows_note book.now.state (identity who.now) row.now }
+/// Whether the annotation is live, and on this manifest.
+pub(crate) fn is_on(row: &NoteRow, manifest: &Name) -> bool
+    ensures { result ≡ is_on manifest.now row.now }
 {
     match row.live() {
-        Some(live) => match book.manifest_row(live.manifest) {
-            Some(manifest) => may_read(who, manifest.group(), live.group, row.owner()),
-            None => false,
-        },
+        Some(live) => live.manifest == manifest,
         None => false,
     }
 }

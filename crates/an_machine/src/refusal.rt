@@ -4,14 +4,15 @@ ghost use Rattle.an_base.specs.Outcome.{first_of, passes, when};
 ghost use Rattle.an_manifest.specs.Manifest.{manifest_refusals as manifest_refusals_of};
 ghost use Rattle.an_model.specs.Note.{note_refusal};
 ghost use Rattle.an_policy.specs.Audience.{identity};
-ghost use Rattle.an_machine.specs.State.{manifest_row, note_row, reader_row};
-ghost use Rattle.an_machine.specs.Step.{may_manage, only_reads, is_token_taken, is_taken_from, reader_code, manifest_code, note_code, shape, version_refusal, reader_refusals, manifest_refusals, note_refusals, refusals, is_private, same_group, is_outside};
+ghost use Rattle.an_machine.specs.State.{manifest_row};
+ghost use Rattle.an_machine.specs.Refusals.{may_manage, only_reads, is_token_taken, is_taken_from, reader_code, manifest_code, note_code, shape, reader_refusals, manifest_refusals, note_refusals, managed_refusals, own_refusals, refusals, is_private, is_outside};
 ghost use Rattle.an_machine.specs.View.{shows_manifest};
 
 use crate::book::Book;
 use crate::command::{Command, Refused};
 use crate::row::ReaderRow;
 use crate::shown::is_shown;
+use crate::versions::is_same_group;
 use an_base::{Code, Name, Text, Tree, TryCopy};
 use an_manifest::{SheetError, manifest_refusal as sheet_refusal};
 use an_model::{NoteError, note_refusal as tree_refusal};
@@ -33,20 +34,33 @@ pub(crate) fn refusal_of(
             version,
             tree,
         } => reader_refusal(alloc, book, who, name, *version, tree),
+        Command::DropReader {
+            name: _,
+            version: _,
+        } => Ok(managed_refusal(who)),
         Command::PutManifest {
             name,
-            version,
+            version: _,
             group,
             tree,
-        } => Ok(manifest_refusal(book, who, name, *version, group, tree)),
+        } => Ok(manifest_refusal(book, who, name, group, tree)),
+        Command::DropManifest {
+            name: _,
+            version: _,
+        } => Ok(managed_refusal(who)),
         Command::PutNote {
             owner,
-            name,
-            version,
+            name: _,
+            version: _,
             manifest,
             group,
             tree,
-        } => Ok(note_refusal(book, who, owner, name, *version, manifest, group, tree)),
+        } => Ok(note_refusal(book, who, owner, manifest, group, tree)),
+        Command::DropNote {
+            owner,
+            name: _,
+            version: _,
+        } => Ok(own_refusal(who, owner)),
     }
 }
 
@@ -65,7 +79,7 @@ fn reader_refusal(
         return Ok(Some(Refused::NotWriter));
     }
     match read_reader(alloc, tree.as_value(), name.copy()?, version) {
-        Ok(reader) => Ok(reader_conflict(book, name, version, &reader.token)),
+        Ok(reader) => Ok(token_refusal(book, name, &reader.token)),
         Err(error) => match reader_code(error) {
             Some(code) => Ok(Some(Refused::Shape(code))),
             None => Err(AllocError),
@@ -85,16 +99,13 @@ fn reader_code(error: ReaderError) -> Option<Code>
     }
 }
 
-fn reader_conflict(book: &Book, name: &Name, version: u32, token: &Text) -> Option<Refused>
-    ensures { result ≡ first_of (when (is_token_taken book.now.state name.now token.now) Refused.TokenTaken
-        ∷ version_refusal (option_map (λ row. row.version) (reader_row book.now.state name.now)) version ∷ []) }
+fn token_refusal(book: &Book, name: &Name, token: &Text) -> Option<Refused>
+    ensures { result ≡ when (is_token_taken book.now.state name.now token.now) Refused.TokenTaken }
 {
     if is_token_taken(book, name, token) {
-        return Some(Refused::TokenTaken);
-    }
-    match book.reader_row(name) {
-        Some(row) => version_refusal(Some(row.version()), version),
-        None => version_refusal(None, version),
+        Some(Refused::TokenTaken)
+    } else {
+        None
     }
 }
 
@@ -130,29 +141,15 @@ fn takes_token(row: &ReaderRow, name: &Name, token: &Text) -> bool
     }
 }
 
-fn version_refusal(current: Option<u32>, version: u32) -> Option<Refused>
-    ensures { result ≡ version_refusal current version }
-{
-    match current {
-        Some(current) => Some(Refused::Version { current }),
-        None => if version == 1 {
-            None
-        } else {
-            Some(Refused::Version { current: 0 })
-        },
-    }
-}
-
 fn manifest_refusal(
     book: &Book,
     who: &Who<'_>,
     name: &Name,
-    version: u32,
     group: &Group,
     tree: &Tree,
 ) -> Option<Refused>
     ensures { result
-        ≡ first_of (manifest_refusals book.now.state (identity who.now) name.now version group.now tree.now) }
+        ≡ first_of (manifest_refusals book.now.state (identity who.now) name.now group.now tree.now) }
 {
     if !may_manage(who) {
         return Some(Refused::NotWriter);
@@ -165,11 +162,11 @@ fn manifest_refusal(
     }
     match book.manifest_row(name) {
         Some(row) => if is_same_group(row.group(), group) {
-            version_refusal(Some(row.version()), version)
+            None
         } else {
             Some(Refused::GroupFixed)
         },
-        None => version_refusal(None, version),
+        None => None,
     }
 }
 
@@ -177,14 +174,12 @@ fn note_refusal(
     book: &Book,
     who: &Who<'_>,
     owner: &Name,
-    name: &Name,
-    version: u32,
     manifest: &Name,
     group: &Group,
     tree: &Tree,
 ) -> Option<Refused>
-    ensures { result ≡ first_of (note_refusals book.now.state (identity who.now) owner.now name.now version
-        manifest.now group.now tree.now) }
+    ensures { result
+        ≡ first_of (note_refusals book.now.state (identity who.now) owner.now manifest.now group.now tree.now) }
 {
     if only_reads(who) {
         return Some(Refused::NotWriter);
@@ -198,12 +193,31 @@ fn note_refusal(
     if is_outside(who, group) {
         return Some(Refused::NotMember);
     }
-    if let Some(refusal) = note_shape(tree) {
-        return Some(refusal);
+    note_shape(tree)
+}
+
+/// Why the caller may not delete a reader or a manifest.
+fn managed_refusal(who: &Who<'_>) -> Option<Refused>
+    ensures { result ≡ first_of (managed_refusals (identity who.now)) }
+{
+    if may_manage(who) {
+        None
+    } else {
+        Some(Refused::NotWriter)
     }
-    match book.note_row(owner, name) {
-        Some(row) => version_refusal(Some(row.version()), version),
-        None => version_refusal(None, version),
+}
+
+/// Why the caller may not delete an annotation of this owner.
+fn own_refusal(who: &Who<'_>, owner: &Name) -> Option<Refused>
+    ensures { result ≡ first_of (own_refusals (identity who.now) owner.now) }
+{
+    if only_reads(who) {
+        return Some(Refused::NotWriter);
+    }
+    if is_named(who, owner) {
+        None
+    } else {
+        Some(Refused::NotOwn)
     }
 }
 
@@ -285,20 +299,6 @@ fn is_private(group: &Group) -> bool
     ensures { result ≡ is_private group.now }
 {
     matches!(group, Group::Private)
-}
-
-fn is_same_group(one: &Group, other: &Group) -> bool
-    ensures { result ≡ same_group one.now other.now }
-{
-    match one {
-        Group::Public => matches!(other, Group::Public),
-        Group::Private => matches!(other, Group::Private),
-        Group::Named(name) => match other {
-            Group::Public => false,
-            Group::Private => false,
-            Group::Named(other) => name == other,
-        },
-    }
 }
 
 /// Whether it is a named group that the caller is no member of.

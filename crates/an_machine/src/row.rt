@@ -155,6 +155,14 @@ impl ManifestRow {
         &self.group
     }
 
+    /// When the live manifest was made.
+    pub(crate) fn created_at(&self) -> Option<Moment>
+        ensures created { result ≡ option_map (λ live. live.created) self.now.live }
+    {
+        let _tree = self.tree.as_ref()?;
+        self.created
+    }
+
     /// What is kept of the manifest's tree while it is live.
     pub fn sheet(&self) -> Option<&Sheet>
         ensures sheet { option_copied result ≡ option_map (λ live. live.tree) self.now.live }
@@ -254,6 +262,13 @@ impl NoteRow {
         ensures version { result ≡ self.now.version }
     {
         self.version
+    }
+
+    /// Whose annotation it is.
+    pub fn owned_by(&self) -> &Name
+        ensures owner { result.now ≡ self.now.owner }
+    {
+        &self.owner
     }
 
     /// What is kept of the annotation while it is live.

@@ -37,15 +37,24 @@ fn manifest(alloc: Global) -> Result<Command, Fail> {
     })
 }
 
-/// An annotation of `ivo` for everybody, or for a group of this name.
+/// A write of `ivo` on an annotation: its deletion, or a put for everybody or a group of this name.
 fn note(alloc: Global, version: u32, shown: &str) -> Result<Command, Fail> {
+    let owner = name(alloc, "ivo")?;
+    let own = name(alloc, "o1")?;
     let group = match shown {
+        "deleted" => {
+            return Ok(Command::DropNote {
+                owner,
+                name: own,
+                version,
+            });
+        }
         "public" => Group::Public,
         _ => Group::Named(name(alloc, shown)?),
     };
     Ok(Command::PutNote {
-        owner: name(alloc, "ivo")?,
-        name: name(alloc, "o1")?,
+        owner,
+        name: own,
         version,
         manifest: name(alloc, "m1")?,
         group,
@@ -53,48 +62,64 @@ fn note(alloc: Global, version: u32, shown: &str) -> Result<Command, Fail> {
     })
 }
 
-fn decided(alloc: Global, book: &Book, by: &Caller, command: &Command) -> Result<Decided, Refused> {
-    match Moment::new(1714557600) {
-        Some(moment) => book.decide(alloc, moment, by, command),
-        None => Err(Refused::Memory),
+/// Why a write is refused. One that isn't is done by a copy of what was decided.
+fn write(
+    alloc: Global,
+    book: &mut Book,
+    seconds: i64,
+    by: &Caller,
+    command: &Command,
+) -> Result<Result<WriteReply, Refused>, Fail> {
+    let moment = Moment::new(seconds).ok_or("no moment")?;
+    match book.decide(alloc, moment, by, command) {
+        Ok(decided) => {
+            let Decided { entry, reply } = decided;
+            if let Some(entry) = entry.copy()? {
+                book.room(&entry)?;
+                book.apply(entry);
+            }
+            Ok(Ok(reply))
+        }
+        Err(refused) => Ok(Err(refused)),
     }
-}
-
-/// Applies a copy of what is decided.
-fn write(alloc: Global, book: &mut Book, by: &Caller, command: &Command) -> Result<(), Fail> {
-    let Decided { entry, reply: _ } = decided(alloc, book, by, command)?;
-    if let Some(entry) = entry.copy()? {
-        book.room(&entry)?;
-        book.apply(entry);
-    }
-    Ok(())
 }
 
 /// A reader, and a manifest that everybody may read.
 fn filled(alloc: Global) -> Result<Book, Fail> {
     let mut book = Book::new(alloc);
-    write(alloc, &mut book, &Caller::Operator, &reader(alloc)?)?;
-    write(alloc, &mut book, &Caller::Operator, &manifest(alloc)?)?;
+    write(alloc, &mut book, 0, &Caller::Operator, &reader(alloc)?)??;
+    write(alloc, &mut book, 0, &Caller::Operator, &manifest(alloc)?)??;
     Ok(book)
 }
 
+/// The number, whether the object is new, and whether the write had been done already.
+fn parts(reply: WriteReply) -> (u32, bool, bool) {
+    (reply.version, reply.made, reply.repeat)
+}
+
 #[test]
-fn writes_are_refused_or_kept(rt: HostRuntime) -> Result<(), Fail> {
+fn writes_are_refused_repeated_or_done(rt: HostRuntime) -> Result<(), Fail> {
     let alloc = rt.alloc();
     let ivo = Caller::Token(Text::new(alloc, "tok-ivo-")?);
     let mut book = filled(alloc)?;
-    for (version, shown, want) in [
-        (2, "public", Refused::Version { current: 0 }),
-        (1, "a", Refused::NotMember),
+    for (seconds, version, shown, want) in [
+        (1, 2, "public", Err(Refused::Version { current: 0 })),
+        (1, 1, "a", Err(Refused::NotMember)),
+        (1, 1, "public", Ok((1, true, false))),
+        (2, 1, "public", Ok((1, false, true))),
+        (3, 2, "deleted", Ok((2, false, false))),
+        (4, 2, "deleted", Ok((2, false, true))),
+        (5, 3, "deleted", Err(Refused::Version { current: 2 })),
+        (6, 2, "public", Err(Refused::Version { current: 2 })),
+        (7, 3, "public", Ok((3, true, false))),
     ] {
         let command = note(alloc, version, shown)?;
-        let found = decided(alloc, &book, &ivo, &command).err();
-        assert_eq!(rt; found, Some(want), "{shown}");
+        let found = write(alloc, &mut book, seconds, &ivo, &command)?;
+        assert_eq!(rt; found.map(parts), want, "{seconds}");
     }
-    write(alloc, &mut book, &ivo, &note(alloc, 1, "public")?)?;
     for row in book.notes() {
         let copy = row.copy()?;
-        assert!(rt; row.version() == 1 && row.live().is_some());
+        assert!(rt; copy.version == 3 && copy.created.map(Moment::seconds) == Some(7));
         assert!(rt; copy.name == row.name && copy.tree == row.tree);
     }
     assert_eq!(rt; book.notes().len(), 1);

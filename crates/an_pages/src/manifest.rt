@@ -2,11 +2,12 @@ ghost use Rattle.std.specs.Prelude.{◌≡◌, IfOk, IsTrue, Ok};
 ghost use Rattle.serde_json.specs.Written.{compact_text};
 ghost use Rattle.an_base.specs.Outcome.{Gives};
 ghost use Rattle.an_policy.specs.Audience.{identity};
-ghost use Rattle.an_machine.specs.State.{names_are_distinct};
+ghost use Rattle.an_machine.specs.State.{is_distinct};
 ghost use Rattle.an_machine.specs.View.{view_of};
 ghost use Rattle.an_manifest.specs.Dress.{dressed};
 ghost use Rattle.an_pages.specs.Bodies.{manifest_body, manifest_of_view};
 
+use crate::error::PageError;
 use an_base::{Bytes, Name, tree_text};
 use an_keyed::Keyed;
 use an_machine::{Look, ManifestRow, shown_manifest};
@@ -14,14 +15,6 @@ use an_manifest::{Sheet, dress_manifest};
 use an_policy::Who;
 use an_search::Settings;
 use std::alloc::{AllocError, Global};
-
-/// Why there is nothing to show.
-#[derive(Clone, Copy, Debug, PartialEq, Eq)]
-pub enum PageError {
-    /// There is no such thing that the caller may read.
-    Absent,
-    Memory,
-}
 
 /// A manifest as the caller is shown it (IIIF Presentation API 3.0), with the search in its
 /// annotations and a page of annotations in each canvas. A hidden manifest is answered as one that
@@ -36,7 +29,7 @@ pub fn manifest_answer<T: Look>(
 ) -> Result<Bytes, PageError>
     ensures body { IfOk result (λ body. manifest_of_view settings.now
         (view_of (T.state look.now) (identity who.now)) name.now ≡ Ok body) }
-    ensures answer { IsTrue (names_are_distinct (T.state look.now).manifests)
+    ensures answer { IsTrue (is_distinct (T.state look.now))
         → Gives (λ body. body) PageError.Memory result (manifest_of_view settings.now
         (view_of (T.state look.now) (identity who.now)) name.now) }
 {

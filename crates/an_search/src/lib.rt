@@ -2,6 +2,7 @@
 #![tactic(auto)]
 
 pub use hits::{AskError, search};
+pub use listed::listed_note;
 pub use settings::{Settings, SettingsError, read_settings};
 
 mod hits;

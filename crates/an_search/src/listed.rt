@@ -11,11 +11,7 @@ use serde_json::Value;
 use std::alloc::{AllocError, Global};
 
 /// An annotation as lists give it. `base` is the start of its IRI. Nothing where it was deleted.
-pub(crate) fn listed_note(
-    alloc: Global,
-    base: &str,
-    row: &NoteRow,
-) -> Result<Option<Value>, AllocError>
+pub fn listed_note(alloc: Global, base: &str, row: &NoteRow) -> Result<Option<Value>, AllocError>
     ensures note { IfOk result (λ note. option_map view note ≡ listed_note base.now row.now) }
     ensures no_float { IfOk result (λ note. IfSome note (λ v. has_float (view v) ≡ false)) }
 {

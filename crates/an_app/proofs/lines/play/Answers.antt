@@ -1,9 +1,19 @@
-use Rattle.std.proofs.Common.{◌++◌, ap, sym, subst, ◌∙◌, arith}
+use Rattle.std.proofs.Common.{rules, ◌++◌, ap, sym, subst, ◌∙◌, arith}
 use Rattle.an_app.specs.Find.{play, turn_of}
 use Rattle.an_app.specs.Split.{lines_of}
 use Rattle.an_app.specs.Turned.{Takes}
 use Rattle.an_app.proofs.FollowLemmas.{follows}
+use Rattle.an_machine.proofs.DistinctLemmas.{distinct-empty}
 use Rattle.an_app.proofs.lines.play.Goals as goal
+
+pub lines-init : goal.lines-init
+lines-init c = record {
+  output = search rules;
+  stop = search rules;
+  distinct = rw c.new-book.ensures.empty distinct-empty;
+  few = search rules;
+  within = search rules;
+}
 
 pub lines-preserved : goal.lines-preserved
 lines-preserved c =

@@ -1,4 +1,4 @@
-use Rattle.an_app.proofs.DistinctLemmas.{distinct-after}
+use Rattle.an_machine.proofs.DistinctLemmas.{distinct-after}
 use Rattle.an_app.proofs.turn.apply.Goals as goal
 
 pub returns-in-Some-clause-distinct : goal.returns-in-Some-clause-distinct

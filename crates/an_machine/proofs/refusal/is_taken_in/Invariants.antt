@@ -1,6 +1,6 @@
 use Rattle.std.proofs.Common.{◌≡◌, drop}
 use Rattle.std.specs.List.{filter_map, list_any}
-use Rattle.an_machine.specs.Step.{is_taken_from}
+use Rattle.an_machine.specs.Refusals.{is_taken_from}
 use Rattle.an_machine.proofs.refusal.is_taken_in.Given as goal
 
 -- the answer for the rows that are left is the answer for all
