@@ -96,10 +96,16 @@ fn manifests_are_served_or_refused(rt: HostRuntime) -> Result<(), Fail> {
         let (want, text) = row.split_once(" | ").ok_or("no row")?;
         assert_eq!(rt; refusal(rt.alloc(), text)?.as_str(), want, "of {text}");
     }
-    let canvases = sheet(
+    let (first, _) = PUBLISHED.split_once(" | ").ok_or("no row")?;
+    let one = sheet(rt.alloc(), first)?;
+    assert_eq!(rt;
+        listed(rt.alloc(), one.canvases())?.as_str(),
+        " http://a.example/c1"
+    );
+    let two = sheet(
         rt.alloc(),
         r#"{"items":[{"height":1,"id":"c1","type":"Canvas","width":1},{"height":1,"id":"c2","type":"Canvas","width":1}],"label":{"none":["Log"]},"type":"Manifest"}"#,
     )?;
-    assert_eq!(rt; listed(rt.alloc(), canvases.canvases())?.as_str(), " c1 c2");
+    assert_eq!(rt; listed(rt.alloc(), two.canvases())?.as_str(), " c1 c2");
     Ok(())
 }
