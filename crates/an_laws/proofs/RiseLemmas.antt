@@ -1,0 +1,182 @@
+-- What an accepted write makes of the numbers of objects.
+use Rattle.std.proofs.Common.{◌≡◌, ℕ, ◌+◌, ◌≤◌, ℤ, Bool, true, false, cond, ◌&&◌, not, List, ◌++◌, Option, Some, None, option_map, unwrap_or, inl, inr, refl, sym, ap, subst, ◌∙◌, arith}
+use Rattle.std.specs.Prelude.{◌==◌, ◌^◌, ◌-◌, is_some, nat_lt}
+use Rattle.std.proofs.lemmas.Bool.{cases_Bool, and_parts, cond-true, cond-false, cond_both, eqb-true}
+use Rattle.an_base.specs.Outcome.{passes}
+use Rattle.an_keyed.specs.Key.{Key, same_key}
+use Rattle.an_keyed.specs.Rows.{row_of, put_row}
+use Rattle.an_policy.specs.Audience.{Identity}
+use Rattle.an_machine.specs.Accepted.{object_of, version_of, new_rows, new_activities, moment_of_write, number_behind, buried}
+use Rattle.an_machine.specs.Entries.{with_row, with_rows, after}
+use Rattle.an_machine.specs.State.{State, KeptReader, KeptManifest, KeptNote, reader_key, manifest_key, note_key, reader_row, manifest_row, note_row, is_distinct}
+use Rattle.an_machine.specs.Versions.{current, reader_standing, manifest_standing, note_standing, holds_reader, holds_manifest, holds_note, put_ruling, drop_ruling, ruling}
+use Rattle.an_machine.specs.View.{is_on}
+use Rattle.an_machine.specs.declared.activity.Activity.{Activity}
+use Rattle.an_machine.specs.declared.command.Command.{Command}
+use Rattle.an_machine.specs.declared.command.Command.TheVariants.{PutReader, DropReader, PutManifest, DropManifest, PutNote, DropNote}
+use Rattle.an_machine.specs.declared.command.Object.{Object}
+use Rattle.an_machine.specs.declared.command.Object.TheVariants.{Reader, Manifest, Note}
+use Rattle.an_machine.specs.declared.entry.Row.TheVariants as kept
+use Rattle.an_machine.specs.declared.versions.Ruling.TheVariants.{Next, Again, Stale}
+use Rattle.an_machine.specs.declared.versions.Standing.{Standing}
+use Rattle.an_machine.proofs.DistinctLemmas.{same_key-self}
+use Rattle.an_machine.proofs.ViewLemmas.{same_key-equal}
+use Rattle.an_laws.specs.Legal.{Write, Accepts}
+use Rattle.an_laws.specs.Numbers.{number_of}
+use Rattle.an_laws.proofs.BurialLemmas.{as_left, left_state, note_row-left}
+use Rattle.an_laws.proofs.DropLemmas.{as_dropped, with_rows-tombstone}
+use Rattle.an_laws.proofs.FoundLemmas.{passes-some}
+use Rattle.an_laws.proofs.RowLemmas.{row_of-put_row}
+use Rattle.an_laws.proofs.StepLemmas.{accepted-is}
+
+-- ---- the number that a ruling asks for
+
+-- the next put has the number behind the current one
+put-next : (s : Standing) (holds : Bool) (version : ℕ) → put_ruling s holds version ≡ Next → version ≡ current s + 1
+put-next s holds version next = elim (cases_Bool (version == current s + 1)) [
+  | inl is ↦ eqb-true _ _ is
+  | inr isnt ↦ elim (cases_Bool ((version == current s) && holds)) [
+    | inl again ↦ let other : Again ≡ Next = sym (rw (isnt, again) refl) ∙ next in absurd (cc)
+    | inr stale ↦ let other : Stale ≡ Next = sym (rw (isnt, stale) refl) ∙ next in absurd (cc)
+  ]
+]
+
+-- the next deletion has it too, and is of what is live
+drop-next : (s : Standing) (version : ℕ) → drop_ruling s version ≡ Next → (version ≡ current s + 1) × (s.live ≡ true)
+drop-next s version next = elim (cases_Bool ((version == current s + 1) && s.live)) [
+  | inl is ↦ let both = and_parts (version == current s + 1) s.live is in (eqb-true _ _ both.0, both.1)
+  | inr isnt ↦ elim (cases_Bool ((version == current s) && is_some s.version && not s.live)) [
+    | inl again ↦ let other : Again ≡ Next = sym (cond-false _ _ _ isnt ∙ cond-true _ _ _ again) ∙ next in absurd (cc)
+    | inr stale ↦ let other : Stale ≡ Next = sym (cond-false _ _ _ isnt ∙ cond-false _ _ _ stale) ∙ next in absurd (cc)
+  ]
+]
+
+-- so a manifest that is deleted next has a row
+pub drop-found : (found : Option KeptManifest) (version : ℕ) → drop_ruling (manifest_standing found) version ≡ Next → (row : KeptManifest) × (found ≡ Some row)
+drop-found found version next = passes-some (λ row. is_some row.live) found (drop-next (manifest_standing found) version next).1
+
+-- the next write on an object has the number behind its last one
+pub next-number : (s : State) (command : Command) → ruling s command ≡ Next → version_of command ≡ number_of s (object_of command) + 1
+next-number s (PutReader name version tree) next = put-next (reader_standing (reader_row s name)) (passes (holds_reader name version tree) (reader_row s name)) version next
+next-number s (DropReader name version) next = (drop-next (reader_standing (reader_row s name)) version next).0
+next-number s (PutManifest name version group tree) next = put-next (manifest_standing (manifest_row s name)) (passes (holds_manifest tree) (manifest_row s name)) version next
+next-number s (DropManifest name version) next = (drop-next (manifest_standing (manifest_row s name)) version next).0
+next-number s (PutNote owner name version manifest group tree) next = put-next (note_standing (note_row s owner name)) (passes (holds_note manifest group tree) (note_row s owner name)) version next
+next-number s (DropNote owner name version) next = (drop-next (note_standing (note_row s owner name)) version next).0
+
+-- ---- the number of a row that is put
+
+module _ {R : Type 0} (key : R → Key) (version : R → ℕ) where
+  -- the number under a key: 0 without a row
+  abbrev number_at : Key → List R → ℕ
+  number_at wanted rows = unwrap_or (option_map version (row_of key wanted rows)) 0
+
+  -- the row that was put has its number
+  number_at-put : (row : R) (rows : List R) → number_at (key row) (put_row key row rows) ≡ version row
+  number_at-put row rows = ap (λ found. unwrap_or (option_map version found) 0) (row_of-put_row key row (key row) rows) ∙ rw (same_key-self (key row)) refl
+
+  -- a row whose number is no lower than the one before it makes no number lower
+  number_at-rises : (row : R) (rows : List R) → number_at (key row) rows ≤ version row → (wanted : Key) → number_at wanted rows ≤ number_at wanted (put_row key row rows)
+  number_at-rises row rows up wanted =
+      let found = row_of-put_row key row wanted rows in
+      elim (cases_Bool (same_key (key row) wanted)) [
+        | inl is ↦ rw (found, is) (subst (λ k. number_at k rows ≤ version row) (same_key-equal (key row) wanted is) up)
+        | inr isnt ↦ rw (found, isnt) (omega arith)
+      ]
+
+-- between two states no number falls, and an object comes to have this one
+pub record IsWritten (s t : State) (object : Object) (version : ℕ) : Type 0 where
+  pub rises : (other : Object) → number_of s other ≤ number_of t other
+  pub has : number_of t object ≡ version
+
+-- the next row of a reader, of a manifest or of an annotation makes no number lower
+reader-rises : (s : State) (r : KeptReader) → r.version ≡ number_of s (Reader r.name) + 1 → (object : Object) → number_of s object ≤ number_of (with_row s (kept.Reader r)) object
+reader-rises s r next (Reader name) = number_at-rises reader_key (λ row. row.version) r s.readers (omega arith) (record { owner = None; name = name })
+reader-rises s r next (Manifest name) = omega arith
+reader-rises s r next (Note owner name) = omega arith
+
+manifest-rises : (s : State) (m : KeptManifest) → m.version ≡ number_of s (Manifest m.name) + 1 → (object : Object) → number_of s object ≤ number_of (with_row s (kept.Manifest m)) object
+manifest-rises s m next (Reader name) = omega arith
+manifest-rises s m next (Manifest name) = number_at-rises manifest_key (λ row. row.version) m s.manifests (omega arith) (record { owner = None; name = name })
+manifest-rises s m next (Note owner name) = omega arith
+
+note-rises : (s : State) (n : KeptNote) → n.version ≡ number_of s (Note n.owner n.name) + 1 → (object : Object) → number_of s object ≤ number_of (with_row s (kept.Note n)) object
+note-rises s n next (Reader name) = omega arith
+note-rises s n next (Manifest name) = omega arith
+note-rises s n next (Note owner name) = number_at-rises note_key (λ row. row.version) n s.notes (omega arith) (record { owner = Some owner; name = name })
+
+-- it gives its object its number
+reader-written : (s : State) (r : KeptReader) → r.version ≡ number_of s (Reader r.name) + 1 → IsWritten s (with_row s (kept.Reader r)) (Reader r.name) r.version
+reader-written s r next = record { rises = reader-rises s r next; has = number_at-put reader_key (λ row. row.version) r s.readers }
+
+manifest-written : (s : State) (m : KeptManifest) → m.version ≡ number_of s (Manifest m.name) + 1 → IsWritten s (with_row s (kept.Manifest m)) (Manifest m.name) m.version
+manifest-written s m next = record { rises = manifest-rises s m next; has = number_at-put manifest_key (λ row. row.version) m s.manifests }
+
+note-written : (s : State) (n : KeptNote) → n.version ≡ number_of s (Note n.owner n.name) + 1 → IsWritten s (with_row s (kept.Note n)) (Note n.owner n.name) n.version
+note-written s n next = record { rises = note-rises s n next; has = number_at-put note_key (λ row. row.version) n s.notes }
+
+-- ---- the deletion of a manifest
+
+-- the number behind another is no lower
+number_behind-rises : (version : ℕ) → version ≤ number_behind version
+number_behind-rises version = cond_both (nat_lt version (2 ^ 32 - 1)) (version + 1) version (λ n. version ≤ n) (λ h. omega arith) (λ h. omega arith)
+
+-- an annotation has no lower a number as it is left
+left-version : (manifest : List ℕ) (row : KeptNote) → row.version ≤ (as_left manifest row).version
+left-version manifest row = elim (is_on manifest row) as (λ b. row.version ≤ (cond b (buried row) row).version) [
+  | true ↦ number_behind-rises row.version
+  | false ↦ omega arith
+]
+
+-- nor has what is found, if anything is
+left-number : (manifest : List ℕ) (found : Option KeptNote) → current (note_standing found) ≤ current (note_standing (option_map (as_left manifest) found))
+left-number manifest None = omega arith
+left-number manifest (Some row) = left-version manifest row
+
+-- what goes with a manifest makes no number lower
+left-rises : (s : State) (manifest : List ℕ) → is_distinct s ≡ true → (object : Object) → number_of s object ≤ number_of (left_state s manifest) object
+left-rises s manifest distinct (Reader name) = omega arith
+left-rises s manifest distinct (Manifest name) = omega arith
+left-rises s manifest distinct (Note owner name) =
+    subst (λ found. number_of s (Note owner name) ≤ current (note_standing found)) (sym (note_row-left s manifest owner name distinct)) (left-number manifest (note_row s owner name))
+
+-- the tombstone of the manifest is put last
+dropped-written : (s : State) (name : List ℕ) (version : ℕ) → is_distinct s ≡ true → version ≡ number_of s (Manifest name) + 1
+    → (row : KeptManifest) → IsWritten s (with_row (left_state s name) (kept.Manifest (as_dropped name version row))) (Manifest name) version
+dropped-written s name version distinct next row =
+    let put = manifest-written (left_state s name) (as_dropped name version row) next in
+    record { rises = λ other. omega (arith, left-rises s name distinct other, put.rises other); has = put.has }
+
+-- ---- an accepted write
+
+-- the rows of an accepted write make no number lower, and give its object its number
+rows-written : (s : State) (who : Identity) (at : ℤ) (command : Command) → is_distinct s ≡ true → ruling s command ≡ Next
+    → IsWritten s (with_rows (new_rows s who at command) s) (object_of command) (version_of command)
+rows-written s who at (PutReader name version tree) distinct next = reader-written s _ (next-number s (PutReader name version tree) next)
+rows-written s who at (DropReader name version) distinct next = reader-written s _ (next-number s (DropReader name version) next)
+rows-written s who at (PutManifest name version group tree) distinct next = manifest-written s _ (next-number s (PutManifest name version group tree) next)
+rows-written s who at (DropManifest name version) distinct next =
+    let found = drop-found (manifest_row s name) version next in
+    subst (λ t. IsWritten s t (Manifest name) version) (sym (with_rows-tombstone s who at name version found.0 found.1)) (dropped-written s name version distinct (next-number s (DropManifest name version) next) found.0)
+rows-written s who at (PutNote owner name version manifest group tree) distinct next = note-written s _ (next-number s (PutNote owner name version manifest group tree) next)
+rows-written s who at (DropNote owner name version) distinct next = note-written s _ (next-number s (DropNote owner name version) next)
+
+-- activities have no numbers
+number-activities : (s : State) (activities : List Activity) (object : Object) → number_of (record s { activities = activities }) object ≡ number_of s object
+number-activities s activities (Reader name) = refl
+number-activities s activities (Manifest name) = refl
+number-activities s activities (Note owner name) = refl
+
+activities-written : (s t : State) (activities : List Activity) (object : Object) (version : ℕ) → IsWritten s t object version → IsWritten s (record t { activities = activities }) object version
+activities-written s t activities object version put = record {
+  rises = λ other. rw (number-activities t activities other) (put.rises other);
+  has = number-activities t activities object ∙ put.has;
+}
+
+-- behind an accepted write no number is lower, and its object has its number
+pub accepted-written : (s : State) (write : Write) → is_distinct s ≡ true → Accepts s write → IsWritten s (after s write.entry) (object_of write.command) (version_of write.command)
+accepted-written s write distinct accepts =
+    let is = accepted-is s write accepts in
+    let at = moment_of_write s write.moment in
+    let t = with_rows (new_rows s is.who at write.command) s in
+    rw is.same (activities-written s t (t.activities ++ new_activities s is.who at write.command) (object_of write.command) (version_of write.command) (rows-written s is.who at write.command distinct is.next))

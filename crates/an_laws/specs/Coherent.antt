@@ -1,0 +1,77 @@
+-- How the activities tell the rows: what the change stream says of an object is how the object stands.
+use Rattle.std.specs.Prelude.{◌≡◌, List, [], ◌∷◌, Bool, true, false, is_some, filter, Option, None, Some, option_and_then}
+use Rattle.std.specs.List.{last_or}
+use Rattle.an_base.specs.Outcome.{passes}
+use Rattle.an_keyed.specs.Key.{Key, same_key}
+use Rattle.an_policy.specs.declared.group.Audience.{Audience}
+use Rattle.an_policy.specs.declared.kind.Kind.{Kind}
+use Rattle.an_policy.specs.declared.kind.Kind.TheVariants.{Create, Update, Delete}
+use Rattle.an_machine.specs.State.{State, manifest_row, note_row}
+use Rattle.an_machine.specs.View.{View, manifest_in, note_in}
+use Rattle.an_machine.specs.Accepted.{audience_of_manifest, audience_of_note}
+use Rattle.an_machine.specs.declared.activity.Activity.{Activity}
+use Rattle.an_machine.specs.declared.activity.Seen.{Seen}
+use Rattle.an_machine.specs.declared.command.Object.{Object}
+use Rattle.an_machine.specs.declared.command.Object.TheVariants as object
+
+-- a manifest is told by its name, an annotation by its owner and its name
+abbrev pub key_of : Activity → Key
+key_of activity = record { owner = activity.owner; name = activity.name }
+
+-- the activities of one object, in order
+abbrev pub activities_of : Key → List Activity → List Activity
+activities_of key activities = filter (λ activity. same_key (key_of activity) key) activities
+
+-- who may read the object, while it is live
+abbrev pub audience_of : State → Key → Option Audience
+audience_of s key = elim key.owner [
+  | None ↦ option_and_then audience_of_manifest (manifest_row s key.name)
+  | Some owner ↦ option_and_then (audience_of_note s) (note_row s owner key.name)
+]
+
+abbrev pub has_row : State → Key → Bool
+has_row s key = elim key.owner [
+  | None ↦ is_some (manifest_row s key.name)
+  | Some owner ↦ is_some (note_row s owner key.name)
+]
+
+-- each activity begins with the audience that the one before it ended with
+abbrev pub Chain : Option Audience → List Activity → Option Audience → Type 0
+Chain before [] now = before ≡ now
+Chain before (activity ∷ activities) now = (activity.before ≡ before) × Chain activity.after activities now
+
+abbrev pub has_any : List Activity → Bool
+has_any [] = false
+has_any (activity ∷ activities) = true
+
+-- the activities of each object lead from no audience to the one that it has, and an object has activities exactly where it has a row
+abbrev pub Coherent : State → Type 0
+Coherent s = (key : Key) → Chain None (activities_of key s.activities) (audience_of s key) × (has_row s key ≡ has_any (activities_of key s.activities))
+
+-- ---- what a caller sees
+
+-- the object is in the view
+abbrev pub is_in_view : View → Key → Bool
+is_in_view view key = elim key.owner [
+  | None ↦ is_some (manifest_in view key.name)
+  | Some owner ↦ is_some (note_in view owner key.name)
+]
+
+abbrev pub key_of_object : Object → Option Key
+key_of_object (object.Reader name) = None
+key_of_object (object.Manifest name) = Some (record { owner = None; name = name })
+key_of_object (object.Note owner name) = Some (record { owner = Some owner; name = name })
+
+-- a change that the caller saw was of this object
+abbrev pub is_change_of : Key → Seen → Bool
+is_change_of key seen = passes (λ its. same_key its key) (key_of_object seen.object)
+
+-- what is there behind a change
+abbrev pub is_there : Kind → Bool
+is_there Create = true
+is_there Update = true
+is_there Delete = false
+
+-- the last change of the object that the caller saw made it or changed it
+abbrev pub is_told : List Seen → Key → Bool
+is_told seen key = passes (λ change. is_there change.kind) (last_or None (filter (is_change_of key) seen))

@@ -1,0 +1,4 @@
+pub mod Legal
+pub mod Numbers
+pub mod Sound
+pub mod Coherent

@@ -1,0 +1,11 @@
+//! What the definitions of the small machine promise in every history. Each law is the contract of
+//! a function that does nothing.
+#![tactic(auto)]
+
+pub use coherence::{states_stay_coherent, views_are_told};
+pub use numbers::{numbers_rise, sent_again_adds_nothing};
+pub use soundness::states_stay_sound;
+
+mod coherence;
+mod numbers;
+mod soundness;
