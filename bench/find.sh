@@ -24,6 +24,6 @@ before=0
 for notes in 1000 10000 100000; do
   input "$notes" >"$work/input"
   measure
-  report "$notes" "$before"
+  report "$notes annotations" "$before"
   before=$micros
 done

@@ -28,15 +28,15 @@ measure() {
   micros=$((${EPOCHREALTIME/./} - start))
 }
 
-# Prints the figures of the last run, of so many annotations; the second is the time of a run of a
-# tenth of them, or 0.
+# Prints the figures of the last run, which the first word names; the second is the time of a run of a
+# tenth of it, or 0.
 report() {
   if [ "$status" -ne 0 ]; then
-    echo "$1 annotations: ended after two minutes (status $status)"
+    echo "$1: ended after two minutes (status $status)"
     return
   fi
   awk -v n="$1" -v l="$(wc -l <"$work/input")" -v t="$micros" -v m="$((peak * 1024))" -v b="$(stat -c %s "$work/input")" -v f="$2" 'BEGIN {
-    printf "%d annotations: %.3f s, %d lines a second, peak %.1f MB, %.1f times the input of %.1f MB", n, t / 1e6, l * 1e6 / t, m / 1e6, m / b, b / 1e6
+    printf "%s: %.3f s, %d lines a second, peak %.1f MB, %.1f times the input of %.1f MB", n, t / 1e6, l * 1e6 / t, m / 1e6, m / b, b / 1e6
     if (f > 0) printf ", %.1f times the time of a tenth", t / f
     print ""
   }'

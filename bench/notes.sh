@@ -25,4 +25,4 @@ input() {
 
 input 10000 >"$work/input"
 measure
-report 10000 0
+report "10000 annotations" 0
