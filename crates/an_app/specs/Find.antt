@@ -1,4 +1,4 @@
--- What lines do, one after another: writes change the state, reads print an answer, and the first refusal ends the run.
+-- What lines do, one after another: writes change the state, reads print an answer, and the first refusal of what is not old ends the run.
 use Rattle.std.specs.Prelude.{ℕ, ◌+◌, ℤ, List, [], ◌∷◌, ◌++◌, length, codes, decimal, Bool, false, ◌==◌, nat_lt, if◌then◌else◌, Option, Some, None, Result, Ok, Err}
 use Rattle.std.specs.Str.{is_utf8}
 use Rattle.serde_json.specs.Data.{Data}
@@ -123,7 +123,7 @@ read_turn answer (Some who) = prints (answer who)
 abbrev pub search_line : Site → State → List ℕ → List ℕ → Identity → List ℕ
 search_line site s manifest word who = answer_line (search_of site (view_of s who) manifest word)
 
--- the answer to a read of an annotation
+-- the answer to a read of an annotation; want of memory ends the run, and has no line
 abbrev pub note_line : Result (List ℕ) PageError → List ℕ
 note_line (Ok body) = codes "200 " ++ (body ++ codes "\n")
 note_line (Err page.Gone) = codes "410 {\"error\":\"gone\"}\n"

@@ -38,10 +38,10 @@ struct Played {
 }
 
 /// Reads an input of lines to its end, applies its writes to an empty state, and prints the answer to
-/// each of its reads. The first line that is refused ends the run. The status is 0 where the whole
-/// input was played; 3 where a line was refused, or the input is larger than 268,435,456 bytes; 5
-/// where a read failed; 1 where a write failed; and 6 where memory ran out, after which nothing was
-/// printed.
+/// each of its reads. The first line that is refused and isn't old ends the run. The status is 0 where
+/// the whole input was played; 3 where a line was refused, or the input is larger than 268,435,456
+/// bytes; 5 where a read failed; 1 where a write failed; and 6 where memory ran out, after which
+/// nothing was printed.
 pub fn find<L: Link>(alloc: Global, line: &mut L, settings: &Settings) -> u8
     ensures finds { Finds settings.now
         (Rises (L.read_faults line.old) (L.read_faults line.new))

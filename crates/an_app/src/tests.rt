@@ -2,6 +2,7 @@ use super::*;
 use an_base::{Bytes, read_decimal};
 use an_world::{MemLink, SureLink};
 use std::alloc::Global;
+use std::process::Abort;
 use std::test::Fail;
 
 const BASE: &str = "http://a.example";
@@ -170,14 +171,15 @@ fn moved_annotations_are_gone_for_a_group(rt: HostRuntime) -> Result<(), Fail> {
         "2024-05-01T10:02:00Z mara PUT /annotations/mara/n1?version=2&manifest=m1&group=b {HERON}"
     )?;
     let start = format!(in alloc; "{MARA}{MANIFEST}{readers}{first}{second}")?;
-    for (by, want) in [
-        ("ana", "410 {\"error\":\"gone\"}\n"),
-        ("bo", MOVED),
-        ("mara", MOVED),
-        ("-", "404 {\"error\":\"absent\"}\n"),
+    for (by, name, want) in [
+        ("ana", "n1", "410 {\"error\":\"gone\"}\n"),
+        ("bo", "n1", MOVED),
+        ("mara", "n1", MOVED),
+        ("-", "n1", "404 {\"error\":\"absent\"}\n"),
+        ("mara", "none", "404 {\"error\":\"absent\"}\n"),
     ] {
         let input = format!(in alloc;
-            "{start}2024-05-01T11:00:00Z {by} GET /annotations/mara/n1\n"
+            "{start}2024-05-01T11:00:00Z {by} GET /annotations/mara/{name}\n"
         )?;
         let found = printed(alloc, &["-", "find", BASE, "10"], input.as_str(), &[], &[])?;
         assert_eq!(rt; found.0, 0, "{by}");
@@ -196,12 +198,15 @@ const LINES: &str =
 2024-05-01T10:03:00Z - DELETE /manifests/m1?version=2"#;
 
 /// Lines, each behind the number of the lines above that stand before it, and before the code by
-/// which it is refused, or `done`.
+/// which it is refused, or `done` where it is done, repeated or passed over as old.
 const JUDGED: &str =
     r#"5 | mara PUT /annotations/mara/n1?version=1&manifest=m1&group=public {"body":{"type":"TextualBody","value":"heron"},"target":"http://a.example/c1","type":"Annotation"} | done
 5 | mara PUT /annotations/mara/n1?version=1&manifest=m1&group=a {"body":{"type":"TextualBody","value":"heron"},"target":"http://a.example/c1","type":"Annotation"} | version
 5 | mara PUT /annotations/mara/n1?version=3&manifest=m1 {"body":{"type":"TextualBody","value":"heron"},"target":"http://a.example/c1","type":"Annotation"} | version
 5 | mara PUT /annotations/mara/n1?version=2&manifest=m1 {"body":{"type":"TextualBody","value":"heron"},"target":"http://a.example/c1","type":"Annotation"} | done
+3 | ivo PUT /annotations/ivo/o1?version=2&manifest=m1&group=public {"body":{"type":"TextualBody","value":"heron"},"target":"http://a.example/c1","type":"Annotation"} | version
+3 | ivo PUT /annotations/ivo/o1?version=1&manifest=m1&group=a {"body":{"type":"TextualBody","value":"heron"},"target":"http://a.example/c1","type":"Annotation"} | not_member
+3 | ivo PUT /annotations/ivo/o1?version=1&manifest=m1&group=public {"body":{"type":"TextualBody","value":"heron"},"target":"http://a.example/c1","type":"Annotation"} | done
 3 | ivo PUT /annotations/mara/x?version=1&manifest=m1 {"target":"http://a.example/c1","type":"Annotation"} | not_own
 3 | - PUT /annotations/mara/x?version=1&manifest=m1 {"body":{"type":"TextualBody","value":"heron"},"target":"http://a.example/c1","type":"Annotation"} | not_own
 3 | zoe PUT /annotations/zoe/x?version=1&manifest=m1 {"body":{"type":"TextualBody","value":"heron"},"target":"http://a.example/c1","type":"Annotation"} | not_signed
@@ -220,11 +225,25 @@ const JUDGED: &str =
 6 | - PUT /manifests/m1?version=3&group=public {"items":[{"height":100,"id":"http://a.example/c1","type":"Canvas","width":80}],"label":{"en":["Log"]},"type":"Manifest"} | done
 6 | - PUT /manifests/m1?version=3&group=a {"items":[{"height":100,"id":"http://a.example/c1","type":"Canvas","width":80}],"label":{"en":["Log"]},"type":"Manifest"} | group_fixed"#;
 
+/// A reader, a manifest, an annotation on it, and the annotation's deletion.
+const DELETED: &str =
+    r#"2024-05-01T10:00:00Z - PUT /readers/mara?version=1 {"groups":["a"],"role":"writer","token":"tok-mara","user":"http://a.example/u/mara"}
+2024-05-01T10:00:00Z - PUT /manifests/m1?version=1&group=public {"items":[{"height":100,"id":"http://a.example/c1","type":"Canvas","width":80}],"label":{"en":["Log"]},"type":"Manifest"}
+2024-05-01T10:01:00Z mara PUT /annotations/mara/n1?version=1&manifest=m1&group=public {"body":{"type":"TextualBody","value":"heron"},"target":"http://a.example/c1","type":"Annotation"}
+2024-05-01T10:02:00Z mara DELETE /annotations/mara/n1?version=2"#;
+
+/// The same as `JUDGED`, behind the lines of a deletion.
+const JUDGED_BEHIND: &str = r#"3 | mara DELETE /annotations/mara/n1?version=2 | done
+4 | mara DELETE /annotations/mara/n1?version=2 | done
+4 | mara DELETE /annotations/mara/n1?version=3 | version
+4 | mara PUT /annotations/mara/n1?version=2&manifest=m1&group=public {"body":{"type":"TextualBody","value":"heron"},"target":"http://a.example/c1","type":"Annotation"} | version
+4 | mara PUT /annotations/mara/n1?version=3&manifest=m1&group=public {"body":{"type":"TextualBody","value":"heron"},"target":"http://a.example/c1","type":"Annotation"} | done"#;
+
 /// So many of the lines, and one behind them.
-fn behind(alloc: Global, count: u32, last: &str) -> Result<String, Fail> {
+fn behind(alloc: Global, lines: &str, count: u32, last: &str) -> Result<String, Fail> {
     let mut text = String::new(alloc);
     let mut left = count;
-    for line in LINES.lines() {
+    for line in lines.lines() {
         if left == 0 {
             break;
         }
@@ -237,18 +256,28 @@ fn behind(alloc: Global, count: u32, last: &str) -> Result<String, Fail> {
     Ok(text)
 }
 
-#[test]
-fn writes_are_judged_by_the_machine(rt: HostRuntime) -> Result<(), Fail> {
-    let alloc = rt.alloc();
-    for row in JUDGED.lines() {
+/// Plays each row behind its lines.
+fn judge(rt: &impl Abort, alloc: Global, lines: &str, rows: &str) -> Result<(), Fail> {
+    for row in rows.lines() {
         let (count, rest) = row.split_once(" | ").ok_or("no row")?;
         let (last, code) = rest.split_once(" | ").ok_or("no row")?;
         let count = read_decimal(count, 6).ok_or("no number")?;
-        let input = behind(alloc, count, last)?;
+        let input = behind(alloc, lines, count, last)?;
         let found = printed(alloc, &["-", "find", BASE, "10"], input.as_str(), &[], &[])?;
         let told = format!(in alloc; "line {} refused: {code}\n", count + 1)?;
-        let want = if code == "done" { "" } else { told.as_str() };
-        assert_eq!(rt; found.1.as_slice(), want.as_bytes(), "{row}");
+        let want = if code == "done" {
+            (0, "")
+        } else {
+            (3, told.as_str())
+        };
+        assert_eq!(rt; found.0, want.0, "{row}");
+        assert_eq!(rt; found.1.as_slice(), want.1.as_bytes(), "{row}");
     }
     Ok(())
+}
+
+#[test]
+fn writes_are_judged_by_the_machine(rt: HostRuntime) -> Result<(), Fail> {
+    judge(&rt, rt.alloc(), LINES, JUDGED)?;
+    judge(&rt, rt.alloc(), DELETED, JUDGED_BEHIND)
 }

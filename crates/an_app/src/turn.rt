@@ -7,7 +7,7 @@ ghost use Rattle.an_base.specs.Tree.{tree_of};
 ghost use Rattle.an_machine.specs.Step.{step};
 ghost use Rattle.an_machine.specs.State.{is_distinct, who_of};
 ghost use Rattle.an_app.specs.Line.{by_of, lent_words, words_of};
-ghost use Rattle.an_app.specs.Find.{turn_of, words_turn, by_turn, form_turn, writes, state_after, refusal_code, text_code, read_turn, search_line, manifest_line, annotation_line, not_signed_line, command_turn, is_old, writer, reader};
+ghost use Rattle.an_app.specs.Find.{turn_of, words_turn, by_turn, form_turn, write_turn, writes, state_after, refusal_code, text_code, read_turn, search_line, manifest_line, annotation_line, not_signed_line, command_turn, is_old, writer, reader};
 ghost use Rattle.an_app.specs.Turned.{Takes};
 
 use crate::answer::{answer_annotation, answer_manifest, answer_search};
@@ -15,7 +15,7 @@ use crate::form::{Form, form_of, name_in};
 use crate::line::{LineWords, words_of};
 use an_base::{Code, Moment, Name, Text, Tree, TreeError, read_tree};
 use an_machine::{Book, Command, Decided, Look, Refused};
-use an_policy::Caller;
+use an_policy::{Caller, Group};
 use an_search::Settings;
 use std::alloc::{AllocError, Global};
 use std::str;
@@ -140,76 +140,45 @@ fn form_turn(
     ensures distinct { OnOk result (IsTrue (is_distinct book.new.state)) }
 {
     match form {
-        Form::PutReader { name, version } => match tree_in(alloc, words.tree)? {
-            Ok(tree) => write(
+        Form::PutReader { name, version } => put_reader(alloc, book, words, by, name, version),
+        Form::DropReader { name, version } => {
+            write(
                 alloc,
                 book,
                 words.moment,
                 by,
-                Command::PutReader {
-                    name,
-                    version,
-                    tree,
-                },
-            ),
-            Err(code) => Ok(Some(code)),
-        },
-        Form::DropReader { name, version } => write(
-            alloc,
-            book,
-            words.moment,
-            by,
-            Command::DropReader { name, version },
-        ),
+                Command::DropReader { name, version },
+            )
+        }
         Form::PutManifest {
             name,
             version,
             group,
-        } => match tree_in(alloc, words.tree)? {
-            Ok(tree) => write(
+        } => put_manifest(alloc, book, words, by, name, version, group),
+        Form::DropManifest { name, version } => {
+            write(
                 alloc,
                 book,
                 words.moment,
                 by,
-                Command::PutManifest {
-                    name,
-                    version,
-                    group,
-                    tree,
-                },
-            ),
-            Err(code) => Ok(Some(code)),
-        },
-        Form::DropManifest { name, version } => write(
-            alloc,
-            book,
-            words.moment,
-            by,
-            Command::DropManifest { name, version },
-        ),
+                Command::DropManifest { name, version },
+            )
+        }
         Form::PutNote {
             owner,
             name,
             version,
             manifest,
             group,
-        } => match tree_in(alloc, words.tree)? {
-            Ok(tree) => write(
-                alloc,
-                book,
-                words.moment,
-                by,
-                Command::PutNote {
-                    owner,
-                    name,
-                    version,
-                    manifest,
-                    group,
-                    tree,
-                },
-            ),
-            Err(code) => Ok(Some(code)),
-        },
+        } => put_note(
+            alloc,
+            book,
+            words,
+            by,
+            (owner, name),
+            version,
+            (manifest, group),
+        ),
         Form::DropNote {
             owner,
             name,
@@ -232,6 +201,106 @@ fn form_turn(
         Form::ShownNote { owner, name } => {
             annotation_turn(alloc, book, settings, by, &owner, &name, output)
         }
+    }
+}
+
+fn put_reader(
+    alloc: Global,
+    book: &mut Book,
+    words: &LineWords<'_>,
+    by: Option<Name>,
+    name: Name,
+    version: u32,
+) -> Result<Option<Code>, AllocError>
+    requires distinct { IsTrue (is_distinct book.old.state) }
+    ensures takes { IfOk result (λ stop. (output : List ℕ) → Takes
+        (write_turn book.old.state (lent_words words.now).moment by (λ tree. Command.PutReader name version tree)
+        (tree_of (lent_words words.now).tree)) book.old.state book.new.state output output stop) }
+    ensures distinct { OnOk result (IsTrue (is_distinct book.new.state)) }
+{
+    match tree_in(alloc, words.tree)? {
+        Ok(tree) => write(
+            alloc,
+            book,
+            words.moment,
+            by,
+            Command::PutReader {
+                name,
+                version,
+                tree,
+            },
+        ),
+        Err(code) => Ok(Some(code)),
+    }
+}
+
+fn put_manifest(
+    alloc: Global,
+    book: &mut Book,
+    words: &LineWords<'_>,
+    by: Option<Name>,
+    name: Name,
+    version: u32,
+    group: Group,
+) -> Result<Option<Code>, AllocError>
+    requires distinct { IsTrue (is_distinct book.old.state) }
+    ensures takes { IfOk result (λ stop. (output : List ℕ) → Takes
+        (write_turn book.old.state (lent_words words.now).moment by (λ tree. Command.PutManifest name version group tree)
+        (tree_of (lent_words words.now).tree)) book.old.state book.new.state output output stop) }
+    ensures distinct { OnOk result (IsTrue (is_distinct book.new.state)) }
+{
+    match tree_in(alloc, words.tree)? {
+        Ok(tree) => write(
+            alloc,
+            book,
+            words.moment,
+            by,
+            Command::PutManifest {
+                name,
+                version,
+                group,
+                tree,
+            },
+        ),
+        Err(code) => Ok(Some(code)),
+    }
+}
+
+/// The path is the owner and the name, the place the manifest and the group.
+fn put_note(
+    alloc: Global,
+    book: &mut Book,
+    words: &LineWords<'_>,
+    by: Option<Name>,
+    path: (Name, Name),
+    version: u32,
+    place: (Name, Group),
+) -> Result<Option<Code>, AllocError>
+    requires distinct { IsTrue (is_distinct book.old.state) }
+    ensures takes { IfOk result (λ stop. (output : List ℕ) → Takes
+        (write_turn book.old.state (lent_words words.now).moment by
+        (λ tree. Command.PutNote path.0 path.1 version place.0 place.1 tree)
+        (tree_of (lent_words words.now).tree)) book.old.state book.new.state output output stop) }
+    ensures distinct { OnOk result (IsTrue (is_distinct book.new.state)) }
+{
+    let (owner, name) = path;
+    let (manifest, group) = place;
+    match tree_in(alloc, words.tree)? {
+        Ok(tree) => write(
+            alloc,
+            book,
+            words.moment,
+            by,
+            Command::PutNote {
+                owner,
+                name,
+                version,
+                manifest,
+                group,
+                tree,
+            },
+        ),
+        Err(code) => Ok(Some(code)),
     }
 }
 

@@ -113,7 +113,7 @@ manifest_refusals s who name group tree =
     ∷ when (passes (λ row. not (same_group row.group group)) (manifest_row s name)) GroupFixed
     ∷ []
 
--- a group of one's own that the caller is no member of
+-- a named group that the caller is no member of
 abbrev pub is_outside : Identity → Group → Bool
 is_outside who Public = false
 is_outside who Private = false

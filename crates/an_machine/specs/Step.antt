@@ -12,13 +12,13 @@ use Rattle.an_machine.specs.declared.command.Decided.{Decided}
 use Rattle.an_machine.specs.declared.command.Refused.{Refused}
 use Rattle.an_machine.specs.declared.command.Refused.TheVariants.{NotSigned, Version}
 use Rattle.an_machine.specs.declared.versions.Ruling.{Ruling}
-use Rattle.an_machine.specs.declared.versions.Ruling.TheVariants.{Next, Again, Stale}
+use Rattle.an_machine.specs.declared.versions.Ruling.TheVariants.{Next, Again, Neither}
 
 -- the next write is accepted, one that was done already changes nothing, and any other is refused for its number
 abbrev pub written : State → Identity → ℤ → Command → Ruling → Result Decided Refused
 written s who moment command Next = Ok (accepted s who moment command)
 written s who moment command Again = Ok (repeated command)
-written s who moment command Stale = Err (Version (current (standing s command)))
+written s who moment command Neither = Err (Version (current (standing s command)))
 
 -- the first refusal, or what the rule on versions says
 abbrev pub refused_or : Option Refused → Result Decided Refused → Result Decided Refused

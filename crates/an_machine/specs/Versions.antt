@@ -15,7 +15,7 @@ use Rattle.an_policy.specs.declared.reader.Role.TheVariants as role
 use Rattle.an_policy.specs.Reader.{reader_of}
 use Rattle.an_machine.specs.State.{State, KeptReader, KeptManifest, KeptNote, reader_row, manifest_row, note_row}
 use Rattle.an_machine.specs.declared.versions.Ruling.{Ruling}
-use Rattle.an_machine.specs.declared.versions.Ruling.TheVariants.{Next, Again, Stale}
+use Rattle.an_machine.specs.declared.versions.Ruling.TheVariants.{Next, Again, Neither}
 use Rattle.an_machine.specs.declared.versions.Standing.{Standing}
 use Rattle.an_machine.specs.declared.command.Command.{Command}
 use Rattle.an_machine.specs.declared.command.Command.TheVariants.{PutReader, DropReader, PutManifest, DropManifest, PutNote, DropNote}
@@ -75,13 +75,13 @@ current standing = unwrap_or standing.version 0
 abbrev pub put_ruling : Standing → Bool → ℕ → Ruling
 put_ruling standing holds version =
     if version == current standing + 1 then Next
-    else (if (version == current standing) && holds then Again else Stale)
+    else (if (version == current standing) && holds then Again else Neither)
 
 -- a deletion of what is live, with the number behind the current one, is the next; one with the current number was done already where the row is a tombstone
 abbrev pub drop_ruling : Standing → ℕ → Ruling
 drop_ruling standing version =
     if (version == current standing + 1) && standing.live then Next
-    else (if (version == current standing) && is_some standing.version && not standing.live then Again else Stale)
+    else (if (version == current standing) && is_some standing.version && not standing.live then Again else Neither)
 
 abbrev pub standing : State → Command → Standing
 standing s (PutReader name version tree) = reader_standing (reader_row s name)

@@ -1,10 +1,10 @@
 ghost use Rattle.std.specs.Prelude.{◌≡◌, IfOk, Some, None, true, false};
 ghost use Rattle.an_policy.specs.Audience.{identity};
-ghost use Rattle.an_machine.specs.Accepted.{accepted, repeated, by_whom, moment_of_write, entry_of, is_made, is_put, object_of, version_of};
+ghost use Rattle.an_machine.specs.Accepted.{accepted, repeated, by_whom, moment_of_write, entry_of, is_made, object_of, version_of};
 
 use crate::book::Book;
 use crate::changes::new_activities;
-use crate::command::{Command, Decided, Object, WriteReply};
+use crate::command::{Command, Decided, WriteReply, is_put, object_of};
 use crate::entry::Entry;
 use crate::new_rows::new_rows;
 use crate::versions::standing_of;
@@ -95,127 +95,13 @@ fn is_made(book: &Book, command: &Command) -> bool
     is_put(command) && !standing_of(book, command).live
 }
 
-fn is_put(command: &Command) -> bool
-    ensures { result ≡ is_put command.now }
-{
-    match command {
-        Command::PutReader {
-            name: _,
-            version: _,
-            tree: _,
-        } => true,
-        Command::PutManifest {
-            name: _,
-            version: _,
-            group: _,
-            tree: _,
-        } => true,
-        Command::PutNote {
-            owner: _,
-            name: _,
-            version: _,
-            manifest: _,
-            group: _,
-            tree: _,
-        } => true,
-        Command::DropReader {
-            name: _,
-            version: _,
-        } => false,
-        Command::DropManifest {
-            name: _,
-            version: _,
-        } => false,
-        Command::DropNote {
-            owner: _,
-            name: _,
-            version: _,
-        } => false,
-    }
-}
-
 fn reply_to(command: &Command, made: bool, repeat: bool) -> Result<WriteReply, AllocError>
     ensures { IfOk result (λ reply. reply ≡ record { object = object_of command.now; version = version_of command.now; made = made; repeat = repeat }) }
 {
     Ok(WriteReply {
         object: object_of(command)?,
-        version: version_of(command),
+        version: command.version(),
         made,
         repeat,
     })
-}
-
-fn object_of(command: &Command) -> Result<Object, AllocError>
-    ensures { IfOk result (λ object. object ≡ object_of command.now) }
-{
-    match command {
-        Command::PutReader {
-            name,
-            version: _,
-            tree: _,
-        } => Ok(Object::Reader(name.copy()?)),
-        Command::DropReader { name, version: _ } => Ok(Object::Reader(name.copy()?)),
-        Command::PutManifest {
-            name,
-            version: _,
-            group: _,
-            tree: _,
-        } => Ok(Object::Manifest(name.copy()?)),
-        Command::DropManifest { name, version: _ } => Ok(Object::Manifest(name.copy()?)),
-        Command::PutNote {
-            owner,
-            name,
-            version: _,
-            manifest: _,
-            group: _,
-            tree: _,
-        } => note_object(owner, name),
-        Command::DropNote {
-            owner,
-            name,
-            version: _,
-        } => note_object(owner, name),
-    }
-}
-
-fn note_object(owner: &Name, name: &Name) -> Result<Object, AllocError>
-    ensures { IfOk result (λ object. object ≡ Object.Note owner.now name.now) }
-{
-    Ok(Object::Note {
-        owner: owner.copy()?,
-        name: name.copy()?,
-    })
-}
-
-pub(crate) fn version_of(command: &Command) -> u32
-    ensures { result ≡ version_of command.now }
-{
-    match command {
-        Command::PutReader {
-            name: _,
-            version,
-            tree: _,
-        } => *version,
-        Command::DropReader { name: _, version } => *version,
-        Command::PutManifest {
-            name: _,
-            version,
-            group: _,
-            tree: _,
-        } => *version,
-        Command::DropManifest { name: _, version } => *version,
-        Command::PutNote {
-            owner: _,
-            name: _,
-            version,
-            manifest: _,
-            group: _,
-            tree: _,
-        } => *version,
-        Command::DropNote {
-            owner: _,
-            name: _,
-            version,
-        } => *version,
-    }
 }

@@ -11,6 +11,7 @@ use crate::activity::Activity;
 use crate::book::Book;
 use crate::command::Command;
 use crate::look::is_on;
+use crate::new_rows::one;
 use crate::row::{ManifestRow, NoteRow};
 use an_base::{List, Moment, Name, TryCopy};
 use an_keyed::Keyed;
@@ -65,14 +66,6 @@ pub(crate) fn new_activities(
             version: _,
         } => one(alloc, note_activity(book, who, at, owner, name, None)?),
     }
-}
-
-fn one(alloc: Global, activity: Activity) -> Result<List<Activity>, AllocError>
-    ensures { IfOk result (λ list. list ≡ activity ∷ []) }
-{
-    let mut activities = Vec::with_capacity(alloc, 1)?;
-    activities.push(activity)?;
-    Ok(List::from_vec(activities))
 }
 
 fn manifest_activity(

@@ -1,6 +1,6 @@
-ghost use Rattle.std.specs.Prelude.{◌≡◌};
+ghost use Rattle.std.specs.Prelude.{◌≡◌, IfOk};
+ghost use Rattle.an_machine.specs.Accepted.{is_put, object_of, version_of};
 
-use crate::accept::version_of;
 use crate::entry::Entry;
 use an_base::{Code, Name, Tree, TryCopy};
 use an_policy::Group;
@@ -45,13 +45,38 @@ pub enum Command {
 }
 
 impl Command {
-    ghost use Rattle.an_machine.specs.Accepted.{version_of};
-
     /// The number of the write.
     pub fn version(&self) -> u32
         ensures version { result ≡ version_of self.now }
     {
-        version_of(self)
+        match self {
+            Command::PutReader {
+                name: _,
+                version,
+                tree: _,
+            } => *version,
+            Command::DropReader { name: _, version } => *version,
+            Command::PutManifest {
+                name: _,
+                version,
+                group: _,
+                tree: _,
+            } => *version,
+            Command::DropManifest { name: _, version } => *version,
+            Command::PutNote {
+                owner: _,
+                name: _,
+                version,
+                manifest: _,
+                group: _,
+                tree: _,
+            } => *version,
+            Command::DropNote {
+                owner: _,
+                name: _,
+                version,
+            } => *version,
+        }
     }
 }
 
@@ -122,6 +147,88 @@ pub enum Object {
     Note { owner: Name, name: Name },
 }
 
+/// Whether it makes or changes its object; else it deletes it.
+pub(crate) fn is_put(command: &Command) -> bool
+    ensures { result ≡ is_put command.now }
+{
+    match command {
+        Command::PutReader {
+            name: _,
+            version: _,
+            tree: _,
+        } => true,
+        Command::PutManifest {
+            name: _,
+            version: _,
+            group: _,
+            tree: _,
+        } => true,
+        Command::PutNote {
+            owner: _,
+            name: _,
+            version: _,
+            manifest: _,
+            group: _,
+            tree: _,
+        } => true,
+        Command::DropReader {
+            name: _,
+            version: _,
+        } => false,
+        Command::DropManifest {
+            name: _,
+            version: _,
+        } => false,
+        Command::DropNote {
+            owner: _,
+            name: _,
+            version: _,
+        } => false,
+    }
+}
+
+pub(crate) fn object_of(command: &Command) -> Result<Object, AllocError>
+    ensures { IfOk result (λ object. object ≡ object_of command.now) }
+{
+    match command {
+        Command::PutReader {
+            name,
+            version: _,
+            tree: _,
+        } => Ok(Object::Reader(name.copy()?)),
+        Command::DropReader { name, version: _ } => Ok(Object::Reader(name.copy()?)),
+        Command::PutManifest {
+            name,
+            version: _,
+            group: _,
+            tree: _,
+        } => Ok(Object::Manifest(name.copy()?)),
+        Command::DropManifest { name, version: _ } => Ok(Object::Manifest(name.copy()?)),
+        Command::PutNote {
+            owner,
+            name,
+            version: _,
+            manifest: _,
+            group: _,
+            tree: _,
+        } => note_object(owner, name),
+        Command::DropNote {
+            owner,
+            name,
+            version: _,
+        } => note_object(owner, name),
+    }
+}
+
+fn note_object(owner: &Name, name: &Name) -> Result<Object, AllocError>
+    ensures { IfOk result (λ object. object ≡ Object.Note owner.now name.now) }
+{
+    Ok(Object::Note {
+        owner: owner.copy()?,
+        name: name.copy()?,
+    })
+}
+
 /// What a write is answered with.
 #[derive(Debug, Drop, PartialEq, Eq)]
 pub struct WriteReply {
@@ -133,7 +240,7 @@ pub struct WriteReply {
     pub repeat: bool,
 }
 
-/// A write that is accepted.
+/// A write that isn't refused.
 #[derive(Debug, Drop)]
 pub struct Decided {
     /// What it changes; there is nothing where it had been done already.
@@ -141,7 +248,7 @@ pub struct Decided {
     pub reply: WriteReply,
 }
 
-/// Why a write is refused.
+/// Why a write is refused, in the order in which the reasons are tested.
 #[derive(Clone, Copy, Debug, PartialEq, Eq)]
 pub enum Refused {
     /// The caller is anonymous, or no live reader has its token or name.
@@ -160,7 +267,8 @@ pub enum Refused {
     GroupFixed,
     /// Another live reader has the token.
     TokenTaken,
-    /// The number is neither the next one nor that of the same write.
+    /// No write of this object is due with this number: the row's is `current`, or 0 without a row.
     Version { current: u32 },
+    /// Memory ran out. It may stand in place of any answer.
     Memory,
 }

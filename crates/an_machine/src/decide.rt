@@ -86,7 +86,7 @@ fn decide_by_number(
         Ok(ruling) => match ruling {
             Ruling::Next => or_memory(accept(alloc, book, moment, who, command)),
             Ruling::Again => or_memory(repeat(command)),
-            Ruling::Stale => Err(Refused::Version {
+            Ruling::Neither => Err(Refused::Version {
                 current: current(standing_of(book, command)),
             }),
         },

@@ -76,7 +76,8 @@ pub(crate) fn new_rows(
     }
 }
 
-fn one<T: Drop>(alloc: Global, item: T) -> Result<List<T>, AllocError>
+/// The list of this item alone.
+pub(crate) fn one<T: Drop>(alloc: Global, item: T) -> Result<List<T>, AllocError>
     ensures { IfOk result (λ list. list ≡ item ∷ []) }
 {
     let mut items = Vec::with_capacity(alloc, 1)?;
@@ -286,11 +287,20 @@ fn put_note(
           put.now.manifest.now put.now.group.now) (result_ok (note_of put.now.tree.now));
     }) }
 {
-    let live = new_live(alloc, put.manifest, put.group, put.tree)?;
-    new_note(alloc, book, who, at, put.owner, put.name, put.version, live)
+    let parts = parts_of_put(alloc, put)?;
+    new_note(
+        alloc,
+        book,
+        who,
+        at,
+        put.owner,
+        put.name,
+        put.version,
+        parts,
+    )
 }
 
-/// The row of an annotation that is put: what it is to have while it is live goes into it.
+/// The row of an annotation that is put with these parts.
 fn new_note(
     alloc: Global,
     book: &Book,
@@ -299,20 +309,20 @@ fn new_note(
     owner: &Name,
     name: &Name,
     version: u32,
-    live: (Name, Group, Option<Note>),
+    parts: (Name, Group, Option<Note>),
 ) -> Result<NoteRow, AllocError>
     ensures { IfOk result (λ row. row ≡ record {
       owner = owner.now;
       name = name.now;
       version = version;
       live = option_map (put_note (creator_of (identity who.now) (live_note_of book.now.state owner.now name.now)) at
-          (option_map (λ before. before.created) (live_note_of book.now.state owner.now name.now)) live.0 live.1) live.2;
+          (option_map (λ before. before.created) (live_note_of book.now.state owner.now name.now)) parts.0 parts.1) parts.2;
     }) }
 {
     let row = book.note_row(owner, name);
     let creator = creator_of(alloc, who, row)?;
     let before = created_of(row);
-    note_row(at, before, owner, name, version, creator, live)
+    note_row(at, before, owner, name, version, creator, parts)
 }
 
 /// A live annotation keeps its creator.
@@ -354,16 +364,12 @@ fn created_of(row: Option<&NoteRow>) -> Option<Moment>
 }
 
 /// The manifest, the group and the annotation that a put says.
-fn new_live(
-    alloc: Global,
-    manifest: &Name,
-    group: &Group,
-    tree: &Tree,
-) -> Result<(Name, Group, Option<Note>), AllocError>
-    ensures { IfOk result (λ parts. parts ≡ (manifest.now, group.now, result_ok (note_of tree.now))) }
+fn parts_of_put(alloc: Global, put: &NotePut<'_>) -> Result<(Name, Group, Option<Note>), AllocError>
+    ensures { IfOk result (λ parts. parts
+        ≡ (put.now.manifest.now, put.now.group.now, result_ok (note_of put.now.tree.now))) }
 {
-    let note = note_in(alloc, tree)?;
-    Ok((manifest.copy()?, group.copy()?, note))
+    let note = note_in(alloc, put.tree)?;
+    Ok((put.manifest.copy()?, put.group.copy()?, note))
 }
 
 fn note_row(
@@ -373,19 +379,19 @@ fn note_row(
     name: &Name,
     version: u32,
     creator: Text,
-    live: (Name, Group, Option<Note>),
+    parts: (Name, Group, Option<Note>),
 ) -> Result<NoteRow, AllocError>
     ensures { IfOk result (λ row. row ≡ record {
       owner = owner.now;
       name = name.now;
       version = version;
-      live = option_map (put_note creator at before live.0 live.1) live.2;
+      live = option_map (put_note creator at before parts.0 parts.1) parts.2;
     }) }
 {
     let owner = owner.copy()?;
     let name = name.copy()?;
     let (created, modified) = moments(at, before);
-    let (manifest, group, note) = live;
+    let (manifest, group, note) = parts;
     match note {
         Some(note) => Ok(NoteRow {
             owner,

@@ -159,6 +159,7 @@ impl ManifestRow {
     pub(crate) fn created_at(&self) -> Option<Moment>
         ensures created { result ≡ option_map (λ live. live.created) self.now.live }
     {
+        // A live row has both; what is live is read off both.
         let _tree = self.tree.as_ref()?;
         self.created
     }

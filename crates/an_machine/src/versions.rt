@@ -29,8 +29,8 @@ pub enum Ruling {
     Next,
     /// It was done already.
     Again,
-    /// It is neither.
-    Stale,
+    /// It is neither: its number or its content is another.
+    Neither,
 }
 
 /// The number that is current: 0 without a row.
@@ -183,7 +183,7 @@ fn drop_ruling(standing: Standing, version: u32) -> Ruling
     } else if is_current(standing, version) && standing.version.is_some() && !standing.live {
         Ruling::Again
     } else {
-        Ruling::Stale
+        Ruling::Neither
     }
 }
 
@@ -204,7 +204,7 @@ fn reader_ruling(
     if is_current(standing, version) && holds_reader(alloc, row, name, version, tree)? {
         Ok(Ruling::Again)
     } else {
-        Ok(Ruling::Stale)
+        Ok(Ruling::Neither)
     }
 }
 
@@ -224,7 +224,7 @@ fn manifest_ruling(
     if is_current(standing, version) && holds_manifest(alloc, row, tree)? {
         Ok(Ruling::Again)
     } else {
-        Ok(Ruling::Stale)
+        Ok(Ruling::Neither)
     }
 }
 
@@ -246,7 +246,7 @@ fn note_ruling(
     if is_current(standing, version) && holds_note(alloc, row, manifest, group, tree)? {
         Ok(Ruling::Again)
     } else {
-        Ok(Ruling::Stale)
+        Ok(Ruling::Neither)
     }
 }
 

@@ -3,7 +3,8 @@
 pub enum PageError {
     /// There is no such thing that the caller may read.
     Absent,
-    /// The annotation was there for the caller, and isn't any more.
+    /// The last change of the annotation that the caller sees is its deletion.
     Gone,
+    /// Memory ran out. It may stand in place of any answer.
     Memory,
 }

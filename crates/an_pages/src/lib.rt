@@ -1,4 +1,4 @@
-//! The answers to reads of one thing, and of the lists that hold it.
+//! The answers to reads of one thing: a manifest or an annotation.
 #![tactic(auto)]
 
 pub use error::PageError;

@@ -19,8 +19,9 @@ use an_search::{Settings, listed_note};
 use serde_json::Value;
 use std::alloc::{AllocError, Global};
 
-/// An annotation as the caller is shown it on its own route (Web Annotation Protocol, section 3.1).
-/// Where the caller saw it deleted, or taken out of its sight, it is gone.
+/// An annotation as the caller is shown it on its own route (Web Annotation Protocol, section 3).
+/// One that the caller may not read is gone where the last change of it that the caller sees, by the
+/// groups it has now, is its deletion or its move out of sight; otherwise it is absent, hidden or not.
 #[tactic(auto, unfolding(crate::specs::Bodies::annotation_of_view))]
 pub fn annotation<T: Look>(
     alloc: Global,
