@@ -1,5 +1,5 @@
 -- Each accepted write leads from a coherent state to a coherent one.
-use Rattle.std.proofs.Common.{◌≡◌, ℕ, ℤ, false, not, List, [], ◌++◌, Option, Some, None, option_map, refl, sym, ap, subst, ◌∙◌}
+use Rattle.std.proofs.Common.{◌≡◌, ℕ, ℤ, false, not, List, [], ◌∷◌, ◌++◌, Option, Some, None, option_map, refl, sym, ap, subst, ◌∙◌}
 use Rattle.std.specs.Prelude.{IsTrue}
 use Rattle.std.specs.List.{list_all}
 use Rattle.std.specs.Result.{result_ok}
@@ -24,7 +24,7 @@ use Rattle.an_machine.specs.declared.activity.Activity.{Activity}
 use Rattle.an_machine.specs.declared.entry.Row.TheVariants as kept
 use Rattle.an_machine.specs.declared.versions.Ruling.TheVariants.{Next}
 use Rattle.an_laws.specs.Coherent.{Chain, Coherent, activities_of, audience_of, has_any, has_row}
-use Rattle.an_laws.specs.Legal.{Write, Accepts}
+use Rattle.an_laws.specs.Legal.{Write, Accepts, LegalFrom, Legal, state_from, state_of}
 use Rattle.an_laws.specs.Sound.{is_sound, stands_on_live}
 use Rattle.an_laws.proofs.BurialLemmas.{left_state}
 use Rattle.an_laws.proofs.DropLemmas.{as_dropped, with_rows-tombstone}
@@ -32,6 +32,7 @@ use Rattle.an_laws.proofs.LeadLemmas.{key_at, Leads, leads-none, leads-both, lea
 use Rattle.an_laws.proofs.LeftLemmas.{leads-left}
 use Rattle.an_laws.proofs.RefusalLemmas.{manifest-put, manifest-fixed, note-put, same_group-equal}
 use Rattle.an_laws.proofs.RiseLemmas.{drop-found}
+use Rattle.an_laws.proofs.SoundLemmas.{empty-sound, sound-after}
 use Rattle.an_laws.proofs.SoundParts.{sound-parts}
 use Rattle.an_laws.proofs.StayLemmas.{group_in, stay-kept, stay-new}
 use Rattle.an_laws.proofs.StepLemmas.{accepted-is}
@@ -137,4 +138,19 @@ pub rows-after : (s : State) (write : Write) (key : Key) → Accepts s write →
     → has_row (after s write.entry) key ≡ has_any (activities_of key (after s write.entry).activities)
 rows-after s write key accepts sound coherent = (coherent-after s write accepts sound coherent key).1
 
-pub ruleset coherence = (empty-coherent, chain-after, rows-after)
+coherent-along : (s : State) (writes : List Write) → LegalFrom s writes → IsTrue (is_sound s) → Coherent s → Coherent (state_from s writes)
+coherent-along s [] legal sound coherent = coherent
+coherent-along s (write ∷ writes) legal sound coherent =
+    coherent-along (after s write.entry) writes legal.1 (sound-after s write legal.0 sound) (coherent-after s write legal.0 sound coherent)
+
+-- so each legal history leads to a coherent state
+pub histories-coherent : (writes : List Write) → Legal writes → Coherent (state_of writes)
+histories-coherent writes legal = coherent-along empty writes legal empty-sound empty-coherent
+
+pub chain-along : (writes : List Write) (key : Key) → Legal writes → Chain None (activities_of key (state_of writes).activities) (audience_of (state_of writes) key)
+chain-along writes key legal = (histories-coherent writes legal key).0
+
+pub rows-along : (writes : List Write) (key : Key) → Legal writes → has_row (state_of writes) key ≡ has_any (activities_of key (state_of writes).activities)
+rows-along writes key legal = (histories-coherent writes legal key).1
+
+pub ruleset coherence = (empty-coherent, chain-after, rows-after, chain-along, rows-along)

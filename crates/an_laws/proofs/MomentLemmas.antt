@@ -7,7 +7,7 @@ use Rattle.std.proofs.lemmas.Int.{ints}
 use Rattle.std.proofs.lemmas.List.Folds.{list_all-append}
 use Rattle.an_machine.specs.Accepted.{later, last_moment}
 use Rattle.an_machine.specs.declared.activity.Activity.{Activity}
-use Rattle.an_laws.specs.Sound.{moments_rise}
+use Rattle.an_laws.specs.Sound.{moments_never_fall}
 use Rattle.an_laws.proofs.FoundLemmas.{all-weaker}
 
 -- ---- moments
@@ -33,8 +33,8 @@ abbrev pub is_until : ℤ → Activity → Bool
 is_until at activity = not (int_lt at activity.at)
 
 -- activities from a moment on stand behind those until it
-rise-append : (at : ℤ) (before more : List Activity) → moments_rise before ≡ true → list_all (is_until at) before ≡ true
-    → list_all (is_from at) more ≡ true → moments_rise more ≡ true → moments_rise (before ++ more) ≡ true
+rise-append : (at : ℤ) (before more : List Activity) → moments_never_fall before ≡ true → list_all (is_until at) before ≡ true
+    → list_all (is_from at) more ≡ true → moments_never_fall more ≡ true → moments_never_fall (before ++ more) ≡ true
 rise-append at [] more rise until from rising = rising
 rise-append at (activity ∷ before) more rise until from rising =
     let parts = and_parts _ _ rise in
@@ -44,7 +44,7 @@ rise-append at (activity ∷ before) more rise until from rising =
     (rise-append at before more parts.1 ends.1 from rising)
 
 -- activities of one moment rise
-rise-same : (at : ℤ) (activities : List Activity) → list_all (is_from at) activities ≡ true → list_all (is_until at) activities ≡ true → moments_rise activities ≡ true
+rise-same : (at : ℤ) (activities : List Activity) → list_all (is_from at) activities ≡ true → list_all (is_until at) activities ≡ true → moments_never_fall activities ≡ true
 rise-same at [] from until = refl
 rise-same at (activity ∷ activities) from until =
     let starts = and_parts _ _ from in
@@ -70,7 +70,7 @@ last_moment-is moment (first ∷ activities) =
     ap (λ place. unwrap_or (option_map (λ activity. activity.at) (slice_get (first ∷ activities) place)) moment) one ∙ last-found moment first activities
 
 -- each activity is until the last moment
-until-last : (first : Activity) (activities : List Activity) → moments_rise (first ∷ activities) ≡ true → list_all (is_until (last_at first.at activities)) (first ∷ activities) ≡ true
+until-last : (first : Activity) (activities : List Activity) → moments_never_fall (first ∷ activities) ≡ true → list_all (is_until (last_at first.at activities)) (first ∷ activities) ≡ true
 until-last first [] rise = and_from _ _ (not_below-self first.at) refl
 until-last first (second ∷ activities) rise =
     let parts = and_parts _ _ rise in
@@ -79,7 +79,7 @@ until-last first (second ∷ activities) rise =
     and_from _ _ (not_below-trans first.at second.at (last_at second.at activities) next (and_parts _ _ rest).0) rest
 
 -- each activity is until the moment of the next write
-until-later : (moment : ℤ) (activities : List Activity) → moments_rise activities ≡ true → list_all (is_until (later moment (last_moment moment activities))) activities ≡ true
+until-later : (moment : ℤ) (activities : List Activity) → moments_never_fall activities ≡ true → list_all (is_until (later moment (last_moment moment activities))) activities ≡ true
 until-later moment [] rise = refl
 until-later moment (first ∷ activities) rise =
     let last = last_at first.at activities in
@@ -87,9 +87,9 @@ until-later moment (first ∷ activities) rise =
     ∙ all-weaker (is_until last) (is_until (later moment last)) (λ other h. not_below-trans other.at last (later moment last) h (later-not_below moment last)) (first ∷ activities) (until-last first activities rise)
 
 -- new activities, all of the moment of their write, stand behind those before
-pub moments-rise : (moment : ℤ) (before more : List Activity) → moments_rise before ≡ true
+pub moments-rise : (moment : ℤ) (before more : List Activity) → moments_never_fall before ≡ true
     → list_all (is_from (later moment (last_moment moment before))) more ≡ true → list_all (is_until (later moment (last_moment moment before))) more ≡ true
-    → moments_rise (before ++ more) ≡ true
+    → moments_never_fall (before ++ more) ≡ true
 moments-rise moment before more rise from until =
     let at = later moment (last_moment moment before) in
     rise-append at before more rise (until-later moment before rise) from (rise-same at more from until)

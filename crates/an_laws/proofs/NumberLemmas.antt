@@ -13,7 +13,7 @@ use Rattle.an_machine.specs.declared.command.Command.{Command}
 use Rattle.an_machine.specs.declared.command.Object.{Object}
 use Rattle.an_machine.specs.declared.command.Refused.{Refused}
 use Rattle.an_machine.specs.declared.versions.Ruling.{Ruling}
-use Rattle.an_machine.specs.declared.versions.Ruling.TheVariants.{Next, Again, Stale}
+use Rattle.an_machine.specs.declared.versions.Ruling.TheVariants.{Next, Again, Neither}
 use Rattle.an_machine.proofs.DistinctLemmas.{distinct-after, distinct-empty}
 use Rattle.an_laws.specs.Legal.{Write, Accepts, LegalFrom, Legal, state_from, state_of}
 use Rattle.an_laws.specs.Numbers.{number_of, AddsNothing}
@@ -84,7 +84,7 @@ module _ (s : State) (moment : ℤ) (caller : Caller) (command : Command) (done 
   nothing_by_ruling : (who : Identity) (r : Ruling) → ruling s command ≡ r → AddsNothing (written s who moment command r)
   nothing_by_ruling who Next is = let next = next-number s command is in absurd (omega arith)
   nothing_by_ruling who Again is = refl
-  nothing_by_ruling who Stale is = tt
+  nothing_by_ruling who Neither is = tt
 
   nothing_by_refusal : (who : Identity) (refusal : Option Refused) → AddsNothing (refused_or refusal (written s who moment command (ruling s command)))
   nothing_by_refusal who None = nothing_by_ruling who (ruling s command) refl

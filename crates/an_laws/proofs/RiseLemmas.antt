@@ -17,7 +17,7 @@ use Rattle.an_machine.specs.declared.command.Command.TheVariants.{PutReader, Dro
 use Rattle.an_machine.specs.declared.command.Object.{Object}
 use Rattle.an_machine.specs.declared.command.Object.TheVariants.{Reader, Manifest, Note}
 use Rattle.an_machine.specs.declared.entry.Row.TheVariants as kept
-use Rattle.an_machine.specs.declared.versions.Ruling.TheVariants.{Next, Again, Stale}
+use Rattle.an_machine.specs.declared.versions.Ruling.TheVariants.{Next, Again, Neither}
 use Rattle.an_machine.specs.declared.versions.Standing.{Standing}
 use Rattle.an_machine.proofs.DistinctLemmas.{same_key-self}
 use Rattle.an_machine.proofs.ViewLemmas.{same_key-equal}
@@ -37,7 +37,7 @@ put-next s holds version next = elim (cases_Bool (version == current s + 1)) [
   | inl is ↦ eqb-true _ _ is
   | inr isnt ↦ elim (cases_Bool ((version == current s) && holds)) [
     | inl again ↦ let other : Again ≡ Next = sym (rw (isnt, again) refl) ∙ next in absurd (cc)
-    | inr stale ↦ let other : Stale ≡ Next = sym (rw (isnt, stale) refl) ∙ next in absurd (cc)
+    | inr stale ↦ let other : Neither ≡ Next = sym (rw (isnt, stale) refl) ∙ next in absurd (cc)
   ]
 ]
 
@@ -47,7 +47,7 @@ drop-next s version next = elim (cases_Bool ((version == current s + 1) && s.liv
   | inl is ↦ let both = and_parts (version == current s + 1) s.live is in (eqb-true _ _ both.0, both.1)
   | inr isnt ↦ elim (cases_Bool ((version == current s) && is_some s.version && not s.live)) [
     | inl again ↦ let other : Again ≡ Next = sym (cond-false _ _ _ isnt ∙ cond-true _ _ _ again) ∙ next in absurd (cc)
-    | inr stale ↦ let other : Stale ≡ Next = sym (cond-false _ _ _ isnt ∙ cond-false _ _ _ stale) ∙ next in absurd (cc)
+    | inr stale ↦ let other : Neither ≡ Next = sym (cond-false _ _ _ isnt ∙ cond-false _ _ _ stale) ∙ next in absurd (cc)
   ]
 ]
 

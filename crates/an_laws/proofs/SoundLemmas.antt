@@ -17,8 +17,8 @@ use Rattle.an_machine.specs.declared.activity.Activity.{Activity}
 use Rattle.an_machine.specs.declared.command.Command.{Command}
 use Rattle.an_machine.specs.declared.command.Command.TheVariants.{PutReader, DropReader, PutManifest, DropManifest, PutNote, DropNote}
 use Rattle.an_machine.proofs.DistinctLemmas.{distinct-put_row, distinct-after}
-use Rattle.an_laws.specs.Legal.{Write, Accepts}
-use Rattle.an_laws.specs.Sound.{is_sound, agrees, tokens_are_distinct, is_live_manifest, stands_on_live, moments_rise}
+use Rattle.an_laws.specs.Legal.{Write, Accepts, LegalFrom, Legal, state_from, state_of}
+use Rattle.an_laws.specs.Sound.{is_sound, agrees, tokens_are_distinct, is_live_manifest, stands_on_live, moments_never_fall}
 use Rattle.an_laws.proofs.DropLemmas.{dropped, after-dropped}
 use Rattle.an_laws.proofs.FoundLemmas.{all-put_row}
 use Rattle.an_laws.proofs.MomentLemmas.{not_below-self, moments-rise}
@@ -115,11 +115,11 @@ module _ (s : State) (who : Identity) (moment : ℤ) where
   activities-then (PutNote owner name version manifest group tree) = refl
   activities-then (DropNote owner name version) = refl
 
-  rise-stay : (command : Command) → moments_rise s.activities ≡ true → moments_rise (then command).activities ≡ true
+  rise-stay : (command : Command) → moments_never_fall s.activities ≡ true → moments_never_fall (then command).activities ≡ true
   rise-stay command rise =
       let at = moment_of_write s moment in
       let self = not_below-self at in
-      ap moments_rise (activities-then command)
+      ap moments_never_fall (activities-then command)
       ∙ moments-rise moment s.activities (new_activities s who at command) rise (all-new (λ its. not (int_lt its at)) at self command) (all-new (λ its. not (int_lt at its)) at self command)
 
   -- ---- all
@@ -145,4 +145,12 @@ sound-after s write accepts sound =
     let accepted = accepted-is s write accepts in
     ap (λ entry. is_sound (after s entry)) accepted.same ∙ sound-then s accepted.who write.moment write.command accepted.unrefused (sound-parts s sound)
 
-pub ruleset soundness = (empty-sound, sound-after)
+sound-along : (s : State) (writes : List Write) → LegalFrom s writes → IsTrue (is_sound s) → IsTrue (is_sound (state_from s writes))
+sound-along s [] legal sound = sound
+sound-along s (write ∷ writes) legal sound = sound-along (after s write.entry) writes legal.1 (sound-after s write legal.0 sound)
+
+-- so each legal history leads to one
+pub histories-sound : (writes : List Write) → Legal writes → IsTrue (is_sound (state_of writes))
+histories-sound writes legal = sound-along empty writes legal empty-sound
+
+pub ruleset soundness = (empty-sound, sound-after, histories-sound)

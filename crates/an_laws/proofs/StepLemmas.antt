@@ -13,7 +13,7 @@ use Rattle.an_machine.specs.declared.command.Decided.{Decided}
 use Rattle.an_machine.specs.declared.command.Refused.{Refused}
 use Rattle.an_machine.specs.declared.entry.Entry.{Entry}
 use Rattle.an_machine.specs.declared.versions.Ruling.{Ruling}
-use Rattle.an_machine.specs.declared.versions.Ruling.TheVariants.{Next, Again, Stale}
+use Rattle.an_machine.specs.declared.versions.Ruling.TheVariants.{Next, Again, Neither}
 use Rattle.an_laws.specs.Legal.{Write, Accepts}
 
 -- who signs an accepted write is known, nothing refuses it, it is the next one, and its entry is what the definition says
@@ -36,7 +36,7 @@ module _ (s : State) (moment : ℤ) (caller : Caller) (command : Command) (entry
   by_ruling who signs unrefused Again is done =
       let none : Some entry ≡ None = sym has ∙ ap (λ d. d.entry) (ok-equal decided (repeated command) (Ok decided) refl (sym done)) in
       absurd (cc)
-  by_ruling who signs unrefused Stale is done = absurd (cc)
+  by_ruling who signs unrefused Neither is done = absurd (cc)
 
   by_refusal : (who : Identity) → signer_of s caller ≡ Some who → (refusal : Option Refused) → first_of (refusals s who command) ≡ refusal
       → refused_or refusal (written s who moment command (ruling s command)) ≡ Ok decided → IsAccepted s moment caller command entry

@@ -20,6 +20,9 @@ use Rattle.an_machine.specs.declared.command.Object.TheVariants as object
 use Rattle.an_machine.proofs.ViewLemmas.{manifest_in-distinct, note_in-distinct}
 use Rattle.an_laws.specs.Coherent.{key_of, activities_of, audience_of, Chain, Coherent, is_in_view, key_of_object, is_change_of, is_there, is_told}
 use Rattle.an_laws.specs.Sound.{is_sound}
+use Rattle.an_laws.specs.Legal.{Write, Legal, state_of}
+use Rattle.an_laws.proofs.CoherentLemmas.{histories-coherent}
+use Rattle.an_laws.proofs.SoundLemmas.{histories-sound}
 use Rattle.an_laws.proofs.SoundParts.{sound-parts}
 
 -- ---- what is in the view
@@ -127,10 +130,16 @@ module _ (who : Identity) (key : Key) where
 
 -- ---- the law
 
-pub view-told : (s : State) (who : Identity) (key : Key) → IsTrue (is_sound s) → Coherent s
+pub view-told : (s : State) (who : Identity) (key : Key) → IsTrue (is_distinct s) → Coherent s
     → is_in_view (view_of s who) key ≡ is_told (view_of s who).seen key
-view-told s who key sound coherent =
-    in_view s who key.owner key.name (sound-parts s sound).distinct
+view-told s who key distinct coherent =
+    in_view s who key.owner key.name distinct
     ∙ sym (tells-last who key s.activities None None (audience_of s key) refl (coherent key).0)
 
-pub ruleset told = (view-told)
+-- and so it is behind each legal history
+pub histories-told : (writes : List Write) (who : Identity) (key : Key) → Legal writes
+    → is_in_view (view_of (state_of writes) who) key ≡ is_told (view_of (state_of writes) who).seen key
+histories-told writes who key legal =
+    view-told (state_of writes) who key (sound-parts (state_of writes) (histories-sound writes legal)).distinct (histories-coherent writes legal)
+
+pub ruleset told = (view-told, histories-told)

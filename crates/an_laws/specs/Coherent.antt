@@ -62,7 +62,7 @@ key_of_object (object.Reader name) = None
 key_of_object (object.Manifest name) = Some (record { owner = None; name = name })
 key_of_object (object.Note owner name) = Some (record { owner = Some owner; name = name })
 
--- a change that the caller saw was of this object
+-- a change that the caller sees is of this object
 abbrev pub is_change_of : Key → Seen → Bool
 is_change_of key seen = passes (λ its. same_key its key) (key_of_object seen.object)
 
@@ -72,6 +72,6 @@ is_there Create = true
 is_there Update = true
 is_there Delete = false
 
--- the last change of the object that the caller saw made it or changed it
+-- the last change of the object that the caller sees makes it or changes it
 abbrev pub is_told : List Seen → Key → Bool
 is_told seen key = passes (λ change. is_there change.kind) (last_or None (filter (is_change_of key) seen))

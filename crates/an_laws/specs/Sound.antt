@@ -20,9 +20,9 @@ abbrev pub stands_on_live : State → KeptNote → Bool
 stands_on_live s row = elim row.live [ None ↦ true | Some live ↦ is_live_manifest s live.manifest ]
 
 -- the moments never fall
-abbrev pub moments_rise : List Activity → Bool
-moments_rise [] = true
-moments_rise (activity ∷ activities) = list_all (λ later. not (int_lt later.at activity.at)) activities && moments_rise activities
+abbrev pub moments_never_fall : List Activity → Bool
+moments_never_fall [] = true
+moments_never_fall (activity ∷ activities) = list_all (λ later. not (int_lt later.at activity.at)) activities && moments_never_fall activities
 
 -- a live reader has its row's name and number
 abbrev pub agrees : KeptReader → Bool
@@ -36,4 +36,4 @@ is_sound s =
     && list_all agrees s.readers
     && tokens_are_distinct (live_readers s)
     && list_all (stands_on_live s) s.notes
-    && moments_rise s.activities
+    && moments_never_fall s.activities
