@@ -32,7 +32,7 @@ measure() {
 # tenth of it, or 0.
 report() {
   if [ "$status" -ne 0 ]; then
-    echo "$1: ended after two minutes (status $status)"
+    echo "$1: ended with status $status"
     return
   fi
   awk -v n="$1" -v l="$(wc -l <"$work/input")" -v t="$micros" -v m="$((peak * 1024))" -v b="$(stat -c %s "$work/input")" -v f="$2" 'BEGIN {

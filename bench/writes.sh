@@ -18,7 +18,7 @@ input() {
       count = split("heron swan gull tern crane stork ibis egret", words, " ")
       for (k = 0; k < n; k++) {
         text = words[k % count + 1] " " words[int(k / 8) % count + 1]
-        earlier = int((k * 7919) % (made + 1)) + 1
+        earlier = made > 0 ? k * 7919 % made + 1 : 0
         turn = k % 10
         if (turn < 6) { number[++made] = 1; put(made, "manifest=m1&group=public", text) }
         else if (turn == 6) { number[earlier]++; put(earlier, "manifest=m1&group=public", text " changed") }
