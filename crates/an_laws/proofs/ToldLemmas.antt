@@ -17,9 +17,9 @@ use Rattle.an_machine.specs.View.{view_of, manifest_audience, note_audience, sho
 use Rattle.an_machine.specs.declared.activity.Activity.{Activity}
 use Rattle.an_machine.specs.declared.activity.Seen.{Seen}
 use Rattle.an_machine.specs.declared.command.Object.TheVariants as object
+use Rattle.an_machine.proofs.DistinctLemmas.{manifests-distinct, notes-distinct}
 use Rattle.an_machine.proofs.ViewLemmas.{manifest_in-distinct, note_in-distinct}
 use Rattle.an_laws.specs.Coherent.{key_of, activities_of, audience_of, Chain, Coherent, is_in_view, key_of_object, is_change_of, is_there, is_told}
-use Rattle.an_laws.specs.Sound.{is_sound}
 use Rattle.an_laws.specs.Legal.{Write, Legal, state_of}
 use Rattle.an_laws.proofs.CoherentLemmas.{histories-coherent}
 use Rattle.an_laws.proofs.SoundLemmas.{histories-sound}
@@ -59,11 +59,11 @@ note_shown s who (Some row) = note_live s who row row.live
 in_view : (s : State) (who : Identity) (owner : Option (List ℕ)) (name : List ℕ) → IsTrue (is_distinct s)
     → is_in_view (view_of s who) (record { owner = owner; name = name }) ≡ reads who (audience_of s (record { owner = owner; name = name }))
 in_view s who None name distinct =
-    ap is_some (sym (manifest_in-distinct s who name distinct))
+    ap is_some (sym (manifest_in-distinct s who name (manifests-distinct s distinct)))
     ∙ is_some-only_if (shows_manifest who) (manifest_row s name)
     ∙ manifest_shown who (manifest_row s name)
 in_view s who (Some owner) name distinct =
-    ap is_some (sym (note_in-distinct s who owner name distinct))
+    ap is_some (sym (note_in-distinct s who owner name (notes-distinct s distinct)))
     ∙ is_some-only_if (shows_note s who) (note_row s owner name)
     ∙ note_shown s who (note_row s owner name)
 

@@ -6,7 +6,7 @@ use Rattle.std.specs.List.{list_any, position, position_or_len}
 use Rattle.an_keyed.specs.Key.{Key, same_key, same_owner}
 use Rattle.an_keyed.specs.Rows.{put_at, put_row}
 use Rattle.an_machine.specs.Entries.{with_row, with_rows, after}
-use Rattle.an_machine.specs.State.{State, manifest_key, note_key, empty, keys_are_distinct, is_distinct}
+use Rattle.an_machine.specs.State.{State, manifest_key, note_key, empty, keys_are_distinct, manifests_are_distinct, notes_are_distinct, is_distinct}
 use Rattle.an_machine.proofs.ViewLemmas.{same_key-equal}
 use Rattle.an_machine.specs.declared.entry.Entry.{Entry}
 use Rattle.an_machine.specs.declared.entry.Entry.TheVariants.{Done}
@@ -107,3 +107,12 @@ distinct-after s (Done command moment by rows activities) distinct = distinct-wi
 pub distinct-empty : is_distinct empty ≡ true
 unfolding is_distinct
 distinct-empty = refl
+
+-- the names of manifests alone, and those of annotations
+pub manifests-distinct : (s : State) → is_distinct s ≡ true → manifests_are_distinct s ≡ true
+unfolding is_distinct
+manifests-distinct s distinct = (and_parts _ _ distinct).0
+
+pub notes-distinct : (s : State) → is_distinct s ≡ true → notes_are_distinct s ≡ true
+unfolding is_distinct
+notes-distinct s distinct = (and_parts _ _ distinct).1

@@ -10,7 +10,7 @@ use Rattle.std.proofs.lemmas.Slice.Eq.{bytes_eq-Decides}
 use Rattle.an_base.specs.Outcome.{only_if}
 use Rattle.an_policy.specs.Audience.{Identity}
 use Rattle.an_keyed.specs.Key.{Key, same_key, same_owner}
-use Rattle.an_machine.specs.State.{State, KeptManifest, KeptNote, manifest_key, note_key, manifest_row, note_row, keys_are_distinct, is_distinct}
+use Rattle.an_machine.specs.State.{State, KeptManifest, KeptNote, manifest_key, note_key, manifest_row, note_row, keys_are_distinct, manifests_are_distinct, notes_are_distinct}
 use Rattle.an_machine.specs.View.{view_of, shows_manifest, shows_note, manifest_in, note_in}
 
 pub row_found : {A : Type 0} (test : A → Bool) (rows : List A) → option_and_then (slice_get rows) (position test rows) ≡ find test rows
@@ -97,25 +97,21 @@ module _ {R : Type 0} (key : R → Key) (shows : R → Bool) (wanted : Key) wher
         other_key row rows isnt ∙ shown_is_first rows first (sym found ∙ shown)
   ]
 
-pub manifest_in-distinct : (s : State) (who : Identity) (name : List ℕ) → IsTrue (is_distinct s)
+pub manifest_in-distinct : (s : State) (who : Identity) (name : List ℕ) → IsTrue (manifests_are_distinct s)
     → option_and_then (only_if (shows_manifest who)) (manifest_row s name) ≡ manifest_in (view_of s who) name
-unfolding is_distinct
 manifest_in-distinct s who name distinct =
-    let parts = and_parts (keys_are_distinct manifest_key s.manifests) (keys_are_distinct note_key s.notes) distinct in
     ap (option_and_then (only_if (shows_manifest who))) (row_found (λ row. same_key (manifest_key row) (record { owner = None; name = name })) s.manifests)
-    ∙ sym (one_shown manifest_key (shows_manifest who) (record { owner = None; name = name }) s.manifests parts.0)
+    ∙ sym (one_shown manifest_key (shows_manifest who) (record { owner = None; name = name }) s.manifests distinct)
 
 pub manifest_in-shown : (s : State) (who : Identity) (name : List ℕ) (row : KeptManifest) → option_and_then (only_if (shows_manifest who)) (manifest_row s name) ≡ Some row → manifest_in (view_of s who) name ≡ Some row
 manifest_in-shown s who name row shown =
     shown_is_first manifest_key (shows_manifest who) (record { owner = None; name = name }) s.manifests row (sym (ap (option_and_then (only_if (shows_manifest who))) (row_found (λ row. same_key (manifest_key row) (record { owner = None; name = name })) s.manifests)) ∙ shown)
 
-pub note_in-distinct : (s : State) (who : Identity) (owner name : List ℕ) → IsTrue (is_distinct s)
+pub note_in-distinct : (s : State) (who : Identity) (owner name : List ℕ) → IsTrue (notes_are_distinct s)
     → option_and_then (only_if (shows_note s who)) (note_row s owner name) ≡ note_in (view_of s who) owner name
-unfolding is_distinct
 note_in-distinct s who owner name distinct =
-    let parts = and_parts (keys_are_distinct manifest_key s.manifests) (keys_are_distinct note_key s.notes) distinct in
     ap (option_and_then (only_if (shows_note s who))) (row_found (λ row. same_key (note_key row) (record { owner = Some owner; name = name })) s.notes)
-    ∙ sym (one_shown note_key (shows_note s who) (record { owner = Some owner; name = name }) s.notes parts.1)
+    ∙ sym (one_shown note_key (shows_note s who) (record { owner = Some owner; name = name }) s.notes distinct)
 
 pub note_in-shown : (s : State) (who : Identity) (owner name : List ℕ) (row : KeptNote) → option_and_then (only_if (shows_note s who)) (note_row s owner name) ≡ Some row → note_in (view_of s who) owner name ≡ Some row
 note_in-shown s who owner name row shown =

@@ -77,9 +77,16 @@ abbrev pub keys_are_distinct : {R : Type 0} → (R → Key) → List R → Bool
 keys_are_distinct key [] = true
 keys_are_distinct key (row ∷ rows) = not (list_any (λ other. same_key (key other) (key row)) rows) && keys_are_distinct key rows
 
--- no two manifests have one name, and no two annotations one owner and name
+-- no two manifests have one name
+abbrev pub manifests_are_distinct : State → Bool
+manifests_are_distinct s = keys_are_distinct manifest_key s.manifests
+
+-- no two annotations have one owner and name
+abbrev pub notes_are_distinct : State → Bool
+notes_are_distinct s = keys_are_distinct note_key s.notes
+
 unfoldable pub is_distinct : State → Bool
-is_distinct s = keys_are_distinct manifest_key s.manifests && keys_are_distinct note_key s.notes
+is_distinct s = manifests_are_distinct s && notes_are_distinct s
 
 -- the readers that aren't deleted
 abbrev pub live_readers : State → List Reader

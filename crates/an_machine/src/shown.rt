@@ -2,7 +2,7 @@ ghost use Rattle.std.specs.Prelude.{◌≡◌, IfSome, IsTrue, Some, option_and_
 ghost use Rattle.std.specs.Option.{option_copied};
 ghost use Rattle.an_base.specs.Outcome.{only_if, passes};
 ghost use Rattle.an_policy.specs.Audience.{identity, may};
-ghost use Rattle.an_machine.specs.State.{manifest_row, note_row, is_distinct};
+ghost use Rattle.an_machine.specs.State.{manifest_row, note_row, manifests_are_distinct, notes_are_distinct};
 ghost use Rattle.an_machine.specs.View.{manifest_in, note_in, shows_manifest, shows_note, view_of};
 
 use crate::look::Look;
@@ -20,7 +20,7 @@ pub fn shown_manifest<'a, T: Look>(
 ) -> Option<&'a ManifestRow>
     ensures shown { IfSome result (λ row. manifest_in (view_of (T.state look.now) (identity who.now)) name.now
         ≡ Some row.now) }
-    ensures row { IsTrue (is_distinct (T.state look.now))
+    ensures row { IsTrue (manifests_are_distinct (T.state look.now))
         → option_copied result ≡ manifest_in (view_of (T.state look.now) (identity who.now)) name.now }
 {
     row_if_shown(look, who, name)
@@ -54,7 +54,7 @@ pub fn shown_note<'a, T: Look>(
 ) -> Option<&'a NoteRow>
     ensures shown { IfSome result (λ row. note_in (view_of (T.state look.now) (identity who.now)) owner.now name.now
         ≡ Some row.now) }
-    ensures row { IsTrue (is_distinct (T.state look.now))
+    ensures row { IsTrue (notes_are_distinct (T.state look.now))
         → option_copied result ≡ note_in (view_of (T.state look.now) (identity who.now)) owner.now name.now }
 {
     note_if_shown(look, who, owner, name)

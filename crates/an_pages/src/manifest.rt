@@ -2,7 +2,7 @@ ghost use Rattle.std.specs.Prelude.{◌≡◌, IfOk, IsTrue, Ok};
 ghost use Rattle.serde_json.specs.Written.{compact_text};
 ghost use Rattle.an_base.specs.Outcome.{Gives};
 ghost use Rattle.an_policy.specs.Audience.{identity};
-ghost use Rattle.an_machine.specs.State.{is_distinct};
+ghost use Rattle.an_machine.specs.State.{manifests_are_distinct};
 ghost use Rattle.an_machine.specs.View.{view_of};
 ghost use Rattle.an_manifest.specs.Dress.{dressed};
 ghost use Rattle.an_pages.specs.Bodies.{manifest_body, manifest_of_view};
@@ -29,7 +29,7 @@ pub fn manifest_answer<T: Look>(
 ) -> Result<Bytes, PageError>
     ensures body { IfOk result (λ body. manifest_of_view settings.now
         (view_of (T.state look.now) (identity who.now)) name.now ≡ Ok body) }
-    ensures answer { IsTrue (is_distinct (T.state look.now))
+    ensures answer { IsTrue (manifests_are_distinct (T.state look.now))
         → Gives (λ body. body) PageError.Memory result (manifest_of_view settings.now
         (view_of (T.state look.now) (identity who.now)) name.now) }
 {

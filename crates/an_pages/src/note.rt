@@ -7,7 +7,7 @@ ghost use Rattle.serde_json.specs.Written.{has_float, compact_text};
 ghost use Rattle.an_base.specs.Object.{with_member};
 ghost use Rattle.an_base.specs.Outcome.{Gives};
 ghost use Rattle.an_policy.specs.Audience.{identity};
-ghost use Rattle.an_machine.specs.State.{is_distinct};
+ghost use Rattle.an_machine.specs.State.{notes_are_distinct};
 ghost use Rattle.an_machine.specs.View.{note_in, view_of};
 ghost use Rattle.an_pages.specs.Bodies.{note_body, is_deletion, is_of_note, was_deleted, note_context, annotation_of_view};
 
@@ -33,7 +33,7 @@ pub fn annotation<T: Look>(
 ) -> Result<Bytes, PageError>
     ensures body { IfOk result (λ body. annotation_of_view settings.now
         (view_of (T.state look.now) (identity who.now)) owner.now name.now ≡ Ok body) }
-    ensures answer { IsTrue (is_distinct (T.state look.now))
+    ensures answer { IsTrue (notes_are_distinct (T.state look.now))
         → Gives (λ body. body) PageError.Memory result (annotation_of_view settings.now
         (view_of (T.state look.now) (identity who.now)) owner.now name.now) }
 {
@@ -60,7 +60,7 @@ fn shown_body<T: Look>(
 ) -> Result<Option<Bytes>, AllocError>
     ensures some { IfOk result (λ body. IfSome body (λ text. option_and_then (note_body settings.now)
         (note_in (view_of (T.state look.now) (identity who.now)) owner.now name.now) ≡ Some text)) }
-    ensures body { IsTrue (is_distinct (T.state look.now))
+    ensures body { IsTrue (notes_are_distinct (T.state look.now))
         → IfOk result (λ body. body ≡ option_and_then (note_body settings.now)
         (note_in (view_of (T.state look.now) (identity who.now)) owner.now name.now)) }
 {

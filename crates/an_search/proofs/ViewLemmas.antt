@@ -3,7 +3,7 @@ use Rattle.std.proofs.Common.{◌≡◌, ℕ, ◌+◌, List, [], ◌∷◌, ◌+
 use Rattle.std.specs.Prelude.{filter, slice_get, IsTrue}
 use Rattle.std.specs.List.{filter_map}
 use Rattle.an_policy.specs.Audience.{Identity}
-use Rattle.an_machine.specs.State.{State, KeptManifest, is_distinct}
+use Rattle.an_machine.specs.State.{State, KeptManifest, manifests_are_distinct}
 use Rattle.an_machine.specs.View.{view_of, is_on, shows_note, places_from, readable_places, manifest_in}
 use Rattle.an_search.specs.Search.{matches, hits, page_of_search, search_of}
 use Rattle.an_search.specs.Site.{Site}
@@ -53,8 +53,8 @@ hits-places s who manifest wanted =
 
 -- ---- the answer
 
-pub search_of-hidden : (site : Site) (s : State) (who : Identity) (manifest word : List ℕ) (shown : Option KeptManifest) → (IsTrue (is_distinct s) → shown ≡ manifest_in (view_of s who) manifest) → shown ≡ None
-    → IsTrue (is_distinct s) → search_of site (view_of s who) manifest word ≡ Err NoManifest
+pub search_of-hidden : (site : Site) (s : State) (who : Identity) (manifest word : List ℕ) (shown : Option KeptManifest) → (IsTrue (manifests_are_distinct s) → shown ≡ manifest_in (view_of s who) manifest) → shown ≡ None
+    → IsTrue (manifests_are_distinct s) → search_of site (view_of s who) manifest word ≡ Err NoManifest
 search_of-hidden site s who manifest word shown is hidden distinct = rw (sym (is distinct) ∙ hidden) refl
 
 pub search_of-shown : (site : Site) (s : State) (who : Identity) (manifest word page : List ℕ) (row : KeptManifest) → manifest_in (view_of s who) manifest ≡ Some row

@@ -1,11 +1,11 @@
-ghost use Rattle.std.specs.Prelude.{◌≡◌, ℕ, ◌+◌, ◌<◌, ◌≤◌, ◌^◌, List, [], ◌∷◌, ◌++◌, false, bytes_eq, filter, map, slice_get, IfOk, OnOk, IsTrue, Ok, string_bytes};
+ghost use Rattle.std.specs.Prelude.{◌≡◌, ◌+◌, ◌<◌, ◌≤◌, ◌^◌, List, [], ◌∷◌, ◌++◌, false, bytes_eq, filter, map, slice_get, IfOk, OnOk, IsTrue, Ok, string_bytes};
 ghost use Rattle.std.specs.List.{filter_map, list_all, list_any};
-ghost use Rattle.serde_json.specs.View.{view, items_view};
+ghost use Rattle.serde_json.specs.View.{items_view};
 ghost use Rattle.serde_json.specs.Written.{items_have_float, compact_text};
 ghost use Rattle.an_base.specs.Outcome.{Gives};
 ghost use Rattle.an_terms.specs.Terms.{terms_of};
 ghost use Rattle.an_policy.specs.Audience.{identity};
-ghost use Rattle.an_machine.specs.State.{KeptNote, is_distinct};
+ghost use Rattle.an_machine.specs.State.{KeptNote, manifests_are_distinct};
 ghost use Rattle.an_machine.specs.View.{view_of};
 ghost use Rattle.an_search.specs.Found.{HasFound};
 ghost use Rattle.an_search.specs.Search.{matches, hits, search_iri, page_of_search, search_of};
@@ -52,7 +52,7 @@ pub fn search<T: Look, L: Ledger>(
 ) -> Result<Bytes, AskError>
     ensures page { IfOk result (λ page. search_of settings.now
         (view_of (T.state look.now) (identity who.now)) manifest.now word.now ≡ Ok page) }
-    ensures answer { IsTrue (is_distinct (T.state look.now))
+    ensures answer { IsTrue (manifests_are_distinct (T.state look.now))
         → Gives (λ page. page) AskError.Memory result (search_of settings.now
         (view_of (T.state look.now) (identity who.now)) manifest.now word.now) }
 {
