@@ -1,35 +1,16 @@
--- The live reader with a token, among the rows and among the readers.
-use Rattle.std.proofs.Common.{◌≡◌, ℕ, List, [], ◌∷◌, Bool, true, false, ◌&&◌, not, bytes_eq, Option, Some, None, option_and_then, inl, inr, refl, sym, ap, ◌∙◌}
+-- The live reader with a token, among the rows and among the readers, and whether another reader has it.
+use Rattle.std.proofs.Common.{◌≡◌, ℕ, ◌+◌, ◌<◌, ◌≤◌, suc, arith, List, [], ◌∷◌, length, drop, get_or, Bool, true, false, ◌||◌, nat_lt, bytes_eq, Option, Some, None, option_map, option_and_then, inl, inr, refl, sym, ap, ◌∙◌}
 use Rattle.std.specs.Prelude.{find}
-use Rattle.std.specs.List.{filter_map, list_any}
-use Rattle.std.proofs.lemmas.Bool.{cases_Bool, cond-true, cond-false, or_left, or_right}
+use Rattle.std.specs.List.{filter_map, list_any, position, position_or_len}
+use Rattle.std.proofs.Math.Bool.{cond}
+use Rattle.std.proofs.lemmas.Bool.{cases_Bool, ltb-false}
+use Rattle.std.proofs.lemmas.List.{at_drop_more, drop-drop, drop_all}
+use Rattle.std.proofs.lemmas.Option.{cond_some, none-some, same_Some}
 use Rattle.an_base.specs.Outcome.{passes}
 use Rattle.an_policy.specs.declared.reader.Reader.{Reader}
-use Rattle.an_keyed.specs.Marks.{marked_row}
-use Rattle.an_machine.specs.State.{State, KeptReader, reader_token, live_readers, reader_with_token}
-use Rattle.an_machine.specs.Refusals.{is_taken_from, is_token_taken}
-
--- ---- lists
-
-some-equal : {A : Type 0} (x y : A) → Some x ≡ Some y → x ≡ y
-some-equal x y e = cc
-
-some-none : {A : Type 0} (x : A) → Some x ≡ None → ⊥
-some-none x e = absurd (cc)
-
-found_passes : {A : Type 0} (test other : A → Bool) (x : A) (xs : List A) → find test xs ≡ Some x → other x ≡ true → list_any other xs ≡ true
-found_passes test other x [] found is = absurd (cc)
-found_passes test other x (y ∷ ys) found is = elim (cases_Bool (test y)) [
-  | inl here ↦ let same : y ≡ x = some-equal y x (sym (cond-true _ _ _ here) ∙ found) in or_left (other y) (list_any other ys) (ap other same ∙ is)
-  | inr elsewhere ↦ or_right (other y) (list_any other ys) (found_passes test other x ys (sym (cond-false _ _ _ elsewhere) ∙ found) is)
-]
-
-none_passes : {A : Type 0} (test other : A → Bool) (xs : List A) → find test xs ≡ None → list_any (λ x. test x && other x) xs ≡ false
-none_passes test other [] none = refl
-none_passes test other (y ∷ ys) none = elim (cases_Bool (test y)) [
-  | inl here ↦ absurd (some-none y (sym (cond-true _ _ _ here) ∙ none))
-  | inr elsewhere ↦ rw elsewhere (none_passes test other ys (sym (cond-false _ _ _ elsewhere) ∙ none))
-]
+use Rattle.an_keyed.specs.Marks.{is_mark, marked_place, marked_row}
+use Rattle.an_machine.specs.State.{State, KeptReader, reader_token, reader_with_token}
+use Rattle.an_machine.specs.Refusals.{is_taken_from}
 
 -- ---- rows
 
@@ -53,16 +34,76 @@ found token (row ∷ rows) = found_at token row.live row rows refl (found token 
 pub reader_with_token-marked : (s : State) (token : List ℕ) → option_and_then (λ r. r.live) (marked_row reader_token token s.readers) ≡ reader_with_token s token
 reader_with_token-marked s token = found token s.readers
 
-pub taken-none : (s : State) (name token : List ℕ) → None ≡ marked_row reader_token token s.readers → false ≡ is_token_taken s name token
-taken-none s name token none =
-    sym (none_passes (has token) (λ reader. not (bytes_eq reader.name name)) (live_readers s) (sym (found token s.readers) ∙ ap (option_and_then (λ r. r.live)) (sym none)))
+-- ---- who else has a token
 
-taken_by : (s : State) (name token : List ℕ) (live : Option Reader) → find (has token) (live_readers s) ≡ live → passes (is_taken_from name token) live ≡ true → is_token_taken s name token ≡ true
-taken_by s name token None lent is = absurd (cc)
-taken_by s name token (Some reader) lent is = found_passes (has token) (is_taken_from name token) reader (live_readers s) lent is
+cond_none : {A : Type 0} (b : Bool) (x : A) → cond b (Some x) None ≡ None → b ≡ false
+cond_none true x e = absurd (none-some x (sym e))
+cond_none false x e = refl
 
-pub taken-first : (s : State) (name token : List ℕ) (row : KeptReader) → Some row ≡ marked_row reader_token token s.readers → true ≡ passes (is_taken_from name token) row.live → true ≡ is_token_taken s name token
-taken-first s name token row first is =
-    sym (taken_by s name token row.live (sym (found token s.readers) ∙ ap (option_and_then (λ r. r.live)) (sym first)) (sym is))
+module _ (name token : List ℕ) where
+  -- whether a reader of another name among those that the rows lend has the token
+  abbrev pub taken : List KeptReader → Bool
+  taken rows = list_any (is_taken_from name token) (filter_map (λ row. row.live) rows)
 
-pub ruleset tokens = (reader_with_token-marked, taken-none, taken-first)
+  abbrev marked : KeptReader → Bool
+  marked row = is_mark token (reader_token row)
+
+  taken-lent : (live : Option Reader) (row : KeptReader) (rows : List KeptReader) → row.live ≡ live → taken (row ∷ rows) ≡ (passes (is_taken_from name token) live || taken rows)
+  taken-lent None row rows e = rw e refl
+  taken-lent (Some reader) row rows e = rw e refl
+
+  taken-cons : (row : KeptReader) (rows : List KeptReader) → taken (row ∷ rows) ≡ (passes (is_taken_from name token) row.live || taken rows)
+  taken-cons row rows = taken-lent row.live row rows refl
+
+  unmarked : (live : Option Reader) → is_mark token (option_map (λ reader. reader.token) live) ≡ false → passes (is_taken_from name token) live ≡ false
+  unmarked None isnt = refl
+  unmarked (Some reader) isnt = rw isnt refl
+
+  drop-suc : (row : KeptReader) (rows : List KeptReader) (n : ℕ) → drop (1 + n) (row ∷ rows) ≡ drop n rows
+  drop-suc row rows n = let e : 1 + n ≡ suc n = omega arith in rw e refl
+
+  -- no row before the first with the token takes it
+  taken-past : (rows : List KeptReader) → taken rows ≡ taken (drop (position_or_len marked rows) rows)
+  taken-past [] = refl
+  taken-past (row ∷ rows) = elim (cases_Bool (marked row)) [
+    | inl is ↦ rw is refl
+    | inr isnt ↦ rw isnt (taken-cons row rows ∙ rw (unmarked row.live isnt) (taken-past rows ∙ ap taken (sym (drop-suc row rows (position_or_len marked rows)))))
+  ]
+
+  module _ (rows : List KeptReader) (start : ℕ) where
+    taken-at : (place : ℕ) (first : KeptReader) (k : ℕ) → position marked (drop start rows) ≡ Some k → place ≡ start + k → place < length rows
+        → taken (drop start rows) ≡ (passes (is_taken_from name token) (get_or rows place first).live || taken (drop (place + 1) rows))
+    taken-at place first k at is within =
+        let first_at : position_or_len marked (drop start rows) ≡ k = (cond_some (nat_lt (position_or_len marked (drop start rows)) (length (drop start rows))) _ _ at).1 in
+        taken-past (drop start rows)
+        ∙ ap (λ i. taken (drop i (drop start rows))) first_at
+        ∙ ap taken (drop-drop k start rows)
+        ∙ ap (λ i. taken (drop i rows)) (sym is)
+        ∙ at_drop_more taken rows place first within
+        ∙ taken-cons (get_or rows place first) (drop (place + 1) rows)
+
+    taken-from : (found : Option ℕ) (place : ℕ) (first : KeptReader) → position marked (drop start rows) ≡ found → Some place ≡ option_map (λ k. start + k) found → place < length rows
+        → taken (drop start rows) ≡ (passes (is_taken_from name token) (get_or rows place first).live || taken (drop (place + 1) rows))
+    taken-from None place first at is within = absurd (cc)
+    taken-from (Some k) place first at is within = taken-at place first k at (same_Some place (start + k) is) within
+
+    -- from the first row with the token on, it is that row that takes it, or one behind
+    pub taken-next : (sought : List ℕ) (found : Option ℕ) (place : ℕ) (row : KeptReader) (takes : Bool) → found ≡ marked_place reader_token sought start rows → sought ≡ token → found ≡ Some place
+        → place < length rows → row ≡ get_or rows place row → takes ≡ passes (is_taken_from name token) row.live
+        → taken (drop start rows) ≡ (takes || taken (drop (place + 1) rows))
+    taken-next sought found place row takes by same is within at does =
+        taken-from (position marked (drop start rows)) place row refl (sym is ∙ by ∙ ap (λ t. marked_place reader_token t start rows) same) within
+        ∙ ap (λ r. passes (is_taken_from name token) r.live || taken (drop (place + 1) rows)) (sym at)
+        ∙ ap (λ b. b || taken (drop (place + 1) rows)) (sym does)
+
+    taken-nowhere : (found : Option ℕ) → position marked (drop start rows) ≡ found → None ≡ option_map (λ k. start + k) found → taken (drop start rows) ≡ false
+    taken-nowhere (Some k) at is = absurd (cc)
+    taken-nowhere None at is =
+        let past : length (drop start rows) ≤ position_or_len marked (drop start rows) =
+        ltb-false _ _ (cond_none (nat_lt (position_or_len marked (drop start rows)) (length (drop start rows))) _ at) in
+        taken-past (drop start rows) ∙ ap taken (drop_all _ (drop start rows) past)
+
+    -- where no row has the token, nobody does
+    pub taken-none : (sought : List ℕ) (found : Option ℕ) → found ≡ marked_place reader_token sought start rows → sought ≡ token → found ≡ None → taken (drop start rows) ≡ false
+    taken-none sought found by same is =
+        taken-nowhere (position marked (drop start rows)) refl (sym is ∙ by ∙ ap (λ t. marked_place reader_token t start rows) same)

@@ -1,7 +1,7 @@
-ghost use Rattle.std.specs.Prelude.{◌≡◌, ◌+◌, ◌<◌, ◌≤◌, ◌++◌, OnOk, length};
+ghost use Rattle.std.specs.Prelude.{◌≡◌, ◌+◌, ◌<◌, ◌≤◌, ◌++◌, IfSome, OnOk, length};
 ghost use Rattle.std.specs.Option.{option_copied};
 ghost use Rattle.an_machine.specs.State.{empty, reader_row, manifest_row, note_row, reader_token};
-ghost use Rattle.an_keyed.specs.Marks.{marked_row};
+ghost use Rattle.an_keyed.specs.Marks.{marked_place, marked_row};
 ghost use Rattle.an_machine.specs.Entries.{with_row, with_rows, after, needs};
 
 use crate::activity::Activity;
@@ -86,6 +86,15 @@ impl Book {
         ensures row { option_copied result ≡ marked_row reader_token token.now self.now.state.readers }
     {
         self.readers.find_marked(token)
+    }
+
+    /// The first place from `start` on whose live reader has this token.
+    pub(crate) fn place_with_token(&self, token: &str, start: usize) -> Option<usize>
+        ensures place { result ≡ marked_place reader_token token.now start self.now.state.readers }
+        ensures from { IfSome result (λ place. start ≤ place) }
+        ensures within { IfSome result (λ place. place < length self.now.state.readers) }
+    {
+        self.readers.place_marked(token, start)
     }
 
     /// The row of a manifest, live or a tombstone.

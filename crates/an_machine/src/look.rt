@@ -141,7 +141,6 @@ fn lent(reader: Option<&Reader>) -> Option<Who<'_>>
 }
 
 /// The live reader with this token.
-#[tactic(auto, using(crate::proofs::TokenLemmas::tokens))]
 fn with_token<'a>(book: &'a Book, token: &str) -> Option<&'a Reader>
     ensures { option_copied result ≡ reader_with_token book.now.state token.now }
 {

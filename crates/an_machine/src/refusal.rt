@@ -1,5 +1,4 @@
-ghost use Rattle.std.specs.Prelude.{◌≡◌, [], ◌∷◌, IfOk, not, option_map};
-ghost use Rattle.std.specs.List.{list_any, filter_map};
+ghost use Rattle.std.specs.Prelude.{◌≡◌, IfOk};
 ghost use Rattle.an_base.specs.Outcome.{first_of, passes, when};
 ghost use Rattle.an_manifest.specs.Manifest.{manifest_refusals as manifest_refusals_of};
 ghost use Rattle.an_model.specs.Note.{note_refusal};
@@ -109,25 +108,16 @@ fn token_refusal(book: &Book, name: &Name, token: &Text) -> Option<Refused>
     }
 }
 
-/// Whether a live reader of another name has the token. All rows are walked only where the first
-/// live reader with the token has this name.
-#[tactic(auto, using(crate::proofs::TokenLemmas::tokens))]
+/// Whether a live reader of another name has the token. Only rows with the token are looked at.
 fn is_token_taken(book: &Book, name: &Name, token: &Text) -> bool
     ensures { result ≡ is_token_taken book.now.state name.now token.now }
 {
-    match book.reader_with_token(token.as_str()) {
-        Some(row) => takes_token(row, name, token) || is_taken_in(book.readers(), name, token),
-        None => false,
-    }
-}
-
-fn is_taken_in(rows: &[ReaderRow], name: &Name, token: &Text) -> bool
-    ensures { result ≡ list_any (is_taken_from name.now token.now) (filter_map (λ row. row.live) rows.now) }
-{
-    for row in rows {
-        if takes_token(row, name, token) {
+    let mut start = 0;
+    'marked: while let Some(place) = book.place_with_token(token.as_str(), start) {
+        if takes_token(&book.readers()[place], name, token) {
             return true;
         }
+        start = place + 1;
     }
     false
 }
