@@ -11,6 +11,8 @@ mod form;
 mod input;
 mod line;
 mod lines;
+#[cfg(test)]
+mod machine_tests;
 mod output;
 mod program;
 mod split;

@@ -281,3 +281,25 @@ fn writes_are_judged_by_the_machine(rt: HostRuntime) -> Result<(), Fail> {
     judge(&rt, rt.alloc(), LINES, JUDGED)?;
     judge(&rt, rt.alloc(), DELETED, JUDGED_BEHIND)
 }
+
+/// At the state of the first four lines nothing has these names.
+#[test]
+fn names_without_rows_are_absent(rt: HostRuntime) -> Result<(), Fail> {
+    let alloc = rt.alloc();
+    for target in [
+        "/annotations/mara/none",
+        "/manifests/m9",
+        "/search/m9?q=heron",
+    ] {
+        let last = format!(in alloc; "- GET {target}")?;
+        let input = behind(alloc, LINES, 4, last.as_str())?;
+        let found = printed(alloc, &["-", "find", BASE, "10"], input.as_str(), &[], &[])?;
+        assert_eq!(rt; found.0, 0, "{target}");
+        assert_eq!(rt;
+            found.1.as_slice(),
+            b"404 {\"error\":\"absent\"}\n".as_slice(),
+            "{target}"
+        );
+    }
+    Ok(())
+}
