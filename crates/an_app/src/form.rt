@@ -1,7 +1,7 @@
-ghost use Rattle.std.specs.Prelude.{◌≡◌, IfOk, bytes_eq, option_and_then, option_map};
+ghost use Rattle.std.specs.Prelude.{◌≡◌, IfOk, option_and_then, option_map};
 ghost use Rattle.std.specs.List.{list_all};
 ghost use Rattle.std.specs.Option.{option_copied};
-ghost use Rattle.an_app.specs.Form.{is_get, value_of, name_in, group_in, group_named, group_or_public, parted, parameters, version_in, is_letter, is_word, reader_write, reader_form, manifest_write, manifest_form, place_in, note_write, note_placed, note_named, note_form, search_form, routed, segment_form, path_form, shown_note, bare_routed, bare_segments, bare_form, form_from, form_of};
+ghost use Rattle.an_app.specs.Form.{is_get, value_of, name_in, group_in, group_named, group_or_public, parameters, version_in, is_letter, is_word, reader_write, reader_form, manifest_write, manifest_form, place_in, note_write, note_placed, note_named, note_form, search_form, routed, segment_form, path_form, shown_note, bare_routed, bare_segments, bare_form, form_of};
 
 use crate::line::{Method, cut};
 use an_base::{Name, NameError, Text, read_decimal};

@@ -4,7 +4,6 @@ ghost use Rattle.std.specs.Result.{result_map_both};
 ghost use Rattle.std.specs.Str.{is_utf8};
 ghost use Rattle.an_base.specs.Outcome.{only_if};
 ghost use Rattle.an_base.specs.Tree.{tree_of};
-ghost use Rattle.an_machine.specs.Step.{step};
 ghost use Rattle.an_machine.specs.State.{is_distinct, who_of};
 ghost use Rattle.an_app.specs.Line.{by_of, lent_words, words_of};
 ghost use Rattle.an_app.specs.Find.{turn_of, words_turn, by_turn, form_turn, write_turn, writes, state_after, refusal_code, text_code, read_turn, search_line, manifest_line, annotation_line, not_signed_line, command_turn, is_old, writer, reader};

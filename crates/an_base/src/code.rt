@@ -9,7 +9,7 @@ pub enum Code {
     Line,
     /// The input is larger than an input may be.
     Input,
-    /// A form of line that this version doesn't know, or a write that it doesn't accept.
+    /// A form of line that isn't answered yet.
     Unbuilt,
     /// There is no such thing that the caller may read.
     Absent,
@@ -61,7 +61,7 @@ pub enum Code {
     GroupFixed,
     /// Another live reader has the token.
     TokenTaken,
-    /// The number is neither the next one nor that of the same write.
+    /// The number is neither the one after `current`, nor `current` with the write that gave it.
     Version { current: u32 },
     /// The annotation was there for the caller, and isn't any more.
     Gone,

@@ -1,4 +1,4 @@
-ghost use Rattle.std.specs.Prelude.{◌≡◌, ◌↔◌, ◌+◌, ◌-◌, ◌<◌, ◌≤◌, ◌&&◌, if◌then◌else◌, length, slice_index, IsTrue, List, ℕ, ℤ, Ok, IfOk, IfSome, IsSome};
+ghost use Rattle.std.specs.Prelude.{◌≡◌, ◌↔◌, ◌+◌, ◌-◌, ◌<◌, ◌≤◌, ◌&&◌, if◌then◌else◌, length, IsTrue, List, ℕ, ℤ, Ok, IfOk, IfSome, IsSome};
 ghost use Rattle.std.specs.Str.{IsAscii};
 ghost use Rattle.std.specs.Char.{is_ascii_digit};
 ghost use Rattle.an_base.specs.Moment.{has_form, has_digits, fits, number_at, date_time_in, is_date, is_time, days_before, moment_at, moment_of, date_time_text, date_time_after, moment_text, IsMoment};

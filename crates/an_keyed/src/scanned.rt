@@ -1,6 +1,5 @@
-ghost use Rattle.std.specs.Prelude.{◌≡◌, ◌+◌, ◌<◌, ◌≤◌, [], OnOk, OnErr, position};
+ghost use Rattle.std.specs.Prelude.{◌≡◌, ◌+◌, ◌<◌, ◌≤◌, [], OnOk, position};
 ghost use Rattle.std.specs.Option.{option_copied};
-ghost use Rattle.an_keyed.specs.Key.{same_key};
 ghost use Rattle.an_keyed.specs.Rows.{place_of, row_of, put_row};
 
 use crate::key::{Keyed, has_key};

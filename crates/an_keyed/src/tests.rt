@@ -1,5 +1,4 @@
 ghost use Rattle.std.specs.Prelude.{None};
-ghost use Rattle.an_keyed.specs.Key.{Key};
 
 use super::*;
 use an_base::{Name, Text};

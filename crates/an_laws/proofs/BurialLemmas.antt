@@ -13,8 +13,9 @@ use Rattle.an_machine.specs.State.{State, KeptNote, note_key, note_row, keys_are
 use Rattle.an_machine.specs.View.{is_on}
 use Rattle.an_machine.specs.declared.entry.Row.{Row}
 use Rattle.an_machine.specs.declared.entry.Row.TheVariants as kept
+use Rattle.an_machine.proofs.DistinctLemmas.{notes-distinct}
 use Rattle.an_machine.proofs.ViewLemmas.{one_shown}
-use Rattle.an_laws.proofs.RowLemmas.{distinct-filter, none-behind, note-keys, row_of-find, row_of-put_row}
+use Rattle.an_laws.proofs.RowLemmas.{distinct-filter, none-behind, row_of-find, row_of-put_row}
 
 -- ---- rows that are put one after another
 
@@ -99,4 +100,4 @@ left_state s manifest = record s { notes = put_all note_key (map buried (notes_o
 -- each annotation stands as it is left
 pub note_row-left : (s : State) (manifest owner name : List ℕ) → is_distinct s ≡ true
     → note_row (left_state s manifest) owner name ≡ option_map (as_left manifest) (note_row s owner name)
-note_row-left s manifest owner name distinct = row_of-left manifest (record { owner = Some owner; name = name }) s.notes (note-keys s distinct)
+note_row-left s manifest owner name distinct = row_of-left manifest (record { owner = Some owner; name = name }) s.notes (notes-distinct s distinct)

@@ -11,9 +11,10 @@ use Rattle.an_machine.specs.Accepted.{audience_of_note, burial, notes_on}
 use Rattle.an_machine.specs.State.{State, KeptNote, note_key, note_row, keys_are_distinct, is_distinct}
 use Rattle.an_machine.specs.View.{is_on}
 use Rattle.an_machine.specs.declared.activity.Activity.{Activity}
+use Rattle.an_machine.proofs.DistinctLemmas.{notes-distinct}
 use Rattle.an_machine.proofs.ViewLemmas.{one_shown}
 use Rattle.an_laws.specs.Coherent.{activities_of, Chain, has_any}
-use Rattle.an_laws.proofs.RowLemmas.{distinct-filter, none-behind, note-keys, row_of-find}
+use Rattle.an_laws.proofs.RowLemmas.{distinct-filter, none-behind, row_of-find}
 use Rattle.an_laws.proofs.BurialLemmas.{as_left, left_state, note_row-left}
 use Rattle.an_laws.proofs.LeadLemmas.{key_at, LeadsAt, Leads}
 
@@ -81,7 +82,7 @@ module _ (s : State) (who : Identity) (at : ℤ) where
       burials_of owner name =
           let key : Key = key_at (Some owner) name in
           burials-note key (notes_on s manifest)
-          ∙ ap (map (burial s who at)) (one_passes note_key key (is_on manifest) s.notes (note-keys s distinct))
+          ∙ ap (map (burial s who at)) (one_passes note_key key (is_on manifest) s.notes (notes-distinct s distinct))
           ∙ ap burials (sym (row_of-find note_key key s.notes))
 
       leads-left_at : (owner : Option (List ℕ)) (name : List ℕ) → LeadsAt s (map (burial s who at) (notes_on s manifest)) (left_state s manifest) (key_at owner name)

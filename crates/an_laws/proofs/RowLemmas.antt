@@ -5,7 +5,7 @@ use Rattle.std.specs.List.{list_any}
 use Rattle.std.proofs.lemmas.Bool.{cases_Bool, both_ways, and_parts, and_from, or_parts, or_from, not-true, not_from_false, cond_both}
 use Rattle.an_keyed.specs.Key.{Key, same_key}
 use Rattle.an_keyed.specs.Rows.{row_of, put_row}
-use Rattle.an_machine.specs.State.{State, note_key, keys_are_distinct, is_distinct}
+use Rattle.an_machine.specs.State.{keys_are_distinct}
 use Rattle.an_machine.proofs.DistinctLemmas.{set_or_push, put_at-position}
 use Rattle.an_machine.proofs.ViewLemmas.{row_found, same_key-equal}
 
@@ -68,8 +68,3 @@ module _ {R : Type 0} (key : R → Key) where
       cond_both (test row) (row ∷ filter test rows) (filter test rows) (λ l. keys_are_distinct key l ≡ true)
       (λ h. and_from _ _ (not_from_false _ (none-filter test (key row) rows (not-true _ parts.0))) (distinct-filter test rows parts.1))
       (λ h. distinct-filter test rows parts.1)
-
--- the keys of annotations are distinct
-pub note-keys : (s : State) → is_distinct s ≡ true → keys_are_distinct note_key s.notes ≡ true
-unfolding is_distinct
-note-keys s distinct = (and_parts _ _ distinct).1

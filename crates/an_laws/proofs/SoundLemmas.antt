@@ -16,14 +16,13 @@ use Rattle.an_machine.specs.State.{State, KeptNote, empty, reader_key, note_key,
 use Rattle.an_machine.specs.declared.activity.Activity.{Activity}
 use Rattle.an_machine.specs.declared.command.Command.{Command}
 use Rattle.an_machine.specs.declared.command.Command.TheVariants.{PutReader, DropReader, PutManifest, DropManifest, PutNote, DropNote}
-use Rattle.an_machine.proofs.DistinctLemmas.{distinct-put_row, distinct-after}
+use Rattle.an_machine.proofs.DistinctLemmas.{distinct-put_row, distinct-after, notes-distinct}
 use Rattle.an_laws.specs.Legal.{Write, Accepts, LegalFrom, Legal, state_from, state_of}
 use Rattle.an_laws.specs.Sound.{is_sound, agrees, tokens_are_distinct, is_live_manifest, stands_on_live, moments_never_fall}
 use Rattle.an_laws.proofs.DropLemmas.{dropped, after-dropped}
 use Rattle.an_laws.proofs.FoundLemmas.{all-put_row}
 use Rattle.an_laws.proofs.MomentLemmas.{not_below-self, moments-rise}
 use Rattle.an_laws.proofs.RefusalLemmas.{reader-agrees, reader-untaken, manifest-put, note-based}
-use Rattle.an_laws.proofs.RowLemmas.{note-keys}
 use Rattle.an_laws.proofs.SoundParts.{Sound, sound-parts, sound-from}
 use Rattle.an_laws.proofs.StandLemmas.{stand-put, stand-dropped}
 use Rattle.an_laws.proofs.StepLemmas.{accepted-is}
@@ -77,7 +76,7 @@ module _ (s : State) (who : Identity) (moment : ℤ) where
 
   -- the keys of annotations are distinct behind a deletion
   keys-dropped : (name : List ℕ) (version : ℕ) → is_distinct (then (DropManifest name version)) ≡ true → keys_are_distinct note_key (dropped s name version).notes ≡ true
-  keys-dropped name version distinct = ap (λ t. keys_are_distinct note_key t.notes) (sym (after-dropped s who moment name version)) ∙ note-keys (then (DropManifest name version)) distinct
+  keys-dropped name version distinct = ap (λ t. keys_are_distinct note_key t.notes) (sym (after-dropped s who moment name version)) ∙ notes-distinct (then (DropManifest name version)) distinct
 
   stand-stay : (command : Command) → first_of (refusals s who command) ≡ None → Sound s → list_all (stands_on_live (then command)) (then command).notes ≡ true
   stand-stay (PutReader name version tree) none sound = sound.stand
@@ -87,7 +86,7 @@ module _ (s : State) (who : Identity) (moment : ℤ) where
       (ap (λ kept. is_some (option_map (put_manifest (moment_of_write s moment) (manifest_created s name)) kept)) (manifest-put s who name group tree none)) sound.stand
   stand-stay (DropManifest name version) none sound =
       ap (λ t. list_all (stands_on_live t) t.notes) (after-dropped s who moment name version)
-      ∙ stand-dropped s name version (note-keys s sound.distinct) (keys-dropped name version (distinct-after s (entry_of s who moment (DropManifest name version)) sound.distinct)) sound.stand
+      ∙ stand-dropped s name version (notes-distinct s sound.distinct) (keys-dropped name version (distinct-after s (entry_of s who moment (DropManifest name version)) sound.distinct)) sound.stand
   stand-stay (PutNote owner name version manifest group tree) none sound =
       all-put_row note_key (stands_on_live s) _ s.notes
       (stands-new (moment_of_write s moment) (creator_of who (live_note_of s owner name)) owner name manifest version (option_map (λ before. before.created) (live_note_of s owner name)) group

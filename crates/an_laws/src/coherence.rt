@@ -2,7 +2,7 @@ ghost use Rattle.std.specs.Prelude.{◌≡◌, IsTrue, List};
 ghost use Rattle.an_keyed.specs.Key.{Key};
 ghost use Rattle.an_machine.specs.Entries.{after};
 ghost use Rattle.an_machine.specs.State.{State, empty, is_distinct};
-ghost use Rattle.an_machine.specs.View.{View, view_of};
+ghost use Rattle.an_machine.specs.View.{view_of};
 ghost use Rattle.an_policy.specs.Audience.{Identity};
 ghost use Rattle.an_laws.specs.Coherent.{Coherent, is_in_view, is_told};
 ghost use Rattle.an_laws.specs.Legal.{Write, Accepts, Legal, state_of};

@@ -1,9 +1,8 @@
 //! The activities that an accepted command adds.
 ghost use Rattle.std.specs.Prelude.{◌≡◌, [], ◌∷◌, ◌++◌, IfOk, Some, None, map, option_map, option_and_then};
-ghost use Rattle.std.specs.Option.{option_copied};
 ghost use Rattle.an_policy.specs.Audience.{identity};
 ghost use Rattle.an_machine.specs.State.{manifest_row, note_row};
-ghost use Rattle.an_machine.specs.View.{manifest_audience, note_audience};
+ghost use Rattle.an_machine.specs.View.{manifest_audience};
 ghost use Rattle.an_machine.specs.Accepted.{by_whom, audience_of_manifest, audience_of_note, manifest_activity, note_activity, burial, notes_on, new_activities};
 
 use crate::accept::by_whom;

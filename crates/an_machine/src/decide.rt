@@ -1,4 +1,4 @@
-ghost use Rattle.std.specs.Prelude.{◌≡◌, [], ◌∷◌, IfOk, option_map};
+ghost use Rattle.std.specs.Prelude.{◌≡◌, option_map};
 ghost use Rattle.an_base.specs.Outcome.{Gives, first_of};
 ghost use Rattle.an_policy.specs.Audience.{identity};
 ghost use Rattle.std.specs.Result.{result_map_both};

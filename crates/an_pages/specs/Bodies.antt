@@ -11,7 +11,6 @@ use Rattle.an_policy.specs.declared.kind.Kind.TheVariants.{Create, Update, Delet
 use Rattle.an_machine.specs.State.{KeptManifest, KeptNote, LiveManifest, LiveNote}
 use Rattle.an_machine.specs.View.{View, manifest_in, note_in}
 use Rattle.an_machine.specs.declared.activity.Seen.{Seen}
-use Rattle.an_machine.specs.declared.command.Object.{Object}
 use Rattle.an_machine.specs.declared.command.Object.TheVariants as object
 use Rattle.an_search.specs.Listed.{listed_live}
 use Rattle.an_search.specs.Site.{Site}

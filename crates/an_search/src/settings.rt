@@ -1,4 +1,4 @@
-ghost use Rattle.std.specs.Prelude.{◌≡◌, length, codes, IsTrue};
+ghost use Rattle.std.specs.Prelude.{◌≡◌, IsTrue};
 ghost use Rattle.std.specs.List.{list_all};
 ghost use Rattle.an_base.specs.Outcome.{Gives};
 ghost use Rattle.an_search.specs.Site.{goes_on_from, is_base_sign, is_base, is_size};

@@ -1,4 +1,4 @@
-ghost use Rattle.std.specs.Prelude.{◌≡◌, ◌+◌, ◌<◌, length, chars, IfSome, MatchOption};
+ghost use Rattle.std.specs.Prelude.{◌+◌, ◌<◌, length, chars, IfSome, MatchOption};
 ghost use Rattle.an_selectors.specs.Walk.{IsPointOf, IsNext, IsAfter, StandsAt, StandsNowhere};
 
 use crate::cut::{Point, char_count, point_behind};

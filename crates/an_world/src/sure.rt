@@ -1,5 +1,5 @@
 ghost use Rattle.std.specs.Prelude.{◌≡◌, ◌<◌, ◌≤◌, ◌↔◌, [], length, take, Ok, IfOk};
-ghost use Rattle.an_world.specs.Link.{MovesRead, AddsWritten};
+ghost use Rattle.an_world.specs.Link.{MovesRead};
 ghost use Rattle.an_world.specs.Input.{count_for};
 ghost use Rattle.an_world.specs.Sure.{sure_of, sure_traffic, sure_after_read, sure_after_write};
 
