@@ -1,11 +1,12 @@
 #!/usr/bin/env bash
 # Times `anno - find` on 1,000, 10,000 and 100,000 mixed writes on annotations: of ten of them six make
 # an annotation, one changes an earlier one, one is sent again, one moves an annotation to another
-# manifest and group, and one deletes one. One search stands at the end.
+# manifest and group, and one deletes one. One search stands at the end. Then it times as many writes on
+# readers, each of whom is made, and changed with the token that it has.
 set -eu
 . "$(dirname "$0")/measure.sh"
 
-input() {
+annotations() {
   beginning
   printf '%s\n' '2024-05-01T10:00:00Z - PUT /manifests/m2?version=1 {"items":[{"height":100,"id":"http://a.example/c1","type":"Canvas","width":80}],"label":{"en":["Log"]},"type":"Manifest"}'
   awk -v n="$1" '
@@ -30,11 +31,24 @@ input() {
     }'
 }
 
+readers() {
+  awk -v n="$1" 'BEGIN {
+    for (k = 0; k < n; k++)
+      printf "2024-05-01T10:00:00Z - PUT /readers/r%d?version=%d {\"groups\":[\"g%d\"],\"role\":\"writer\",\"token\":\"token-%06d\",\"user\":\"http://a.example/u/%d\"}\n", k % (n / 2), 1 + (k >= n / 2), k, k % (n / 2), k % (n / 2)
+  }'
+}
+
+# Plays 1,000, 10,000 and 100,000 writes of this input.
+sizes() {
+  local before=0 writes
+  for writes in 1000 10000 100000; do
+    "$1" "$writes" >"$work/input"
+    measure
+    report "$writes $2" "$before"
+    before=$micros
+  done
+}
+
 echo "processors: $(nproc)"
-before=0
-for writes in 1000 10000 100000; do
-  input "$writes" >"$work/input"
-  measure
-  report "$writes writes" "$before"
-  before=$micros
-done
+sizes annotations "writes on annotations"
+sizes readers "writes on readers"
