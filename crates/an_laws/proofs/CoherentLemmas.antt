@@ -1,9 +1,10 @@
 -- Each accepted write leads from a coherent state to a coherent one.
 use Rattle.std.proofs.Common.{◌≡◌, ℕ, ℤ, false, not, List, [], ◌∷◌, ◌++◌, Option, Some, None, option_map, refl, sym, ap, subst, ◌∙◌}
-use Rattle.std.specs.Prelude.{IsTrue}
+use Rattle.std.specs.Prelude.{All, IsTrue}
 use Rattle.std.specs.List.{list_all}
 use Rattle.std.specs.Result.{result_ok}
 use Rattle.std.proofs.lemmas.Bool.{not-false}
+use Rattle.std.proofs.lemmas.List.Elements.{All-nil}
 use Rattle.serde_json.specs.Data.{Data}
 use Rattle.an_base.specs.Outcome.{first_of, passes}
 use Rattle.an_manifest.specs.Manifest.{manifest_of}
@@ -23,9 +24,10 @@ use Rattle.an_machine.specs.declared.command.Command.TheVariants.{PutReader, Dro
 use Rattle.an_machine.specs.declared.activity.Activity.{Activity}
 use Rattle.an_machine.specs.declared.entry.Row.TheVariants as kept
 use Rattle.an_machine.specs.declared.versions.Ruling.TheVariants.{Next}
-use Rattle.an_laws.specs.Coherent.{Chain, Coherent, activities_of, audience_of, has_any, has_row}
+use Rattle.an_laws.specs.Coherent.{Chain, Coherent, activities_of, audiences_of, has_any, has_row}
 use Rattle.an_laws.specs.Legal.{Write, Accepts, LegalFrom, Legal, state_from, state_of}
 use Rattle.an_laws.specs.Sound.{is_sound, stands_on_live}
+use Rattle.an_laws.proofs.AudienceLemmas.{CoherentFirst, coherent-first, all-audiences}
 use Rattle.an_laws.proofs.BurialLemmas.{left_state}
 use Rattle.an_laws.proofs.DropLemmas.{as_dropped, with_rows-tombstone}
 use Rattle.an_laws.proofs.LeadLemmas.{key_at, Leads, leads-none, leads-both, leads-note, leads-manifest, coherent-behind, NotesStay}
@@ -40,9 +42,9 @@ use Rattle.an_laws.proofs.StepLemmas.{accepted-is}
 -- ---- the empty state
 
 empty_at : (owner : Option (List ℕ)) (name : List ℕ)
-    → Chain None (activities_of (key_at owner name) []) (audience_of empty (key_at owner name)) × (has_row empty (key_at owner name) ≡ has_any (activities_of (key_at owner name) []))
-empty_at None name = (refl, refl)
-empty_at (Some owner) name = (refl, refl)
+    → All (Chain None (activities_of (key_at owner name) [])) (audiences_of empty (key_at owner name)) × (has_row empty (key_at owner name) ≡ has_any (activities_of (key_at owner name) []))
+empty_at None name = (All-nil _, refl)
+empty_at (Some owner) name = (All-nil _, refl)
 
 -- the empty state is coherent: no object has a row, and none an activity
 pub empty-coherent : Coherent empty
@@ -55,9 +57,9 @@ record Arrives (s : State) (new : List Activity) (t : State) : Type 0 where
   leads : Leads s new t
   same : t.activities ≡ s.activities
 
-coherent-arrives : (s t : State) (new : List Activity) → Coherent s → Arrives s new t → Coherent (record t { activities = t.activities ++ new })
+coherent-arrives : (s t : State) (new : List Activity) → CoherentFirst s → Arrives s new t → CoherentFirst (record t { activities = t.activities ++ new })
 coherent-arrives s t new coherent arrives =
-    subst (λ activities. Coherent (record t { activities = activities ++ new })) (sym arrives.same) (coherent-behind s t new coherent arrives.leads)
+    subst (λ activities. CoherentFirst (record t { activities = activities ++ new })) (sym arrives.same) (coherent-behind s t new coherent arrives.leads)
 
 -- readers have no activities, and are no object's rows
 arrives-reader : (s : State) (row : KeptReader) → Arrives s [] (with_row s (kept.Reader row))
@@ -120,23 +122,27 @@ module _ (s : State) (who : Identity) (at : ℤ) where
   arrives (PutNote owner name version manifest group tree) none next sound = arrives-put_note owner name version manifest group tree none
   arrives (DropNote owner name version) none next sound = arrives-drop_note owner name version
 
--- a write that is accepted keeps the state coherent
-pub coherent-after : (s : State) (write : Write) → Accepts s write → IsTrue (is_sound s) → Coherent s → Coherent (after s write.entry)
-coherent-after s write accepts sound coherent =
+-- a write that is accepted keeps the first rows coherent
+first-after : (s : State) (write : Write) → Accepts s write → IsTrue (is_sound s) → CoherentFirst s → CoherentFirst (after s write.entry)
+first-after s write accepts sound coherent =
     let is = accepted-is s write accepts in
     let at = moment_of_write s write.moment in
     let behind = arrives s is.who at write.command is.unrefused is.next sound in
-    subst (λ entry. Coherent (after s entry)) (sym is.same)
+    subst (λ entry. CoherentFirst (after s entry)) (sym is.same)
     (coherent-arrives s (with_rows (new_rows s is.who at write.command) s) (new_activities s is.who at write.command) coherent behind)
 
--- the same of a key, in the two parts that the law's clause has there
-pub chain-after : (s : State) (write : Write) (key : Key) → Accepts s write → IsTrue (is_sound s) → Coherent s
-    → Chain None (activities_of key (after s write.entry).activities) (audience_of (after s write.entry) key)
-chain-after s write key accepts sound coherent = (coherent-after s write accepts sound coherent key).0
+-- and all rows, whose names stay distinct; in the two parts that the law's clause has there
+pub chains-after : (s : State) (write : Write) (key : Key) → Accepts s write → IsTrue (is_sound s) → Coherent s
+    → All (Chain None (activities_of key (after s write.entry).activities)) (audiences_of (after s write.entry) key)
+chains-after s write key accepts sound coherent =
+    all-audiences (after s write.entry) key (sound-parts (after s write.entry) (sound-after s write accepts sound)).distinct (first-after s write accepts sound (coherent-first s coherent))
 
 pub rows-after : (s : State) (write : Write) (key : Key) → Accepts s write → IsTrue (is_sound s) → Coherent s
     → has_row (after s write.entry) key ≡ has_any (activities_of key (after s write.entry).activities)
-rows-after s write key accepts sound coherent = (coherent-after s write accepts sound coherent key).1
+rows-after s write key accepts sound coherent = (first-after s write accepts sound (coherent-first s coherent) key).1
+
+pub coherent-after : (s : State) (write : Write) → Accepts s write → IsTrue (is_sound s) → Coherent s → Coherent (after s write.entry)
+coherent-after s write accepts sound coherent key = (chains-after s write key accepts sound coherent, rows-after s write key accepts sound coherent)
 
 coherent-along : (s : State) (writes : List Write) → LegalFrom s writes → IsTrue (is_sound s) → Coherent s → Coherent (state_from s writes)
 coherent-along s [] legal sound coherent = coherent
@@ -147,10 +153,10 @@ coherent-along s (write ∷ writes) legal sound coherent =
 pub histories-coherent : (writes : List Write) → Legal writes → Coherent (state_of writes)
 histories-coherent writes legal = coherent-along empty writes legal empty-sound empty-coherent
 
-pub chain-along : (writes : List Write) (key : Key) → Legal writes → Chain None (activities_of key (state_of writes).activities) (audience_of (state_of writes) key)
-chain-along writes key legal = (histories-coherent writes legal key).0
+pub chains-along : (writes : List Write) (key : Key) → Legal writes → All (Chain None (activities_of key (state_of writes).activities)) (audiences_of (state_of writes) key)
+chains-along writes key legal = (histories-coherent writes legal key).0
 
 pub rows-along : (writes : List Write) (key : Key) → Legal writes → has_row (state_of writes) key ≡ has_any (activities_of key (state_of writes).activities)
 rows-along writes key legal = (histories-coherent writes legal key).1
 
-pub ruleset coherence = (empty-coherent, chain-after, rows-after, chain-along, rows-along)
+pub ruleset coherence = (empty-coherent, chains-after, rows-after, chains-along, rows-along)

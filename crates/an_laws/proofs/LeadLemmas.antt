@@ -13,12 +13,10 @@ use Rattle.an_machine.specs.declared.activity.Activity.{Activity}
 use Rattle.an_machine.specs.declared.entry.Row.TheVariants as kept
 use Rattle.an_machine.proofs.DistinctLemmas.{same_key-self}
 use Rattle.an_machine.proofs.ViewLemmas.{same_key-equal}
-use Rattle.an_laws.specs.Coherent.{key_of, activities_of, audience_of, has_row, Chain, has_any, Coherent}
+use Rattle.an_laws.specs.Coherent.{key_of, activities_of, has_row, Chain, has_any}
+pub use Rattle.an_laws.proofs.AudienceLemmas.{key_at}
+use Rattle.an_laws.proofs.AudienceLemmas.{audience_of, CoherentFirst}
 use Rattle.an_laws.proofs.RowLemmas.{row_of-put_row}
-
--- a manifest is told by no owner, an annotation by its own
-abbrev pub key_at : Option (List ℕ) → List ℕ → Key
-key_at owner name = record { owner = owner; name = name }
 
 -- the activities of an object lead from the audience that it has before to the one behind, and make its row where there was none
 abbrev pub LeadsAt : State → List Activity → State → Key → Type 0
@@ -70,7 +68,7 @@ pub leads-none : (s t : State) → ((key : Key) → (audience_of s key ≡ audie
 leads-none s t stays = record { at = λ key. ((stays key).0, (stays key).1 ∙ sym (or-false (has_row s key))) }
 
 -- a coherent state stays so where the activities that it is given lead to its rows
-pub coherent-behind : (s t : State) (new : List Activity) → Coherent s → Leads s new t → Coherent (record t { activities = s.activities ++ new })
+pub coherent-behind : (s t : State) (new : List Activity) → CoherentFirst s → Leads s new t → CoherentFirst (record t { activities = s.activities ++ new })
 coherent-behind s t new coherent leads key = coherent-at key s.activities new s t (coherent key).0 (coherent key).1 (leads.at key)
 
 -- ---- one activity

@@ -1,9 +1,8 @@
 -- The burials of a manifest's annotations lead to how they are left.
 use Rattle.std.proofs.Common.{◌≡◌, ℕ, ℤ, Bool, true, false, cond, ◌||◌, List, [], ◌∷◌, map, Option, Some, None, option_map, option_and_then, option_to_list, is_some, inl, inr, refl, sym, ap, ◌∙◌}
 use Rattle.std.specs.Prelude.{filter, find, IsTrue}
-use Rattle.std.specs.List.{list_any}
 use Rattle.std.proofs.Math.Bool.{or-false}
-use Rattle.std.proofs.lemmas.Bool.{cases_Bool, and_parts, or_parts, cond-false}
+use Rattle.std.proofs.lemmas.Bool.{cases_Bool}
 use Rattle.an_base.specs.Outcome.{only_if}
 use Rattle.an_keyed.specs.Key.{Key, same_key}
 use Rattle.an_policy.specs.Audience.{Identity}
@@ -14,7 +13,7 @@ use Rattle.an_machine.specs.declared.activity.Activity.{Activity}
 use Rattle.an_machine.proofs.DistinctLemmas.{notes-distinct}
 use Rattle.an_machine.proofs.ViewLemmas.{one_shown}
 use Rattle.an_laws.specs.Coherent.{activities_of, Chain, has_any}
-use Rattle.an_laws.proofs.RowLemmas.{distinct-filter, none-behind, row_of-find}
+use Rattle.an_laws.proofs.RowLemmas.{distinct-filter, one_of, row_of-find}
 use Rattle.an_laws.proofs.BurialLemmas.{as_left, left_state, note_row-left}
 use Rattle.an_laws.proofs.LeadLemmas.{key_at, LeadsAt, Leads}
 
@@ -24,24 +23,9 @@ module _ {R : Type 0} (key : R → Key) (wanted : Key) where
   abbrev has : R → Bool
   has row = same_key (key row) wanted
 
-  -- where none has the key there is none
-  none_of : (rows : List R) → list_any has rows ≡ false → filter has rows ≡ []
-  none_of [] none = refl
-  none_of (row ∷ rows) none =
-      let parts = or_parts (has row) (list_any has rows) none in
-      cond-false _ _ _ parts.0 ∙ none_of rows parts.1
-
-  -- else there is the first that has it
-  one_of : (rows : List R) → keys_are_distinct key rows ≡ true → filter has rows ≡ option_to_list (find has rows)
-  one_of [] distinct = refl
-  one_of (row ∷ rows) distinct = elim (cases_Bool (has row)) [
-    | inl is ↦ let none = none_of rows (none-behind key row wanted rows is distinct) in rw (is, none) refl
-    | inr isnt ↦ rw isnt (one_of rows (and_parts _ _ distinct).1)
-  ]
-
-  -- and among those that pass there is that one, if it passes
+  -- among those that pass there is the one that has the key, if it passes
   one_passes : (shows : R → Bool) (rows : List R) → keys_are_distinct key rows ≡ true → filter has (filter shows rows) ≡ option_to_list (option_and_then (only_if shows) (find has rows))
-  one_passes shows rows distinct = one_of (filter shows rows) (distinct-filter key shows rows distinct) ∙ ap option_to_list (one_shown key shows wanted rows distinct)
+  one_passes shows rows distinct = one_of key wanted (filter shows rows) (distinct-filter key shows rows distinct) ∙ ap option_to_list (one_shown key shows wanted rows distinct)
 
 -- ---- the burials of one key
 

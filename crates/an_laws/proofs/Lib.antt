@@ -1,3 +1,4 @@
+pub mod AudienceLemmas
 pub mod BurialLemmas
 pub mod CoherentLemmas
 pub mod DropLemmas

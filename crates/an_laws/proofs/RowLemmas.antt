@@ -1,8 +1,8 @@
 -- Rows and their keys: what is found under a key behind rows that are put, and which keys stay distinct.
 use Rattle.std.proofs.Common.{◌≡◌, Bool, true, false, cond, List, [], ◌∷◌, Some, inl, inr, refl, sym, ap, subst, ◌∙◌}
-use Rattle.std.specs.Prelude.{filter, find}
+use Rattle.std.specs.Prelude.{filter, find, option_to_list}
 use Rattle.std.specs.List.{list_any}
-use Rattle.std.proofs.lemmas.Bool.{cases_Bool, both_ways, and_parts, and_from, or_parts, or_from, not-true, not_from_false, cond_both}
+use Rattle.std.proofs.lemmas.Bool.{cases_Bool, both_ways, and_parts, and_from, or_parts, or_from, not-true, not_from_false, cond-false, cond_both}
 use Rattle.an_keyed.specs.Key.{Key, same_key}
 use Rattle.an_keyed.specs.Rows.{row_of, put_row}
 use Rattle.an_machine.specs.State.{keys_are_distinct}
@@ -68,3 +68,18 @@ module _ {R : Type 0} (key : R → Key) where
       cond_both (test row) (row ∷ filter test rows) (filter test rows) (λ l. keys_are_distinct key l ≡ true)
       (λ h. and_from _ _ (not_from_false _ (none-filter test (key row) rows (not-true _ parts.0))) (distinct-filter test rows parts.1))
       (λ h. distinct-filter test rows parts.1)
+
+  -- where none has the key there is none
+  none_of : (wanted : Key) (rows : List R) → list_any (λ row. same_key (key row) wanted) rows ≡ false → filter (λ row. same_key (key row) wanted) rows ≡ []
+  none_of wanted [] none = refl
+  none_of wanted (row ∷ rows) none =
+      let parts = or_parts (same_key (key row) wanted) (list_any (λ r. same_key (key r) wanted) rows) none in
+      cond-false _ _ _ parts.0 ∙ none_of wanted rows parts.1
+
+  -- else there is the first that has it
+  pub one_of : (wanted : Key) (rows : List R) → keys_are_distinct key rows ≡ true → filter (λ row. same_key (key row) wanted) rows ≡ option_to_list (find (λ row. same_key (key row) wanted) rows)
+  one_of wanted [] distinct = refl
+  one_of wanted (row ∷ rows) distinct = elim (cases_Bool (same_key (key row) wanted)) [
+    | inl is ↦ let none = none_of wanted rows (none-behind row wanted rows is distinct) in rw (is, none) refl
+    | inr isnt ↦ rw isnt (one_of wanted rows (and_parts _ _ distinct).1)
+  ]

@@ -1,10 +1,12 @@
 -- What a caller saw of an object tells whether the object is in its view.
-use Rattle.std.proofs.Common.{◌≡◌, ℕ, Bool, true, false, cond, ◌&&◌, List, [], ◌∷◌, Option, Some, None, option_map, option_and_then, is_some, inl, inr, refl, sym, ap, ◌∙◌}
-use Rattle.std.specs.Prelude.{filter, IsTrue}
+use Rattle.std.proofs.Common.{◌≡◌, ℕ, Bool, true, false, cond, ◌&&◌, List, [], ◌∷◌, Option, Some, None, option_map, option_and_then, is_some, map, inl, inr, refl, sym, ap, ◌∙◌}
+use Rattle.std.specs.Prelude.{All, filter, find}
 use Rattle.std.specs.Option.{option_or}
 use Rattle.std.specs.List.{last_or, cons_option}
+use Rattle.std.proofs.Math.Bool.{and-false}
 use Rattle.std.proofs.lemmas.Bool.{cases_Bool, cond-true, cond-false}
-use Rattle.an_base.specs.Outcome.{passes, only_if}
+use Rattle.std.proofs.lemmas.List.Elements.{All-nil, All-cons, All-head, All-tail}
+use Rattle.an_base.specs.Outcome.{passes}
 use Rattle.an_keyed.specs.Key.{Key, same_key}
 use Rattle.an_policy.specs.Audience.{Identity, may}
 use Rattle.an_policy.specs.Seen.{reads, as_seen}
@@ -12,24 +14,18 @@ use Rattle.an_policy.specs.declared.group.Audience.{Audience}
 use Rattle.an_policy.specs.declared.kind.Kind.{Kind}
 use Rattle.an_policy.specs.declared.kind.Kind.TheVariants.{Create, Update, Delete}
 use Rattle.an_machine.specs.Accepted.{audience_of_manifest, audience_of_note}
-use Rattle.an_machine.specs.State.{State, KeptManifest, KeptNote, LiveManifest, LiveNote, manifest_row, note_row, is_distinct}
+use Rattle.an_machine.specs.State.{State, KeptManifest, KeptNote, LiveManifest, LiveNote, manifest_key, note_key, manifest_row, note_row}
 use Rattle.an_machine.specs.View.{view_of, manifest_audience, note_audience, shows_manifest, shows_note, object_of_activity, seen_by}
 use Rattle.an_machine.specs.declared.activity.Activity.{Activity}
 use Rattle.an_machine.specs.declared.activity.Seen.{Seen}
 use Rattle.an_machine.specs.declared.command.Object.TheVariants as object
-use Rattle.an_machine.proofs.DistinctLemmas.{manifests-distinct, notes-distinct}
-use Rattle.an_machine.proofs.ViewLemmas.{manifest_in-distinct, note_in-distinct}
-use Rattle.an_laws.specs.Coherent.{key_of, activities_of, audience_of, Chain, Coherent, is_in_view, key_of_object, is_change_of, is_there, is_told}
+use Rattle.an_laws.specs.Coherent.{key_of, activities_of, Chain, Coherent, is_in_view, key_of_object, is_change_of, is_there, is_told}
 use Rattle.an_laws.specs.Legal.{Write, Legal, state_of}
+use Rattle.an_laws.proofs.AudienceLemmas.{key_at, audience_of, coherent-first}
 use Rattle.an_laws.proofs.CoherentLemmas.{histories-coherent}
-use Rattle.an_laws.proofs.SoundLemmas.{histories-sound}
-use Rattle.an_laws.proofs.SoundParts.{sound-parts}
+use Rattle.an_laws.proofs.RowLemmas.{row_of-find}
 
 -- ---- what is in the view
-
-is_some-only_if : {A : Type 0} (test : A → Bool) (found : Option A) → is_some (option_and_then (only_if test) found) ≡ passes test found
-is_some-only_if test None = refl
-is_some-only_if test (Some x) = elim (test x) as (λ b. is_some (cond b (Some x) None) ≡ b) [ true ↦ refl | false ↦ refl ]
 
 passes-option_map : {A B : Type 0} (test : B → Bool) (f : A → B) (o : Option A) → passes test (option_map f o) ≡ passes (λ x. test (f x)) o
 passes-option_map test f None = refl
@@ -55,17 +51,70 @@ note_shown : (s : State) (who : Identity) (found : Option KeptNote) → passes (
 note_shown s who None = refl
 note_shown s who (Some row) = note_live s who row row.live
 
--- an object is in the view of who may read it
-in_view : (s : State) (who : Identity) (owner : Option (List ℕ)) (name : List ℕ) → IsTrue (is_distinct s)
-    → is_in_view (view_of s who) (record { owner = owner; name = name }) ≡ reads who (audience_of s (record { owner = owner; name = name }))
-in_view s who None name distinct =
-    ap is_some (sym (manifest_in-distinct s who name (manifests-distinct s distinct)))
-    ∙ is_some-only_if (shows_manifest who) (manifest_row s name)
-    ∙ manifest_shown who (manifest_row s name)
-in_view s who (Some owner) name distinct =
-    ap is_some (sym (note_in-distinct s who owner name (notes-distinct s distinct)))
-    ∙ is_some-only_if (shows_note s who) (note_row s owner name)
-    ∙ note_shown s who (note_row s owner name)
+module _ {R : Type 0} (has shows : R → Bool) (b : Bool) where
+  -- the same where the first row has the key
+  shown-here : (row : R) (rows : List R) → has row ≡ true → shows row ≡ b → (b ≡ false → is_some (find has (filter shows rows)) ≡ (is_some (find has rows) && b))
+      → is_some (find has (filter shows (row ∷ rows))) ≡ (is_some (find has (row ∷ rows)) && b)
+  shown-here row rows is same later = elim (cases_Bool b) [
+    | inl shown ↦ let also : shows row ≡ true = same ∙ shown in rw (also, is, shown) refl
+    | inr hidden ↦
+        let also : shows row ≡ false = same ∙ hidden in
+        rw (also, is) (later hidden ∙ ap (λ x. is_some (find has rows) && x) hidden ∙ and-false (is_some (find has rows)) ∙ sym hidden)
+  ]
+
+  -- where the rows that have a key are all shown or all hidden, one of them is among those shown exactly where they are and there is one
+  shown-alike : (rows : List R) → All (λ row. shows row ≡ b) (filter has rows) → is_some (find has (filter shows rows)) ≡ (is_some (find has rows) && b)
+  shown-alike [] alike = refl
+  shown-alike (row ∷ rows) alike = elim (cases_Bool (has row)) [
+    | inl is ↦
+        let both = rw is at alike in
+        shown-here row rows is (All-head (λ r. shows r ≡ b) row (filter has rows) both) (λ hidden. shown-alike rows (All-tail (λ r. shows r ≡ b) row (filter has rows) both))
+    | inr isnt ↦ elim (cases_Bool (shows row)) [
+      | inl shown ↦ rw (shown, isnt) (shown-alike rows (rw isnt at alike))
+      | inr hidden ↦ rw (hidden, isnt) (shown-alike rows (rw isnt at alike))
+    ]
+  ]
+
+-- a chain has one end
+one_end : (before : Option Audience) (activities : List Activity) (one other : Option Audience) → Chain before activities one → Chain before activities other → one ≡ other
+one_end before [] one other first second = sym first ∙ second
+one_end before (activity ∷ activities) one other first second = one_end activity.after activities one other first.1 second.1
+
+-- who may read what is there, if anything is
+there-reads : {R : Type 0} (who : Identity) (f : R → Option Audience) (found : Option R) → (is_some found && reads who (option_and_then f found)) ≡ reads who (option_and_then f found)
+there-reads who f None = refl
+there-reads who f (Some row) = refl
+
+module _ {R : Type 0} (s : State) (who : Identity) (key : Key) (f : R → Option Audience) (has shows : R → Bool)
+    (shown : (row : R) → shows row ≡ reads who (f row)) (rows : List R) where
+  -- rows whose activities are the same are shown alike
+  alike : (xs : List R) → All (Chain None (activities_of key s.activities)) (map f xs) → (end : Option Audience) → Chain None (activities_of key s.activities) end
+      → All (λ row. shows row ≡ reads who end) xs
+  alike [] chains end chain = All-nil _
+  alike (row ∷ xs) chains end chain =
+      All-cons (λ r. shows r ≡ reads who end) row xs
+      (shown row ∙ ap (reads who) (one_end None (activities_of key s.activities) (f row) end (All-head (Chain None (activities_of key s.activities)) (f row) (map f xs) chains) chain))
+      (alike xs (All-tail (Chain None (activities_of key s.activities)) (f row) (map f xs) chains) end chain)
+
+  -- one of them is among those shown exactly where the first may be read
+  shown-first : (found : Option R) → find has rows ≡ found → All (Chain None (activities_of key s.activities)) (map f (filter has rows)) → Chain None (activities_of key s.activities) (option_and_then f found)
+      → is_some (find has (filter shows rows)) ≡ reads who (option_and_then f found)
+  shown-first found is chains chain =
+      shown-alike has shows (reads who (option_and_then f found)) rows (alike (filter has rows) chains (option_and_then f found) chain)
+      ∙ ap (λ o. is_some o && reads who (option_and_then f found)) is
+      ∙ there-reads who f found
+
+-- in a coherent state an object is in the view of who may read it
+in_view : (s : State) (who : Identity) (owner : Option (List ℕ)) (name : List ℕ) → Coherent s
+    → is_in_view (view_of s who) (key_at owner name) ≡ reads who (audience_of s (key_at owner name))
+in_view s who None name coherent =
+    shown-first s who (key_at None name) audience_of_manifest (λ row. same_key (manifest_key row) (key_at None name)) (shows_manifest who)
+    (λ row. manifest_shown who (Some row)) s.manifests (manifest_row s name) (sym (row_of-find manifest_key (key_at None name) s.manifests))
+    (coherent (key_at None name)).0 (coherent-first s coherent (key_at None name)).0
+in_view s who (Some owner) name coherent =
+    shown-first s who (key_at (Some owner) name) (audience_of_note s) (λ row. same_key (note_key row) (key_at (Some owner) name)) (shows_note s who)
+    (λ row. note_shown s who (Some row)) s.notes (note_row s owner name) (sym (row_of-find note_key (key_at (Some owner) name) s.notes))
+    (coherent (key_at (Some owner) name)).0 (coherent-first s coherent (key_at (Some owner) name)).0
 
 -- ---- what was seen
 
@@ -130,16 +179,15 @@ module _ (who : Identity) (key : Key) where
 
 -- ---- the law
 
-pub view-told : (s : State) (who : Identity) (key : Key) → IsTrue (is_distinct s) → Coherent s
+pub view-told : (s : State) (who : Identity) (key : Key) → Coherent s
     → is_in_view (view_of s who) key ≡ is_told (view_of s who).seen key
-view-told s who key distinct coherent =
-    in_view s who key.owner key.name distinct
-    ∙ sym (tells-last who key s.activities None None (audience_of s key) refl (coherent key).0)
+view-told s who key coherent =
+    in_view s who key.owner key.name coherent
+    ∙ sym (tells-last who key s.activities None None (audience_of s key) refl (coherent-first s coherent key).0)
 
 -- and so it is behind each legal history
 pub histories-told : (writes : List Write) (who : Identity) (key : Key) → Legal writes
     → is_in_view (view_of (state_of writes) who) key ≡ is_told (view_of (state_of writes) who).seen key
-histories-told writes who key legal =
-    view-told (state_of writes) who key (sound-parts (state_of writes) (histories-sound writes legal)).distinct (histories-coherent writes legal)
+histories-told writes who key legal = view-told (state_of writes) who key (histories-coherent writes legal)
 
 pub ruleset told = (view-told, histories-told)

@@ -1,12 +1,12 @@
 -- How the activities tell the rows: what the change stream says of an object is how the object stands.
-use Rattle.std.specs.Prelude.{◌≡◌, List, [], ◌∷◌, Bool, true, false, is_some, filter, Option, None, Some, option_and_then}
+use Rattle.std.specs.Prelude.{◌≡◌, List, [], ◌∷◌, Bool, true, false, is_some, All, filter, map, Option, None, Some}
 use Rattle.std.specs.List.{last_or}
 use Rattle.an_base.specs.Outcome.{passes}
 use Rattle.an_keyed.specs.Key.{Key, same_key}
 use Rattle.an_policy.specs.declared.group.Audience.{Audience}
 use Rattle.an_policy.specs.declared.kind.Kind.{Kind}
 use Rattle.an_policy.specs.declared.kind.Kind.TheVariants.{Create, Update, Delete}
-use Rattle.an_machine.specs.State.{State, manifest_row, note_row}
+use Rattle.an_machine.specs.State.{State, manifest_key, note_key, manifest_row, note_row}
 use Rattle.an_machine.specs.View.{View, manifest_in, note_in}
 use Rattle.an_machine.specs.Accepted.{audience_of_manifest, audience_of_note}
 use Rattle.an_machine.specs.declared.activity.Activity.{Activity}
@@ -22,11 +22,11 @@ key_of activity = record { owner = activity.owner; name = activity.name }
 abbrev pub activities_of : Key → List Activity → List Activity
 activities_of key activities = filter (λ activity. same_key (key_of activity) key) activities
 
--- who may read the object, while it is live
-abbrev pub audience_of : State → Key → Option Audience
-audience_of s key = elim key.owner [
-  | None ↦ option_and_then audience_of_manifest (manifest_row s key.name)
-  | Some owner ↦ option_and_then (audience_of_note s) (note_row s owner key.name)
+-- who may read the object, by each of its rows: nobody by a tombstone
+abbrev pub audiences_of : State → Key → List (Option Audience)
+audiences_of s key = elim key.owner [
+  | None ↦ map audience_of_manifest (filter (λ row. same_key (manifest_key row) key) s.manifests)
+  | Some owner ↦ map (audience_of_note s) (filter (λ row. same_key (note_key row) key) s.notes)
 ]
 
 abbrev pub has_row : State → Key → Bool
@@ -44,9 +44,9 @@ abbrev pub has_any : List Activity → Bool
 has_any [] = false
 has_any (activity ∷ activities) = true
 
--- the activities of each object lead from no audience to the one that it has, and an object has activities exactly where it has a row
+-- the activities of each object lead from no audience to the one that each of its rows has, and an object has activities exactly where it has a row
 abbrev pub Coherent : State → Type 0
-Coherent s = (key : Key) → Chain None (activities_of key s.activities) (audience_of s key) × (has_row s key ≡ has_any (activities_of key s.activities))
+Coherent s = (key : Key) → All (Chain None (activities_of key s.activities)) (audiences_of s key) × (has_row s key ≡ has_any (activities_of key s.activities))
 
 -- ---- what a caller sees
 
