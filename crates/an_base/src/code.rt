@@ -2,7 +2,7 @@ ghost use Rattle.std.specs.Prelude.{◌≡◌};
 ghost use Rattle.an_base.specs.Code.{code_text};
 
 /// Why a request or a line was refused, for whoever sent it. `at` is the place of what is malformed,
-/// from 0; `current` is the number that the object has.
+/// from 0; `current` is the number that the object has, 0 where it never was.
 #[derive(Clone, Copy, Debug, PartialEq, Eq)]
 pub enum Code {
     /// The line isn't UTF-8, or hasn't the words of a line.
@@ -61,7 +61,7 @@ pub enum Code {
     GroupFixed,
     /// Another live reader has the token.
     TokenTaken,
-    /// The number is neither the one after `current`, nor `current` with the write that gave it.
+    /// The write is neither the next of its object nor done already; the object's number is `current`.
     Version { current: u32 },
     /// The annotation was there for the caller, and isn't any more.
     Gone,

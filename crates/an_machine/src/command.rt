@@ -267,7 +267,8 @@ pub enum Refused {
     GroupFixed,
     /// Another live reader has the token.
     TokenTaken,
-    /// No write of this object is due with this number: the row's is `current`, or 0 without a row.
+    /// The write is neither the next of its object nor done already. The row's number is `current`, or
+    /// 0 without a row.
     Version { current: u32 },
     /// Memory ran out. It may stand in place of any answer.
     Memory,

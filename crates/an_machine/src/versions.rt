@@ -29,7 +29,7 @@ pub enum Ruling {
     Next,
     /// It was done already.
     Again,
-    /// It is neither: its number or its content is another.
+    /// It is neither: its number is another, or its content, or there is nothing to delete.
     Neither,
 }
 
