@@ -1,14 +1,10 @@
 -- For private clauses: whether two values are the same, level by level. Where every number is whole, this tells whether they have one text.
-use Rattle.std.specs.Prelude.{Bool, true, false, not, ◌&&◌, nat_eq, bytes_eq, is_some, Option, Some, None}
+use Rattle.std.specs.Prelude.{Bool, true, false, not, ◌&&◌, nat_eq, bytes_eq, is_some}
 use Rattle.std.specs.Ordering.{int_eq}
 use Rattle.std.specs.Option.{option_eq}
 use Rattle.serde_json.specs.Data.{Num, Data, null, boolean, number, string, array, object, Items, no_items, item, Members, no_members, member}
 use Rattle.serde_json.specs.Find.{as_null, as_bool, as_number, as_str, as_array, as_object, as_u64, as_i64}
-
--- the value is there, and passes the test
-abbrev pub is_there_and : {A : Type 0} → Option A → (A → Bool) → Bool
-is_there_and None test = false
-is_there_and (Some value) test = test value
+use Rattle.an_base.specs.Outcome.{passes}
 
 -- the same whole number
 abbrev pub same_number : Num → Num → Bool
@@ -22,11 +18,11 @@ same_flag false b = not b
 abbrev mutual
   pub same : Data → Data → Bool
   same null other = is_some (as_null other)
-  same (boolean b) other = is_there_and (as_bool other) (same_flag b)
-  same (number n) other = is_there_and (as_number other) (same_number n)
-  same (string text) other = is_there_and (as_str other) (bytes_eq text)
-  same (array items) other = is_there_and (as_array other) (same_items items)
-  same (object fields) other = is_there_and (as_object other) (same_members fields)
+  same (boolean b) other = passes (same_flag b) (as_bool other)
+  same (number n) other = passes (same_number n) (as_number other)
+  same (string text) other = passes (bytes_eq text) (as_str other)
+  same (array items) other = passes (same_items items) (as_array other)
+  same (object fields) other = passes (same_members fields) (as_object other)
 
   pub same_items : Items → Items → Bool
   same_items no_items no_items = true
