@@ -1,5 +1,5 @@
 -- What a caller saw of an object tells whether the object is in its view.
-use Rattle.std.proofs.Common.{◌≡◌, ℕ, Bool, true, false, cond, ◌&&◌, List, [], ◌∷◌, Option, Some, None, option_map, option_and_then, is_some, map, inl, inr, refl, sym, ap, ◌∙◌}
+use Rattle.std.proofs.Common.{◌≡◌, ℕ, Bool, true, false, not, cond, ◌&&◌, List, [], ◌∷◌, Option, Some, None, option_map, option_and_then, is_some, map, inl, inr, refl, sym, ap, ◌∙◌}
 use Rattle.std.specs.Prelude.{All, filter, find}
 use Rattle.std.specs.Option.{option_or}
 use Rattle.std.specs.List.{last_or, cons_option}
@@ -9,17 +9,17 @@ use Rattle.std.proofs.lemmas.List.Elements.{All-nil, All-cons, All-head, All-tai
 use Rattle.an_base.specs.Outcome.{passes}
 use Rattle.an_keyed.specs.Key.{Key, same_key}
 use Rattle.an_policy.specs.Audience.{Identity, may}
-use Rattle.an_policy.specs.Seen.{reads, as_seen}
+use Rattle.an_policy.specs.Seen.{reads, as_seen, is_deletion}
 use Rattle.an_policy.specs.declared.group.Audience.{Audience}
 use Rattle.an_policy.specs.declared.kind.Kind.{Kind}
 use Rattle.an_policy.specs.declared.kind.Kind.TheVariants.{Create, Update, Delete}
 use Rattle.an_machine.specs.Accepted.{audience_of_manifest, audience_of_note}
 use Rattle.an_machine.specs.State.{State, KeptManifest, KeptNote, LiveManifest, LiveNote, manifest_key, note_key, manifest_row, note_row}
-use Rattle.an_machine.specs.View.{view_of, manifest_audience, note_audience, shows_manifest, shows_note, object_of_activity, seen_by}
+use Rattle.an_machine.specs.View.{view_of, manifest_audience, note_audience, shows_manifest, shows_note, object_of_activity, seen_by, key_of_object, is_change_of}
 use Rattle.an_machine.specs.declared.activity.Activity.{Activity}
 use Rattle.an_machine.specs.declared.activity.Seen.{Seen}
 use Rattle.an_machine.specs.declared.command.Object.TheVariants as object
-use Rattle.an_laws.specs.Coherent.{key_of, activities_of, Chain, Coherent, is_in_view, key_of_object, is_change_of, is_there, is_told}
+use Rattle.an_laws.specs.Coherent.{key_of, activities_of, Chain, Coherent, is_in_view, is_told}
 use Rattle.an_laws.specs.Legal.{Write, Legal, state_of}
 use Rattle.an_laws.proofs.AudienceLemmas.{key_at, audience_of, coherent-first}
 use Rattle.an_laws.proofs.CoherentLemmas.{histories-coherent}
@@ -147,7 +147,7 @@ last_or-cons_option start None rest = refl
 last_or-cons_option start (Some x) rest = refl
 
 abbrev tells : Option Seen → Bool
-tells last = passes (λ its. is_there its.kind) last
+tells last = passes (λ its. not (is_deletion its.kind)) last
 
 -- behind a change the last that was seen tells whether the object can be read
 tells-behind : (activity : Activity) (start : Option Seen) (was is : Bool) → tells start ≡ was

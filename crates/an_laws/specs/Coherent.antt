@@ -1,18 +1,14 @@
 -- How the activities tell the rows: what the change stream says of an object is how the object stands.
-use Rattle.std.specs.Prelude.{◌≡◌, List, [], ◌∷◌, Bool, true, false, is_some, All, filter, map, Option, None, Some}
-use Rattle.std.specs.List.{last_or}
+use Rattle.std.specs.Prelude.{◌≡◌, List, [], ◌∷◌, Bool, true, false, not, is_some, All, filter, map, Option, None, Some}
 use Rattle.an_base.specs.Outcome.{passes}
 use Rattle.an_keyed.specs.Key.{Key, same_key}
 use Rattle.an_policy.specs.declared.group.Audience.{Audience}
-use Rattle.an_policy.specs.declared.kind.Kind.{Kind}
-use Rattle.an_policy.specs.declared.kind.Kind.TheVariants.{Create, Update, Delete}
+use Rattle.an_policy.specs.Seen.{is_deletion}
 use Rattle.an_machine.specs.State.{State, manifest_key, note_key, manifest_row, note_row}
-use Rattle.an_machine.specs.View.{View, manifest_in, note_in}
+use Rattle.an_machine.specs.View.{View, manifest_in, note_in, last_change}
 use Rattle.an_machine.specs.Accepted.{audience_of_manifest, audience_of_note}
 use Rattle.an_machine.specs.declared.activity.Activity.{Activity}
 use Rattle.an_machine.specs.declared.activity.Seen.{Seen}
-use Rattle.an_machine.specs.declared.command.Object.{Object}
-use Rattle.an_machine.specs.declared.command.Object.TheVariants as object
 
 -- a manifest is told by its name, an annotation by its owner and its name
 abbrev pub key_of : Activity → Key
@@ -57,21 +53,6 @@ is_in_view view key = elim key.owner [
   | Some owner ↦ is_some (note_in view owner key.name)
 ]
 
-abbrev pub key_of_object : Object → Option Key
-key_of_object (object.Reader name) = None
-key_of_object (object.Manifest name) = Some (record { owner = None; name = name })
-key_of_object (object.Note owner name) = Some (record { owner = Some owner; name = name })
-
--- a change that the caller sees is of this object
-abbrev pub is_change_of : Key → Seen → Bool
-is_change_of key seen = passes (λ its. same_key its key) (key_of_object seen.object)
-
--- what is there behind a change
-abbrev pub is_there : Kind → Bool
-is_there Create = true
-is_there Update = true
-is_there Delete = false
-
--- the last change of the object that the caller sees makes it or changes it
+-- the caller saw a change of the object, and the last one was no deletion
 abbrev pub is_told : List Seen → Key → Bool
-is_told seen key = passes (λ change. is_there change.kind) (last_or None (filter (is_change_of key) seen))
+is_told seen key = passes (λ change. not (is_deletion change.kind)) (last_change key seen)

@@ -1,6 +1,7 @@
 -- What a caller may read.
 use Rattle.std.specs.Prelude.{ℕ, ◌+◌, List, [], ◌∷◌, Bool, ◌&&◌, if◌then◌else◌, bytes_eq, filter, find, is_some, Option, Some, None, option_map}
-use Rattle.std.specs.List.{filter_map}
+use Rattle.std.specs.List.{filter_map, last_or}
+use Rattle.an_keyed.specs.Key.{Key, same_key}
 use Rattle.an_policy.specs.declared.group.Audience.{Audience}
 use Rattle.an_policy.specs.declared.group.Group.TheVariants.{Public}
 use Rattle.an_policy.specs.Audience.{Identity, may}
@@ -38,6 +39,20 @@ seen_as who activity = option_map (λ kind. record { moment = activity.at; objec
 -- the activities that the caller sees, in their order
 abbrev pub seen_by : Identity → List Activity → List Seen
 seen_by who activities = filter_map (seen_as who) activities
+
+-- a manifest is told by its name, an annotation by its owner and its name
+abbrev pub key_of_object : Object → Option Key
+key_of_object (object.Reader name) = None
+key_of_object (object.Manifest name) = Some (record { owner = None; name = name })
+key_of_object (object.Note owner name) = Some (record { owner = Some owner; name = name })
+
+-- a change that the caller sees is of this object
+abbrev pub is_change_of : Key → Seen → Bool
+is_change_of key seen = passes (λ its. same_key its key) (key_of_object seen.object)
+
+-- the last change of this object that the caller sees
+abbrev pub last_change : Key → List Seen → Option Seen
+last_change key seen = last_or None (filter (is_change_of key) seen)
 
 -- the live manifests and the live annotations that the caller may read, and the activities that it sees, in their order
 pub record View : Type 0 where

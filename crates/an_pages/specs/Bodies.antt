@@ -1,17 +1,14 @@
 -- The bodies of answers that show one thing.
-use Rattle.std.specs.Prelude.{ℕ, List, Bool, true, false, ◌&&◌, bytes_eq, codes, filter, if◌then◌else◌, Option, None, option_map, option_and_then, ok_or, Result}
-use Rattle.std.specs.List.{last_or}
+use Rattle.std.specs.Prelude.{ℕ, List, Bool, codes, if◌then◌else◌, Option, Some, option_map, option_and_then, ok_or, Result}
 use Rattle.serde_json.specs.Data.{string}
 use Rattle.serde_json.specs.Written.{compact_text}
 use Rattle.an_manifest.specs.Dress.{dressed}
 use Rattle.an_base.specs.Object.{with_member}
 use Rattle.an_base.specs.Outcome.{passes}
-use Rattle.an_policy.specs.declared.kind.Kind.{Kind}
-use Rattle.an_policy.specs.declared.kind.Kind.TheVariants.{Create, Update, Delete}
+use Rattle.an_policy.specs.Seen.{is_deletion}
 use Rattle.an_machine.specs.State.{KeptManifest, KeptNote, LiveManifest, LiveNote}
-use Rattle.an_machine.specs.View.{View, manifest_in, note_in}
+use Rattle.an_machine.specs.View.{View, manifest_in, note_in, last_change}
 use Rattle.an_machine.specs.declared.activity.Seen.{Seen}
-use Rattle.an_machine.specs.declared.command.Object.TheVariants as object
 use Rattle.an_search.specs.Listed.{listed_live}
 use Rattle.an_search.specs.Site.{Site}
 use Rattle.an_pages.specs.declared.error.PageError.{PageError}
@@ -41,18 +38,9 @@ shown_live site row live = compact_text (with_member (codes "@context") (string 
 abbrev pub note_body : Site → KeptNote → Option (List ℕ)
 note_body site row = option_map (shown_live site row) row.live
 
-abbrev pub is_deletion : Kind → Bool
-is_deletion Create = false
-is_deletion Update = false
-is_deletion Delete = true
-
--- the annotation that a change was of
-abbrev pub is_of_note : List ℕ → List ℕ → Seen → Bool
-is_of_note owner name seen = elim seen.object [ object.Reader other ↦ false | object.Manifest other ↦ false | object.Note its_owner its_name ↦ bytes_eq its_owner owner && bytes_eq its_name name ]
-
 -- the last change of the annotation that the caller saw was its deletion
 abbrev pub was_deleted : List Seen → List ℕ → List ℕ → Bool
-was_deleted seen owner name = passes (λ change. is_deletion change.kind) (last_or None (filter (is_of_note owner name) seen))
+was_deleted seen owner name = passes (λ change. is_deletion change.kind) (last_change (record { owner = Some owner; name = name }) seen)
 
 -- why an annotation isn't shown: it is gone where the caller saw it go
 abbrev pub missing_note : View → List ℕ → List ℕ → PageError

@@ -1,5 +1,4 @@
-ghost use Rattle.std.specs.Prelude.{◌≡◌, false, codes, filter, if◌then◌else◌, IfOk, IfSome, IsTrue, None, Some, Ok, option_and_then};
-ghost use Rattle.std.specs.List.{last_or};
+ghost use Rattle.std.specs.Prelude.{◌≡◌, false, codes, if◌then◌else◌, IfOk, IfSome, IsTrue, None, Some, Ok, option_and_then};
 ghost use Rattle.std.specs.Option.{option_copied};
 ghost use Rattle.serde_json.specs.Data.{string};
 ghost use Rattle.serde_json.specs.View.{view};
@@ -7,9 +6,10 @@ ghost use Rattle.serde_json.specs.Written.{has_float, compact_text};
 ghost use Rattle.an_base.specs.Object.{with_member};
 ghost use Rattle.an_base.specs.Outcome.{Gives};
 ghost use Rattle.an_policy.specs.Audience.{identity};
+ghost use Rattle.an_policy.specs.Seen.{is_deletion};
 ghost use Rattle.an_machine.specs.State.{notes_are_distinct};
-ghost use Rattle.an_machine.specs.View.{note_in, view_of};
-ghost use Rattle.an_pages.specs.Bodies.{note_body, is_deletion, is_of_note, was_deleted, note_context, annotation_of_view};
+ghost use Rattle.an_machine.specs.View.{note_in, view_of, is_change_of, last_change};
+ghost use Rattle.an_pages.specs.Bodies.{note_body, was_deleted, note_context, annotation_of_view};
 
 use crate::error::PageError;
 use an_base::{Bytes, Name, tree_text, with_member};
@@ -92,19 +92,19 @@ fn was_deleted(seen: &[Seen], owner: &Name, name: &Name) -> bool
 }
 
 fn last_change<'a>(seen: &'a [Seen], owner: &Name, name: &Name) -> Option<&'a Seen>
-    ensures { option_copied result ≡ last_or None (filter (is_of_note owner.now name.now) seen.now) }
+    ensures { option_copied result ≡ last_change (record { owner = Some owner.now; name = name.now }) seen.now }
 {
     let mut last = None;
     for change in seen {
-        if is_of_note(change, owner, name) {
+        if is_change_of(change, owner, name) {
             last = Some(change);
         }
     }
     last
 }
 
-fn is_of_note(change: &Seen, owner: &Name, name: &Name) -> bool
-    ensures { result ≡ is_of_note owner.now name.now change.now }
+fn is_change_of(change: &Seen, owner: &Name, name: &Name) -> bool
+    ensures { result ≡ is_change_of (record { owner = Some owner.now; name = name.now }) change.now }
 {
     match &change.object {
         Object::Reader(_) => false,
