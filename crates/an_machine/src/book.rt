@@ -111,9 +111,10 @@ impl Book {
         self.notes.find(Some(owner), name)
     }
 
-    /// Takes the memory that the entry needs.
+    /// Takes the memory that the entry needs. No room is lost, also where memory runs out.
     pub fn room(&mut self, entry: &Entry) -> Result<(), AllocError>
         ensures ok { OnOk result (needs entry.now ≤ self.new.room) }
+        ensures kept { self.old.room ≤ self.new.room }
         ensures state { self.new.state ≡ self.old.state }
     {
         self.make_room(entry.size())
@@ -121,6 +122,7 @@ impl Book {
 
     fn make_room(&mut self, more: usize) -> Result<(), AllocError>
         ensures ok { OnOk result (more ≤ self.new.room) }
+        ensures kept { self.old.room ≤ self.new.room }
         ensures state { self.new.state ≡ self.old.state }
     {
         if self.room < more {
@@ -133,10 +135,11 @@ impl Book {
         Ok(())
     }
 
-    /// The state with the entry. It takes no memory.
+    /// The state with the entry, and as much less room as the entry needs. It takes no memory.
     pub fn apply(&mut self, entry: Entry)
         requires room { needs entry ≤ self.old.room }
         ensures state { self.new.state ≡ after self.old.state entry }
+        ensures room { self.new.room + needs entry ≡ self.old.room }
     {
         match entry {
             Entry::Done {
@@ -155,7 +158,7 @@ impl Book {
     fn put_all(&mut self, rows: Vec<Row>)
         requires room { length rows.items ≤ self.old.room }
         ensures state { self.new.state ≡ with_rows rows.items self.old.state }
-        ensures room { self.old.room ≤ self.new.room + length rows.items }
+        ensures room { self.new.room + length rows.items ≡ self.old.room }
     {
         for row in rows {
             self.put(row);
@@ -165,6 +168,7 @@ impl Book {
     fn add_all(&mut self, activities: Vec<Activity>)
         requires room { length activities.items ≤ self.old.room }
         ensures state { self.new.state ≡ record self.old.state { activities = self.old.state.activities ++ activities.items } }
+        ensures room { self.new.room + length activities.items ≡ self.old.room }
     {
         for activity in activities {
             self.put(Row::Activity(activity));

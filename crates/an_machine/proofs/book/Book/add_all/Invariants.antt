@@ -1,12 +1,13 @@
-use Rattle.std.proofs.Common.{◌≡◌, ◌≤◌, ◌++◌, length}
+use Rattle.std.proofs.Common.{◌≡◌, ◌+◌, ◌≤◌, ◌++◌, length}
 use Rattle.std.specs.Vec.Iter.{into_iter_items}
 use Rattle.an_machine.proofs.book.Book.add_all.Given as goal
 
--- what is left behind the activities so far is all behind the first, and there is room for it
+-- what is left behind the activities so far is all behind the first, and there is room for it: each activity has taken a place
 abbrev pub invariant-loop-activity : goal.invariant-loop-activity
 invariant-loop-activity l =
     (goal.iterator-loop-activity).can_next l.activity-iterator ×
     (goal.iterator-loop-activity).is_finite l.activity-iterator ×
     (record l.self.state { activities = l.self.state.activities ++ into_iter_items l.activity-iterator }
     ≡ record l.fn.self.state { activities = l.fn.self.state.activities ++ l.fn.activities.items }) ×
-    (length (into_iter_items l.activity-iterator) ≤ l.self.room)
+    (length (into_iter_items l.activity-iterator) ≤ l.self.room) ×
+    (l.self.room + length l.fn.activities.items ≡ l.fn.self.room + length (into_iter_items l.activity-iterator))
