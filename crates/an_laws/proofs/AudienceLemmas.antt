@@ -58,9 +58,6 @@ module _ (s : State) (key : Key) where
   abbrev EndsIn : Option Audience → Type 0
   EndsIn audience = Chain None (activities_of key s.activities) audience
 
-abbrev at : Option (List ℕ) → List ℕ → Key
-at owner name = record { owner = owner; name = name }
-
 first-manifest : (s : State) (name : List ℕ) (o : Option KeptManifest) → manifest_row s name ≡ o
     → All (EndsIn s (key_at None name)) (audiences_of s (key_at None name)) → has_row s (key_at None name) ≡ has_any (activities_of (key_at None name) s.activities)
     → EndsIn s (key_at None name) (option_and_then audience_of_manifest (manifest_row s name))
