@@ -1,4 +1,3 @@
-mod ReadLemmas
 mod SplitLemmas
 mod SplitRows
 pub mod StatusLemmas

@@ -1,14 +1,16 @@
 -- How the calls of a run add up to its end.
-use Rattle.std.proofs.Common.{◌≡◌, ℕ, ◌+◌, ◌-◌, ◌^◌, ◌<◌, ◌≤◌, ◌⊎◌, inl, inr, ⊎_elim, Bool, true, false, cond, List, [], ◌++◌, length, Option, Some, None, IfSome, refl, sym, ap, ◌∙◌, append-nil, nat_lt, arith}
+use Rattle.std.proofs.Common.{◌≡◌, ℕ, ◌+◌, ◌-◌, ◌^◌, ◌<◌, ◌≤◌, ◌⊎◌, inl, inr, ⊎_elim, Bool, true, false, cond, List, [], ◌++◌, length, take, drop, Option, Some, None, IfSome, IfNone, refl, sym, ap, ◌∙◌, append-nil, nat_lt, arith}
 use Rattle.std.proofs.lemmas.Bool.{cases_lt}
-use Rattle.an_world.specs.Link.{Traffic, Reads, Writes, Rises}
+use Rattle.std.proofs.lemmas.List.{take-append-drop}
+use Rattle.an_world.specs.Link.{Traffic, Reads, Writes, WritesFront, Rises, IsAtEnd, ReadsAtMost}
 use Rattle.an_machine.specs.State.{empty}
 use Rattle.an_search.specs.Site.{Site}
 use Rattle.an_app.specs.Find.{Played, Stop, Report, play, report_of, report_played}
 use Rattle.an_app.specs.Split.{lines_of}
-use Rattle.an_app.specs.Input.{input_limit, IsAtEnd, ReadsAtMost}
-use Rattle.an_app.specs.Output.{WritesFront}
-use Rattle.an_app.specs.Status.{Exchanges, Finds, read_fault_text}
+use Rattle.an_app.specs.Input.{input_limit, IsReadWhole}
+use Rattle.an_app.specs.Status.{Exchanges, Finds, Misunderstands, PrintsFront, Reports, ReportsFront, ReadsLittle, read_fault_text}
+use Rattle.an_app.specs.declared.status.Status.{Status}
+use Rattle.an_app.specs.declared.status.Status.TheVariants as status
 
 -- ---- what is read and written
 
@@ -36,6 +38,23 @@ IsAtEnd-written written None (Some new) w e = absurd w
 IsAtEnd-written written (Some mid) None w e = absurd w
 IsAtEnd-written written (Some mid) (Some new) w e = w.left ∙ e
 
+reads-nothing : (traffic : Option Traffic) → Reads [] traffic traffic
+reads-nothing None = tt
+reads-nothing (Some traffic) = record { left = refl; read = sym (append-nil _); written = refl }
+
+-- what was read, and the front of a text behind it
+pub prints-front : (input text : List ℕ) (old mid new : Option Traffic) → Reads input old mid → WritesFront text mid new → PrintsFront input text old new
+prints-front input text old mid new r w = record {
+  front = take w.count text;
+  rest = drop w.count text;
+  is = sym (take-append-drop w.count text);
+  exchanged = exchange input (take w.count text) old mid new r w.writes;
+}
+
+-- nothing was read, and a front of a text was written
+pub prints-unread : (text : List ℕ) (old new : Option Traffic) → WritesFront text old new → PrintsFront [] text old new
+prints-unread text old new w = prints-front [] text old old new (reads-nothing old) w
+
 -- ---- counts of faults
 
 pub rises_and_stays : (a b c : ℕ) → Rises a b → b ≤ c → Rises a c
@@ -44,87 +63,107 @@ rises_and_stays a b c r s = λ h. let k : a < b = r h in omega arith
 pub stays_and_rises : (a b c : ℕ) → a ≤ b → Rises b c → b ≤ c → Rises a c
 stays_and_rises a b c s r t = λ h. elim (cases_lt b (2 ^ 64 - 1)) [ inl below ↦ (let k : b < c = r below in omega arith) | inr full ↦ omega arith ]
 
--- ---- the status of a report
+-- ---- how a report ends
 
-report_played-status : (played : Played) (stop : Option Stop) → ((report_played played stop).status ≡ 0) ⊎ ((report_played played stop).status ≡ 3)
-report_played-status played None = inl refl
-report_played-status played (Some stop) = inr refl
+report_played-ends : (played : Played) (stop : Option Stop) → ((report_played played stop).status ≡ status.Played) ⊎ ((report_played played stop).status ≡ status.Refused)
+report_played-ends played None = inl refl
+report_played-ends played (Some stop) = inr refl
 
-cond-status : (b : Bool) (x y : Report) → (x.status ≡ 0) ⊎ (x.status ≡ 3) → (y.status ≡ 0) ⊎ (y.status ≡ 3) → ((cond b x y).status ≡ 0) ⊎ ((cond b x y).status ≡ 3)
-cond-status true x y p q = p
-cond-status false x y p q = q
+cond-ends : (b : Bool) (x y : Report) → (x.status ≡ status.Played) ⊎ (x.status ≡ status.Refused) → (y.status ≡ status.Played) ⊎ (y.status ≡ status.Refused)
+    → ((cond b x y).status ≡ status.Played) ⊎ ((cond b x y).status ≡ status.Refused)
+cond-ends true x y p q = p
+cond-ends false x y p q = q
 
-pub report_of-status : (site : Site) (input : List ℕ) → ((report_of site input).status ≡ 0) ⊎ ((report_of site input).status ≡ 3)
+pub report_of-ends : (site : Site) (input : List ℕ) → ((report_of site input).status ≡ status.Played) ⊎ ((report_of site input).status ≡ status.Refused)
 unfolding report_of
-report_of-status site input =
+report_of-ends site input =
     let played = play site (lines_of input) 1 empty in
-    cond-status (nat_lt input_limit (length input)) _ _ (inr refl) (report_played-status played played.stop)
+    cond-ends (nat_lt input_limit (length input)) _ _ (inr refl) (report_played-ends played played.stop)
 
-pub status_of_report : (site : Site) (input : List ℕ) (report : Report) → report ≡ report_of site input
-    → (report.status ≡ 0) ⊎ ((report.status ≡ 3) ⊎ (report.status ≡ 6))
-status_of_report site input report is =
-    ⊎_elim (λ e. inl (ap (λ r. r.status) is ∙ e)) (λ e. inr (inl (ap (λ r. r.status) is ∙ e))) (report_of-status site input)
+pub ends_of_report : (site : Site) (input : List ℕ) (report : Report) → report ≡ report_of site input
+    → (report.status ≡ status.Played) ⊎ ((report.status ≡ status.Refused) ⊎ (report.status ≡ status.Memory))
+ends_of_report site input report is =
+    ⊎_elim (λ e. inl (ap (λ r. r.status) is ∙ e)) (λ e. inr (inl (ap (λ r. r.status) is ∙ e))) (report_of-ends site input)
 
 -- ---- the ends of `find`
 
-module _ (site : Site) (ReadFault WriteFault : Type 0) where
-  pub Finds-no_memory : (old new : Option Traffic) → ReadsAtMost (input_limit + 1) old new → Finds site ReadFault WriteFault old new 6
-  Finds-no_memory old new r = record {
-    reported = λ s. absurd (⊎_elim (λ e. omega arith) (λ e. omega arith) s);
-    write_failed = λ e. absurd (omega arith);
-    read_failed = λ e. absurd (omega arith);
-    no_memory = λ _. (r.0, exchange-read r.0 old new r.1);
-    known = inr (inr (inr (inr refl)));
-    bounded = (r.0, [], exchange-read r.0 old new r.1, r.2);
-  }
+-- an input was read, and perhaps something written behind it
+pub reads_little : (old mid new : Option Traffic) (written : List ℕ) → ReadsAtMost (input_limit + 1) old mid → Writes written mid new → ReadsLittle old new
+reads_little old mid new written r w = record { input = r.0; written = written; exchanged = exchange r.0 written old mid new r.1 w; most = r.2 }
 
-  pub Finds-reported : (input : List ℕ) (report : Report) (old mid new : Option Traffic) → report ≡ report_of site input → Reads input old mid → length input ≤ input_limit + 1
-      → (length input ≤ input_limit → IsAtEnd mid) → Writes report.text mid new → Finds site ReadFault WriteFault old new report.status
-  Finds-reported input report old mid new is r few end w =
-      let both : (report.status ≡ 0) ⊎ (report.status ≡ 3) = ⊎_elim (λ e. inl (ap (λ r. r.status) is ∙ e)) (λ e. inr (ap (λ r. r.status) is ∙ e)) (report_of-status site input) in
+pub reads_little-front : (old mid new : Option Traffic) (text : List ℕ) → ReadsAtMost (input_limit + 1) old mid → WritesFront text mid new → ReadsLittle old new
+reads_little-front old mid new text r w = reads_little old mid new (take w.count text) r w.writes
+
+pub reads_little-only : (old new : Option Traffic) → ReadsAtMost (input_limit + 1) old new → ReadsLittle old new
+reads_little-only old new r = record { input = r.0; written = []; exchanged = exchange-read r.0 old new r.1; most = r.2 }
+
+-- nothing was read
+pub reads_little-none : (old new : Option Traffic) (text : List ℕ) → WritesFront text old new → ReadsLittle old new
+reads_little-none old new text w = reads_little-front old old new text ([], reads-nothing old, omega arith) w
+
+pub reads_little-nothing : (traffic : Option Traffic) → ReadsLittle traffic traffic
+reads_little-nothing traffic = reads_little-only traffic traffic ([], reads-nothing traffic, omega arith)
+
+module _ (site : Site) (Unread Failed : Type 0) where
+  pub Finds-no_memory : (old new : Option Traffic) → ReadsAtMost (input_limit + 1) old new → Finds site Unread Failed old new status.Memory
+  unfolding Finds
+  Finds-no_memory old new r = (r.0, exchange-read r.0 old new r.1)
+
+  -- a report that ends so was printed
+  reported : (old new : Option Traffic) (end : Status) → (end ≡ status.Played) ⊎ (end ≡ status.Refused) → Reports site old new end → Finds site Unread Failed old new end
+  unfolding Finds
+  reported old new status.Played either reports = reports
+  reported old new status.Refused either reports = reports
+  reported old new status.WriteFault either reports = absurd (⊎_elim (λ e. cc) (λ e. cc) either)
+  reported old new status.Misunderstood either reports = absurd (⊎_elim (λ e. cc) (λ e. cc) either)
+  reported old new status.ReadFault either reports = absurd (⊎_elim (λ e. cc) (λ e. cc) either)
+  reported old new status.Memory either reports = absurd (⊎_elim (λ e. cc) (λ e. cc) either)
+
+  pub Finds-reported : (input : List ℕ) (report : Report) (old mid new : Option Traffic) → report ≡ report_of site input → Reads input old mid
+      → IsReadWhole input mid → Writes report.text mid new → Finds site Unread Failed old new report.status
+  Finds-reported input report old mid new is r end w =
+      let ends : report.status ≡ (report_of site input).status = ap (λ r. r.status) is in
       let text : report.text ≡ (report_of site input).text = ap (λ r. r.text) is in
-      let moved = exchange input report.text old mid new r w in
-      record {
-        reported = λ _. (input, rw (← text) moved, sym (ap (λ r. r.status) is), λ h. IsAtEnd-written _ mid new w (end h));
-        write_failed = λ e. absurd (⊎_elim (λ f. omega arith) (λ f. omega arith) both);
-        read_failed = λ e. absurd (⊎_elim (λ f. omega arith) (λ f. omega arith) both);
-        no_memory = λ e. absurd (⊎_elim (λ f. omega arith) (λ f. omega arith) both);
-        known = ⊎_elim inl (λ e. inr (inr (inl e))) both;
-        bounded = (input, report.text, moved, few);
-      }
+      reported old new report.status (⊎_elim (λ e. inl (ends ∙ e)) (λ e. inr (ends ∙ e)) (report_of-ends site input))
+      (record {
+        input = input;
+        exchanged = rw (← text) (exchange input report.text old mid new r w);
+        ends = sym ends;
+        whole = λ h. IsAtEnd-written _ mid new w (end h);
+      })
 
-  pub Finds-read_failed : (old mid new : Option Traffic) → ReadsAtMost (input_limit + 1) old mid → ReadFault → Writes read_fault_text mid new
-      → Finds site ReadFault WriteFault old new 5
-  Finds-read_failed old mid new r fault w =
-      let moved = exchange r.0 read_fault_text old mid new r.1 w in
-      record {
-        reported = λ s. absurd (⊎_elim (λ e. omega arith) (λ e. omega arith) s);
-        write_failed = λ e. absurd (omega arith);
-        read_failed = λ _. (fault, (r.0, moved));
-        no_memory = λ e. absurd (omega arith);
-        known = inr (inr (inr (inl refl)));
-        bounded = (r.0, read_fault_text, moved, r.2);
-      }
+  -- the report of an input was printed in part
+  pub Finds-part_told : (input : List ℕ) (report : Report) (old mid new : Option Traffic) → report ≡ report_of site input → Reads input old mid
+      → IsReadWhole input mid → WritesFront report.text mid new → Failed → Finds site Unread Failed old new status.WriteFault
+  unfolding Finds
+  Finds-part_told input report old mid new is r end w failed =
+      let text : report.text ≡ (report_of site input).text = ap (λ r. r.text) is in (
+        failed,
+        inl (record {
+          input = input;
+          printed = rw (← text) (prints-front input report.text old mid new r w);
+          whole = λ h. IsAtEnd-written _ mid new w.writes (end h);
+        }),
+      )
 
-  pub Finds-nothing_told : (old mid new : Option Traffic) → ReadsAtMost (input_limit + 1) old mid → ReadFault → WritesFront read_fault_text mid new → WriteFault
-      → Finds site ReadFault WriteFault old new 1
-  Finds-nothing_told old mid new r fault w failed =
-      let moved = exchange r.0 w.0 old mid new r.1 w.3 in
-      record {
-        reported = λ s. absurd (⊎_elim (λ e. omega arith) (λ e. omega arith) s);
-        write_failed = λ _. (failed, (r.0, w.0, w.1, moved, inr (fault, w.2)));
-        read_failed = λ e. absurd (omega arith);
-        no_memory = λ e. absurd (omega arith);
-        known = inr (inl refl);
-        bounded = (r.0, w.0, moved, r.2);
-      }
+  pub Finds-read_failed : (old mid new : Option Traffic) → ReadsAtMost (input_limit + 1) old mid → Unread → Writes read_fault_text mid new
+      → Finds site Unread Failed old new status.ReadFault
+  unfolding Finds
+  Finds-read_failed old mid new r unread w = (unread, (r.0, exchange r.0 read_fault_text old mid new r.1 w))
 
-reads-nothing : (traffic : Option Traffic) → Reads [] traffic traffic
-reads-nothing None = tt
-reads-nothing (Some traffic) = record { left = refl; read = sym (append-nil _); written = refl }
+  pub Finds-nothing_told : (old mid new : Option Traffic) → ReadsAtMost (input_limit + 1) old mid → Unread → WritesFront read_fault_text mid new → Failed
+      → Finds site Unread Failed old new status.WriteFault
+  unfolding Finds
+  Finds-nothing_told old mid new r unread w failed = (failed, inr (unread, (r.0, prints-front r.0 read_fault_text old mid new r.1 w)))
 
 -- memory ran out before anything was read
-pub Finds-nothing_read : (ReadFault WriteFault : Type 0) (traffic : Option Traffic) (o : Option Site) → IfSome o (λ site. Finds site ReadFault WriteFault traffic traffic 6)
-Finds-nothing_read ReadFault WriteFault traffic None = tt
-Finds-nothing_read ReadFault WriteFault traffic (Some site) =
-    Finds-no_memory site ReadFault WriteFault traffic traffic ([], reads-nothing traffic, omega arith)
+pub Finds-nothing_read : (Unread Failed : Type 0) (traffic : Option Traffic) (o : Option Site) → IfSome o (λ site. Finds site Unread Failed traffic traffic status.Memory)
+Finds-nothing_read Unread Failed traffic None = tt
+Finds-nothing_read Unread Failed traffic (Some site) = Finds-no_memory site Unread Failed traffic traffic ([], reads-nothing traffic, omega arith)
+
+pub Misunderstands-nothing_read : (Failed : Type 0) (traffic : Option Traffic) (o : Option Site) → IfNone o (Misunderstands Failed traffic traffic status.Memory)
+unfolding Misunderstands
+Misunderstands-nothing_read Failed traffic None = exchange-read [] traffic traffic (reads-nothing traffic)
+Misunderstands-nothing_read Failed traffic (Some site) = tt
+
+pub ruleset ends_of_find = (Finds-no_memory, reads_little-only)

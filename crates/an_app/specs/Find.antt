@@ -1,5 +1,6 @@
--- What lines do, one after another: writes change the state, reads print an answer, and the first refusal of what is not old ends the run.
-use Rattle.std.specs.Prelude.{ℕ, ◌+◌, ℤ, List, [], ◌∷◌, ◌++◌, length, codes, decimal, Bool, false, ◌==◌, nat_lt, if◌then◌else◌, Option, Some, None, Result, Ok, Err}
+-- What lines do, one after another: writes change the state, reads print an answer, and the first
+-- refusal of what is not old ends the run.
+use Rattle.std.specs.Prelude.{ℕ, ◌+◌, ℤ, List, [], ◌∷◌, ◌++◌, length, codes, decimal, Bool, false, ◌==◌, nat_lt, is_none, if◌then◌else◌, Option, Some, None, Result, Ok, Err}
 use Rattle.std.specs.Str.{is_utf8}
 use Rattle.serde_json.specs.Data.{Data}
 use Rattle.an_base.specs.Code.{code_text}
@@ -8,13 +9,12 @@ use Rattle.an_base.specs.declared.code.Code.{Code}
 use Rattle.an_base.specs.declared.code.Code.TheVariants as code
 use Rattle.an_base.specs.declared.tree.TreeError.{TreeError}
 use Rattle.an_base.specs.declared.tree.TreeError.TheVariants as error
-use Rattle.an_policy.specs.Audience.{Identity}
 use Rattle.an_policy.specs.declared.who.Caller.{Caller}
 use Rattle.an_policy.specs.declared.who.Caller.TheVariants as caller
 use Rattle.an_machine.specs.Entries.{after}
 use Rattle.an_machine.specs.State.{State, empty, who_of}
 use Rattle.an_machine.specs.Step.{step}
-use Rattle.an_machine.specs.View.{view_of}
+use Rattle.an_machine.specs.View.{View, view_for}
 use Rattle.an_machine.specs.declared.command.Command.{Command}
 use Rattle.an_machine.specs.declared.command.Command.TheVariants.{PutReader, DropReader, PutManifest, DropManifest, PutNote, DropNote}
 use Rattle.an_machine.specs.declared.command.Decided.{Decided}
@@ -23,7 +23,7 @@ use Rattle.an_machine.specs.declared.command.Refused.TheVariants.{NotSigned, Not
 use Rattle.an_machine.specs.declared.entry.Entry.{Entry}
 use Rattle.an_search.specs.Search.{search_of}
 use Rattle.an_search.specs.Site.{Site}
-use Rattle.an_machine.specs.Accepted.{version_of}
+use Rattle.an_machine.specs.Asked.{version_of}
 use Rattle.an_pages.specs.Bodies.{manifest_of_view, annotation_of_view}
 use Rattle.an_pages.specs.declared.error.PageError.{PageError}
 use Rattle.an_pages.specs.declared.error.PageError.TheVariants as page
@@ -33,6 +33,8 @@ use Rattle.an_app.specs.Line.{Words, words_of, by_of}
 use Rattle.an_app.specs.Split.{lines_of}
 use Rattle.an_app.specs.declared.form.Form.{Form}
 use Rattle.an_app.specs.declared.form.Form.TheVariants as form
+use Rattle.an_app.specs.declared.status.Status.{Status}
+use Rattle.an_app.specs.declared.status.Status.TheVariants as status
 
 -- what a line comes to: nothing, a printed answer, another state, or the end of the run
 pub data Turn : Type 0 where
@@ -81,11 +83,13 @@ is_old version Memory = false
 
 abbrev pub decided_turn : State → ℕ → Result Decided Refused → Turn
 decided_turn s version (Ok decided) = writes (state_after s decided.entry)
-decided_turn s version (Err refused) = if is_old version refused then passes else stops (refusal_code refused)
+decided_turn s version (Err refused) =
+    if is_old version refused then passes else stops (refusal_code refused)
 
 -- a command of this caller, at the line's moment
 abbrev pub command_turn : State → ℤ → Option (List ℕ) → Command → Turn
-command_turn s moment by command = decided_turn s (version_of command) (step s moment (writer by) command)
+command_turn s moment by command =
+    decided_turn s (version_of command) (step s moment (writer by) command)
 
 -- the code of a text that is no tree; want of memory ends the run, and has none
 abbrev pub text_code : TreeError → Code
@@ -95,7 +99,8 @@ text_code error.Deep = code.Deep
 text_code error.Memory = code.Unbuilt
 
 -- the write of a tree by a command, at the line's moment; there is none where the text is no tree
-abbrev pub write_turn : State → ℤ → Option (List ℕ) → (Data → Command) → Result Data TreeError → Turn
+abbrev pub write_turn : State → ℤ → Option (List ℕ) → (Data → Command) → Result Data TreeError
+    → Turn
 write_turn s moment by command (Ok tree) = command_turn s moment by (command tree)
 write_turn s moment by command (Err e) = stops (text_code e)
 
@@ -115,13 +120,12 @@ answer_line (Err e) = codes "404 {\"error\":\"absent\"}\n"
 abbrev pub not_signed_line : List ℕ
 not_signed_line = codes "401 {\"error\":\"not_signed\"}\n"
 
--- what is answered to the caller
-abbrev pub read_turn : (Identity → List ℕ) → Option Identity → Turn
-read_turn answer None = prints not_signed_line
-read_turn answer (Some who) = prints (answer who)
+-- what is answered by a view; nobody is asked to sign
+abbrev pub read_turn : (View → List ℕ) → View → Turn
+read_turn answer view = prints (if is_none view.who then not_signed_line else answer view)
 
-abbrev pub search_line : Site → State → List ℕ → List ℕ → Identity → List ℕ
-search_line site s manifest word who = answer_line (search_of site (view_of s who) manifest word)
+abbrev pub search_line : Site → List ℕ → List ℕ → View → List ℕ
+search_line site manifest word view = answer_line (search_of site view manifest word)
 
 -- the answer to a read of an annotation; want of memory ends the run, and has no line
 abbrev pub note_line : Result (List ℕ) PageError → List ℕ
@@ -130,25 +134,38 @@ note_line (Err page.Gone) = codes "410 {\"error\":\"gone\"}\n"
 note_line (Err page.Absent) = codes "404 {\"error\":\"absent\"}\n"
 note_line (Err page.Memory) = codes "404 {\"error\":\"absent\"}\n"
 
-abbrev pub annotation_line : Site → State → List ℕ → List ℕ → Identity → List ℕ
-annotation_line site s owner name who = note_line (annotation_of_view site (view_of s who) owner name)
+abbrev pub annotation_line : Site → List ℕ → List ℕ → View → List ℕ
+annotation_line site owner name view = note_line (annotation_of_view site view owner name)
 
-abbrev pub manifest_line : Site → State → List ℕ → Identity → List ℕ
-manifest_line site s name who = answer_line (manifest_of_view site (view_of s who) name)
+abbrev pub manifest_line : Site → List ℕ → View → List ℕ
+manifest_line site name view = answer_line (manifest_of_view site view name)
+
+-- the view of who a line's name is, at a state
+abbrev pub view_by : State → Option (List ℕ) → View
+view_by s by = view_for s (who_of s (reader by))
 
 -- ---- a line
 
 abbrev pub form_turn : Site → State → Words → Option (List ℕ) → Option Form → Turn
 form_turn site s words by None = stops code.Unbuilt
-form_turn site s words by (Some (form.PutReader name version)) = write_turn s words.moment by (PutReader name version) (tree_of words.tree)
-form_turn site s words by (Some (form.DropReader name version)) = command_turn s words.moment by (DropReader name version)
-form_turn site s words by (Some (form.PutManifest name version group)) = write_turn s words.moment by (PutManifest name version group) (tree_of words.tree)
-form_turn site s words by (Some (form.DropManifest name version)) = command_turn s words.moment by (DropManifest name version)
-form_turn site s words by (Some (form.PutNote owner name version manifest group)) = write_turn s words.moment by (PutNote owner name version manifest group) (tree_of words.tree)
-form_turn site s words by (Some (form.DropNote owner name version)) = command_turn s words.moment by (DropNote owner name version)
-form_turn site s words by (Some (form.Search manifest word)) = read_turn (search_line site s manifest word) (who_of s (reader by))
-form_turn site s words by (Some (form.ShownNote owner name)) = read_turn (annotation_line site s owner name) (who_of s (reader by))
-form_turn site s words by (Some (form.ShownManifest name)) = read_turn (manifest_line site s name) (who_of s (reader by))
+form_turn site s words by (Some (form.PutReader name version)) =
+    write_turn s words.moment by (PutReader name version) (tree_of words.tree)
+form_turn site s words by (Some (form.DropReader name version)) =
+    command_turn s words.moment by (DropReader name version)
+form_turn site s words by (Some (form.PutManifest name version group)) =
+    write_turn s words.moment by (PutManifest name version group) (tree_of words.tree)
+form_turn site s words by (Some (form.DropManifest name version)) =
+    command_turn s words.moment by (DropManifest name version)
+form_turn site s words by (Some (form.PutNote owner name version manifest group)) =
+    write_turn s words.moment by (PutNote owner name version manifest group) (tree_of words.tree)
+form_turn site s words by (Some (form.DropNote owner name version)) =
+    command_turn s words.moment by (DropNote owner name version)
+form_turn site s words by (Some (form.Search manifest word)) =
+    read_turn (search_line site manifest word) (view_by s by)
+form_turn site s words by (Some (form.ShownNote owner name)) =
+    read_turn (annotation_line site owner name) (view_by s by)
+form_turn site s words by (Some (form.ShownManifest name)) =
+    read_turn (manifest_line site name) (view_by s by)
 
 abbrev pub by_turn : Site → State → Words → Option (Option (List ℕ)) → Turn
 by_turn site s words None = stops code.Line
@@ -185,7 +202,8 @@ abbrev pub follow : ℕ → State → (ℕ → State → Played) → Turn → Pl
 follow number s go passes = go (number + 1) s
 follow number s go (prints text) = printed_first text (go (number + 1) s)
 follow number s go (writes t) = go (number + 1) t
-follow number s go (stops c) = record { output = []; stop = Some (record { line = number; code = c }) }
+follow number s go (stops c) =
+    record { output = []; stop = Some (record { line = number; code = c }) }
 
 abbrev pub play : Site → List (List ℕ) → ℕ → State → Played
 play site [] number s = record { output = []; stop = None }
@@ -193,20 +211,27 @@ play site (line ∷ lines) number s = follow number s (play site lines) (turn_of
 
 -- the refusal of a line, as it is printed
 abbrev pub refusal_line : Stop → List ℕ
-refusal_line stop = codes "line " ++ (decimal stop.line ++ (codes " refused: " ++ (code_text stop.code ++ codes "\n")))
+refusal_line stop =
+    codes "line " ++ (decimal stop.line ++ (codes " refused: " ++ (code_text stop.code
+    ++ codes "\n")))
 
--- a status, and what is printed
+-- how the run ends, and what is printed
 pub record Report : Type 0 where
-  pub status : ℕ
+  pub status : Status
   pub text : List ℕ
 
 abbrev pub report_played : Played → Option Stop → Report
-report_played played None = record { status = 0; text = played.output }
-report_played played (Some stop) = record { status = 3; text = played.output ++ refusal_line stop }
+report_played played None = record { status = status.Played; text = played.output }
+report_played played (Some stop) =
+    record { status = status.Refused; text = played.output ++ refusal_line stop }
 
 -- what comes of an input: one that is too large is refused before its first line
 unfoldable pub report_of : Site → List ℕ → Report
 report_of site input =
     if nat_lt input_limit (length input)
-    then record { status = 3; text = refusal_line (record { line = 0; code = code.Input }) }
+    then record {
+      status = status.Refused;
+      text = refusal_line
+          (record { line = 0; code = code.Input });
+    }
     else (let played = play site (lines_of input) 1 empty in report_played played played.stop)

@@ -4,8 +4,9 @@ use Rattle.std.specs.List.{list_all}
 use Rattle.an_base.specs.Decimal.{decimal_of}
 use Rattle.an_base.specs.Name.{is_name}
 use Rattle.an_base.specs.Outcome.{only_if}
+use Rattle.an_policy.specs.Group.{group_named}
 use Rattle.an_policy.specs.declared.group.Group.{Group}
-use Rattle.an_policy.specs.declared.group.Group.TheVariants.{Public, Private, Named}
+use Rattle.an_policy.specs.declared.group.Group.TheVariants.{Public}
 use Rattle.an_app.specs.Line.{cut_at}
 use Rattle.an_app.specs.declared.line.Method.{Method}
 use Rattle.an_app.specs.declared.line.Method.TheVariants.{Get, Put, Delete}
@@ -19,15 +20,11 @@ is_get Delete = false
 
 -- the value of a parameter `key=value`
 abbrev pub value_of : List ℕ → List ℕ → Option (List ℕ)
-value_of key text = option_and_then (λ p. if bytes_eq p.0 key then Some p.1 else None) (cut_at 61 text)
+value_of key text =
+    option_and_then (λ p. if bytes_eq p.0 key then Some p.1 else None) (cut_at 61 text)
 
 abbrev pub name_in : List ℕ → Option (List ℕ)
 name_in text = only_if is_name text
-
-abbrev pub group_named : List ℕ → Option Group
-group_named text =
-    if bytes_eq text (codes "public") then Some Public
-    else (if bytes_eq text (codes "private") then Some Private else option_map Named (name_in text))
 
 -- the group of `group=G`
 unfoldable pub group_in : List ℕ → Option Group
@@ -48,7 +45,9 @@ parameters query = parted query (cut_at 38 query)
 
 -- the number of `version=V`, from 1 to 999,999,999
 unfoldable pub version_in : List ℕ → Option ℕ
-version_in parameter = option_and_then (only_if (nat_le 1)) (option_and_then (decimal_of 999999999) (value_of (codes "version") parameter))
+version_in parameter =
+    option_and_then (only_if (nat_le 1)) (option_and_then (decimal_of 999999999) (value_of
+    (codes "version") parameter))
 
 -- a letter from a to z
 abbrev pub is_letter : ℕ → Bool
@@ -68,7 +67,8 @@ reader_write Delete name version = Some (form.DropReader name version)
 -- `/readers/N?version=V`
 unfoldable pub reader_form : Method → List ℕ → List ℕ → Option Form
 reader_form method name query =
-    option_and_then (λ name. option_and_then (reader_write method name) (version_in query)) (name_in name)
+    option_and_then (λ name. option_and_then (reader_write method name) (version_in query))
+    (name_in name)
 
 abbrev pub manifest_write : Method → List ℕ → ℕ → Group → Option Form
 manifest_write Get name version group = None
@@ -84,31 +84,36 @@ manifest_form method name query =
     (version_in (parameters query).0)) (name_in name)
 
 -- the manifest and the group of `manifest=M` or `manifest=M&group=G`
-unfoldable pub place_in : List ℕ → Option (List ℕ × Group)
-place_in query =
-    option_and_then (λ manifest. option_map (λ group. (manifest, group)) (group_or_public (parameters query).1))
+unfoldable pub home_in : List ℕ → Option (List ℕ × Group)
+home_in query =
+    option_and_then (λ manifest. option_map (λ group. (manifest, group)) (group_or_public
+    (parameters query).1))
     (option_and_then name_in (value_of (codes "manifest") (parameters query).0))
 
 -- a put names its manifest; a deletion may, and it means nothing
 abbrev pub note_write : Method → List ℕ → List ℕ → ℕ → Option (List ℕ × Group) → Option Form
-note_write Get owner name version place = None
+note_write Get owner name version home = None
 note_write Put owner name version None = None
-note_write Put owner name version (Some place) = Some (form.PutNote owner name version place.0 place.1)
-note_write Delete owner name version place = Some (form.DropNote owner name version)
+note_write Put owner name version (Some home) =
+    Some (form.PutNote owner name version home.0 home.1)
+note_write Delete owner name version home = Some (form.DropNote owner name version)
 
--- what stands behind the version: nothing, or a place
-abbrev pub note_placed : Method → List ℕ → List ℕ → ℕ → Option (List ℕ) → Option Form
-note_placed method owner name version None = note_write method owner name version None
-note_placed method owner name version (Some query) = option_and_then (λ place. note_write method owner name version (Some place)) (place_in query)
+-- what stands behind the version: nothing, or the manifest and the group
+abbrev pub note_on : Method → List ℕ → List ℕ → ℕ → Option (List ℕ) → Option Form
+note_on method owner name version None = note_write method owner name version None
+note_on method owner name version (Some query) =
+    option_and_then (λ home. note_write method owner name version (Some home)) (home_in query)
 
 unfoldable pub note_named : Method → List ℕ → List ℕ → List ℕ → Option Form
 note_named method owner name query =
-    option_and_then (λ version. note_placed method owner name version (parameters query).1) (version_in (parameters query).0)
+    option_and_then (λ version. note_on method owner name version (parameters query).1) (version_in
+    (parameters query).0)
 
 -- `/annotations/O/N?version=V`, `..&manifest=M` or `..&manifest=M&group=G`
 unfoldable pub note_form : Method → List ℕ → List ℕ → Option Form
 note_form method names query =
-    option_and_then (λ p. option_and_then (λ owner. option_and_then (λ name. note_named method owner name query) (name_in p.1)) (name_in p.0)) (cut_at 47 names)
+    option_and_then (λ p. option_and_then (λ owner. option_and_then
+    (λ name. note_named method owner name query) (name_in p.1)) (name_in p.0)) (cut_at 47 names)
 
 -- ---- reads
 
@@ -116,7 +121,8 @@ note_form method names query =
 unfoldable pub search_form : Method → List ℕ → List ℕ → Option Form
 search_form method manifest query =
     if is_get method then
-    option_and_then (λ word. if is_word word then option_map (λ name. form.Search name word) (name_in manifest) else None) (value_of (codes "q") query)
+    option_and_then (λ word. if is_word word then option_map (λ name. form.Search name word)
+    (name_in manifest) else None) (value_of (codes "q") query)
     else None
 
 -- by the first segment of the path
@@ -128,16 +134,20 @@ routed method kind names query =
     else (if bytes_eq kind (codes "search") then search_form method names query else None)))
 
 abbrev pub segment_form : Method → List ℕ → List ℕ → Option Form
-segment_form method segments query = option_and_then (λ p. routed method p.0 p.1 query) (cut_at 47 segments)
+segment_form method segments query =
+    option_and_then (λ p. routed method p.0 p.1 query) (cut_at 47 segments)
 
 -- the path begins with `/`
 unfoldable pub path_form : Method → List ℕ → List ℕ → Option Form
 path_form method path query =
-    option_and_then (λ p. if length p.0 == 0 then segment_form method p.1 query else None) (cut_at 47 path)
+    option_and_then (λ p. if length p.0 == 0 then segment_form method p.1 query else None)
+    (cut_at 47 path)
 
 -- `O/N` of an annotation that is read
 abbrev pub shown_note : List ℕ → Option Form
-shown_note names = option_and_then (λ p. option_and_then (λ owner. option_map (form.ShownNote owner) (name_in p.1)) (name_in p.0)) (cut_at 47 names)
+shown_note names =
+    option_and_then (λ p. option_and_then (λ owner. option_map (form.ShownNote owner) (name_in p.1))
+    (name_in p.0)) (cut_at 47 names)
 
 -- `GET /manifests/M` and `GET /annotations/O/N`
 unfoldable pub bare_routed : Method → List ℕ → List ℕ → Option Form
@@ -148,11 +158,14 @@ bare_routed method kind names =
     else None
 
 abbrev pub bare_segments : Method → List ℕ → Option Form
-bare_segments method segments = option_and_then (λ p. bare_routed method p.0 p.1) (cut_at 47 segments)
+bare_segments method segments =
+    option_and_then (λ p. bare_routed method p.0 p.1) (cut_at 47 segments)
 
 -- a path without a query
 unfoldable pub bare_form : Method → List ℕ → Option Form
-bare_form method path = option_and_then (λ p. if length p.0 == 0 then bare_segments method p.1 else None) (cut_at 47 path)
+bare_form method path =
+    option_and_then (λ p. if length p.0 == 0 then bare_segments method p.1 else None)
+    (cut_at 47 path)
 
 abbrev pub form_from : Method → List ℕ → Option (List ℕ × List ℕ) → Option Form
 form_from method target None = bare_form method target

@@ -1,4 +1,5 @@
--- The words of a line: a moment, who writes or reads, what is done, to what, and for a put a JSON text.
+-- The words of a line: a moment, who writes or reads, what is done, to what, and for a put a JSON
+-- text.
 use Rattle.std.specs.Prelude.{ℕ, ℤ, List, [], length, ◌==◌, nat_lt, bytes_eq, codes, is_none, if◌then◌else◌, Option, Some, None, option_and_then}
 use Rattle.std.specs.List.{position_or_len, before_first, after_first}
 use Rattle.std.specs.Result.{result_ok}
@@ -29,7 +30,15 @@ pub record Words : Type 0 where
   pub tree : List ℕ
 
 abbrev pub lent_words : LineWords → Words
-lent_words w = record { moment = w.moment; by = w.by.now; method = w.method; target = w.target.now; tree = w.tree.now }
+lent_words w =
+    record {
+      moment = w.moment;
+      by = w.by.now;
+      method = w.method;
+      target = w.target.now;
+      tree =
+          w.tree.now;
+    }
 
 -- the target isn't empty
 abbrev pub words_to : ℤ → List ℕ → Method → List ℕ → List ℕ → Option Words
@@ -39,16 +48,20 @@ words_to moment by method target tree =
 
 -- behind the method: a put has a target and a text, the others a target alone
 abbrev pub words_for : ℤ → List ℕ → Method → List ℕ → Option Words
-words_for moment by Get rest = if is_none (cut_at 32 rest) then words_to moment by Get rest [] else None
-words_for moment by Put rest = option_and_then (λ p. words_to moment by Put p.0 p.1) (cut_at 32 rest)
-words_for moment by Delete rest = if is_none (cut_at 32 rest) then words_to moment by Delete rest [] else None
+words_for moment by Get rest =
+    if is_none (cut_at 32 rest) then words_to moment by Get rest [] else None
+words_for moment by Put rest =
+    option_and_then (λ p. words_to moment by Put p.0 p.1) (cut_at 32 rest)
+words_for moment by Delete rest =
+    if is_none (cut_at 32 rest) then words_to moment by Delete rest [] else None
 
 -- behind the moment: who, and the method
 abbrev pub words_after : ℤ → List ℕ → Option Words
 words_after moment rest =
     option_and_then (λ p.
     option_and_then (λ q.
-    option_and_then (λ method. words_for moment p.0 method q.1) (method_of q.0)) (cut_at 32 p.1)) (cut_at 32 rest)
+    option_and_then (λ method. words_for moment p.0 method q.1) (method_of q.0)) (cut_at 32 p.1))
+    (cut_at 32 rest)
 
 -- the words of a line, with one space between each two
 unfoldable pub words_of : List ℕ → Option Words
@@ -58,4 +71,6 @@ words_of text =
 
 -- `-`, which names nobody, or a reader's name
 abbrev pub by_of : List ℕ → Option (Option (List ℕ))
-by_of text = if bytes_eq text (codes "-") then Some None else (if is_name text then Some (Some text) else None)
+by_of text =
+    if bytes_eq text (codes "-") then Some None else (if is_name text then Some (Some text)
+    else None)

@@ -1,11 +1,15 @@
 -- How a run ends: its status, what it has read and printed, and why.
-use Rattle.std.specs.Prelude.{◌≡◌, ℕ, ◌+◌, ◌≤◌, ◌⊎◌, List, [], ◌∷◌, ◌++◌, length, codes, Option, None, ◌&&◌, bytes_eq, if◌then◌else◌}
+use Rattle.std.specs.Prelude.{◌≡◌, ℕ, ◌+◌, ◌≤◌, ◌⊎◌, List, [], ◌∷◌, ◌++◌, length, codes, Option, None}
+use Rattle.std.specs.Prelude.{◌&&◌, bytes_eq, if◌then◌else◌}
 use Rattle.std.specs.Result.{result_ok}
 use Rattle.an_world.specs.Link.{Traffic, Tells}
 use Rattle.an_search.specs.Settings.{settings_of}
 use Rattle.an_search.specs.Site.{Site}
 use Rattle.an_app.specs.Find.{report_of}
-use Rattle.an_app.specs.Input.{input_limit, IsAtEnd}
+use Rattle.an_app.specs.Input.{input_limit, IsReadWhole}
+use Rattle.an_app.specs.declared.status.Status.{Status}
+use Rattle.an_app.specs.declared.status.Status.TheVariants.{Played, WriteFault, Misunderstood}
+use Rattle.an_app.specs.declared.status.Status.TheVariants.{Refused, ReadFault, Memory}
 
 -- bytes were read, and others written, and nothing else moved
 pub record Moves (input output : List ℕ) (old new : Traffic) : Type 0 where
@@ -27,30 +31,61 @@ misunderstood_text = codes "words not understood\n"
 
 -- the settings that the words give: `-`, `find`, the base of all IRIs, and the size of a page
 abbrev pub find_site : List (List ℕ) → Option Site
-find_site (store ∷ name ∷ base ∷ size ∷ []) = if bytes_eq store (codes "-") && bytes_eq name (codes "find") then result_ok (settings_of base size) else None
+find_site (store ∷ name ∷ base ∷ size ∷ []) =
+    if bytes_eq store (codes "-") && bytes_eq name (codes "find") then result_ok
+    (settings_of base size)
+    else None
 find_site _ = None
 
--- A run with words of no form ended with this status; nothing was read.
-pub record Misunderstands (WriteFault : Type 0) (old new : Option Traffic) (status : ℕ) : Type 0 where
-  pub told : status ≡ 2 → Exchanges [] misunderstood_text old new
-  -- the write failed, and a front of what was to be printed was
-  pub write_failed : status ≡ 1 → WriteFault × ((front rest : List ℕ) × Exchanges [] front old new × (misunderstood_text ≡ front ++ rest))
-  -- memory ran out, and nothing was printed
-  pub no_memory : status ≡ 6 → Exchanges [] [] old new
-  -- there is no other status
-  pub known : (status ≡ 2) ⊎ ((status ≡ 1) ⊎ (status ≡ 6))
+-- this was read, and a front of the text was printed
+pub record PrintsFront (input text : List ℕ) (old new : Option Traffic) : Type 0 where
+  pub front : List ℕ
+  pub rest : List ℕ
+  pub is : text ≡ front ++ rest
+  pub exchanged : Exchanges input front old new
 
--- A run of `find` ended with this status, where `ReadFault` and `WriteFault` say that the count of faults rose. In each case input is what was read.
-pub record Finds (site : Site) (ReadFault WriteFault : Type 0) (old new : Option Traffic) (status : ℕ) : Type 0 where
-  -- the report of the input was printed, which was read to its end unless it is too large
-  pub reported : (status ≡ 0) ⊎ (status ≡ 3) → (input : List ℕ) × Exchanges input (report_of site input).text old new × ((report_of site input).status ≡ status) × (length input ≤ input_limit → IsAtEnd new)
-  -- a write failed, and a front of what was to be printed was
-  pub write_failed : status ≡ 1 → WriteFault × ((input front rest : List ℕ) × Exchanges input front old new × (((report_of site input).text ≡ front ++ rest) ⊎ (ReadFault × (read_fault_text ≡ front ++ rest))))
-  -- a read failed
-  pub read_failed : status ≡ 5 → ReadFault × ((input : List ℕ) × Exchanges input read_fault_text old new)
-  -- memory ran out, and nothing was printed
-  pub no_memory : status ≡ 6 → (input : List ℕ) × Exchanges input [] old new
-  -- there is no other status
-  pub known : (status ≡ 0) ⊎ ((status ≡ 1) ⊎ ((status ≡ 3) ⊎ ((status ≡ 5) ⊎ (status ≡ 6))))
-  -- little more is read than an input may have
-  pub bounded : (input written : List ℕ) × Exchanges input written old new × (length input ≤ input_limit + 1)
+-- ---- words of no form; nothing is read
+
+-- how such a run ends, where `Failed` says that the count of write faults rose
+unfoldable pub Misunderstands : Type 0 → Option Traffic → Option Traffic → Status → Type 0
+Misunderstands Failed old new Misunderstood = Exchanges [] misunderstood_text old new
+Misunderstands Failed old new WriteFault = Failed × PrintsFront [] misunderstood_text old new
+Misunderstands Failed old new Memory = Exchanges [] [] old new
+Misunderstands Failed old new Played = ⊥
+Misunderstands Failed old new Refused = ⊥
+Misunderstands Failed old new ReadFault = ⊥
+
+-- ---- `find`
+
+-- the report of an input was printed, which was read to its end unless it is too large
+pub record Reports (site : Site) (old new : Option Traffic) (status : Status) : Type 0 where
+  pub input : List ℕ
+  pub exchanged : Exchanges input (report_of site input).text old new
+  pub ends : (report_of site input).status ≡ status
+  pub whole : IsReadWhole input new
+
+-- a front of the report of an input was printed, which was read as where all of it is printed
+pub record ReportsFront (site : Site) (old new : Option Traffic) : Type 0 where
+  pub input : List ℕ
+  pub printed : PrintsFront input (report_of site input).text old new
+  pub whole : IsReadWhole input new
+
+-- How a run of `find` ends, where `Unread` and `Failed` say that the counts of read faults and of
+-- write faults rose. A write that fails may be that of the report, or that of the read that failed.
+unfoldable pub Finds : Site → Type 0 → Type 0 → Option Traffic → Option Traffic → Status → Type 0
+Finds site Unread Failed old new Played = Reports site old new Played
+Finds site Unread Failed old new Refused = Reports site old new Refused
+Finds site Unread Failed old new WriteFault =
+    Failed × (ReportsFront site old new ⊎ (Unread × ((input : List ℕ) × PrintsFront
+    input read_fault_text old new)))
+Finds site Unread Failed old new ReadFault =
+    Unread × ((input : List ℕ) × Exchanges input read_fault_text old new)
+Finds site Unread Failed old new Memory = (input : List ℕ) × Exchanges input [] old new
+Finds site Unread Failed old new Misunderstood = ⊥
+
+-- little more is read than an input may have
+pub record ReadsLittle (old new : Option Traffic) : Type 0 where
+  pub input : List ℕ
+  pub written : List ℕ
+  pub exchanged : Exchanges input written old new
+  pub most : length input ≤ input_limit + 1

@@ -7,6 +7,8 @@ use Rattle.an_app.specs.Find.{Turn, passes, prints, writes, stops}
 -- the state and the output before and after a turn, and where it stops
 abbrev pub Takes : Turn → State → State → List ℕ → List ℕ → Option Code → Type 0
 Takes passes old new output printed stop = (new ≡ old) × (printed ≡ output) × (stop ≡ None)
-Takes (prints text) old new output printed stop = (new ≡ old) × (printed ≡ output ++ text) × (stop ≡ None)
+Takes (prints text) old new output printed stop =
+    (new ≡ old) × (printed ≡ output ++ text) × (stop ≡ None)
 Takes (writes s) old new output printed stop = (new ≡ s) × (printed ≡ output) × (stop ≡ None)
-Takes (stops code) old new output printed stop = (new ≡ old) × (printed ≡ output) × (stop ≡ Some code)
+Takes (stops code) old new output printed stop =
+    (new ≡ old) × (printed ≡ output) × (stop ≡ Some code)

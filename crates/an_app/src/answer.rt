@@ -1,9 +1,8 @@
-ghost use Rattle.std.specs.Prelude.{◌≡◌, ◌<◌, ◌++◌, IsTrue, OnOk, codes};
+ghost use Rattle.std.specs.Prelude.{◌≡◌, ◌<◌, ◌++◌, OnOk, codes};
 ghost use Rattle.an_base.specs.Outcome.{Gives};
 ghost use Rattle.an_policy.specs.Audience.{identity};
 ghost use Rattle.an_machine.specs.View.{view_of};
 ghost use Rattle.an_search.specs.Search.{search_of};
-ghost use Rattle.an_machine.specs.State.{manifests_are_distinct, notes_are_distinct};
 ghost use Rattle.an_app.specs.Find.{search_line, manifest_line, annotation_line};
 
 use an_base::{Bytes, Name, Steps, Text};
@@ -25,9 +24,8 @@ pub(crate) fn answer_search(
     word: &Text,
     output: &mut Vec<u8>,
 ) -> Result<(), AllocError>
-    requires distinct { IsTrue (manifests_are_distinct book.now.state) }
     ensures { OnOk result (output.new.items ≡ output.old.items
-        ++ search_line settings.now book.now.state manifest.now word.now (identity who.now)) }
+        ++ search_line settings.now manifest.now word.now (view_of book.now.state (identity who.now))) }
 {
     match search_uncounted(alloc, book, who, settings, manifest, word) {
         Ok(body) => put_body(output, body.as_slice()),
@@ -48,9 +46,8 @@ pub(crate) fn answer_manifest(
     name: &Name,
     output: &mut Vec<u8>,
 ) -> Result<(), AllocError>
-    requires distinct { IsTrue (manifests_are_distinct book.now.state) }
     ensures { OnOk result (output.new.items ≡ output.old.items
-        ++ manifest_line settings.now book.now.state name.now (identity who.now)) }
+        ++ manifest_line settings.now name.now (view_of book.now.state (identity who.now))) }
 {
     match manifest_answer(alloc, book, who, name, settings) {
         Ok(body) => put_body(output, body.as_slice()),
@@ -72,9 +69,9 @@ pub(crate) fn answer_annotation(
     name: &Name,
     output: &mut Vec<u8>,
 ) -> Result<(), AllocError>
-    requires distinct { IsTrue (notes_are_distinct book.now.state) }
     ensures { OnOk result (output.new.items ≡ output.old.items
-        ++ annotation_line settings.now book.now.state owner.now name.now (identity who.now)) }
+        ++ annotation_line settings.now owner.now name.now
+        (view_of book.now.state (identity who.now))) }
 {
     match annotation(alloc, book, who, owner, name, settings) {
         Ok(body) => put_body(output, body.as_slice()),
@@ -116,7 +113,6 @@ fn search_uncounted(
     manifest: &Name,
     word: &Text,
 ) -> Result<Bytes, AskError>
-    requires distinct { IsTrue (manifests_are_distinct book.now.state) }
     ensures { Gives (λ page. page) AskError.Memory result
         (search_of settings.now (view_of book.now.state (identity who.now)) manifest.now word.now) }
 {
@@ -135,7 +131,6 @@ fn search_from<L: Ledger>(
     requires name { blank.name ≡ L.name }
     requires parts { blank.parts ≡ L.parts }
     requires some { 0 < blank.parts }
-    requires distinct { IsTrue (manifests_are_distinct book.now.state) }
     ensures { Gives (λ page. page) AskError.Memory result
         (search_of settings.now (view_of book.now.state (identity who.now)) manifest.now word.now) }
 {

@@ -1,11 +1,11 @@
 ghost use Rattle.std.specs.Prelude.{◌≡◌, IfOk, option_and_then, option_map};
 ghost use Rattle.std.specs.List.{list_all};
 ghost use Rattle.std.specs.Option.{option_copied};
-ghost use Rattle.an_app.specs.Form.{is_get, value_of, name_in, group_in, group_named, group_or_public, parameters, version_in, is_letter, is_word, reader_write, reader_form, manifest_write, manifest_form, place_in, note_write, note_placed, note_named, note_form, search_form, routed, segment_form, path_form, shown_note, bare_routed, bare_segments, bare_form, form_of};
+ghost use Rattle.an_app.specs.Form.{is_get, value_of, name_in, group_in, group_or_public, parameters, version_in, is_letter, is_word, reader_write, reader_form, manifest_write, manifest_form, home_in, note_write, note_on, note_named, note_form, search_form, routed, segment_form, path_form, shown_note, bare_routed, bare_segments, bare_form, form_of};
 
 use crate::line::{Method, cut};
 use an_base::{Name, NameError, Text, read_decimal};
-use an_policy::Group;
+use an_policy::{Group, group_named};
 use std::alloc::{AllocError, Global};
 
 /// The greatest number that a write may have.
@@ -241,24 +241,6 @@ fn group_in(alloc: Global, query: &str) -> Result<Option<Group>, AllocError>
     }
 }
 
-fn group_named(alloc: Global, text: &str) -> Result<Option<Group>, AllocError>
-    ensures { IfOk result (λ group. group ≡ group_named text.now) }
-{
-    if text == "public" {
-        return Ok(Some(Group::Public));
-    }
-    if text == "private" {
-        return Ok(Some(Group::Private));
-    }
-    match name_in(alloc, text) {
-        Ok(name) => match name {
-            Some(name) => Ok(Some(Group::Named(name))),
-            None => Ok(None),
-        },
-        Err(error) => Err(error),
-    }
-}
-
 #[tactic(auto, unfolding(crate::specs::Form::note_form))]
 fn note_form(
     alloc: Global,
@@ -292,12 +274,12 @@ fn note_named(
 {
     let (first, behind) = parameters(query);
     match version_in(first) {
-        Some(version) => note_placed(alloc, method, owner, name, version, behind),
+        Some(version) => note_on(alloc, method, owner, name, version, behind),
         None => Ok(None),
     }
 }
 
-fn note_placed(
+fn note_on(
     alloc: Global,
     method: Method,
     owner: Name,
@@ -305,11 +287,11 @@ fn note_placed(
     version: u32,
     query: Option<&str>,
 ) -> Result<Option<Form>, AllocError>
-    ensures { IfOk result (λ form. form ≡ note_placed method owner name version (option_copied query.entry)) }
+    ensures { IfOk result (λ form. form ≡ note_on method owner name version (option_copied query.entry)) }
 {
     match query {
-        Some(query) => match place_in(alloc, query)? {
-            Some(place) => Ok(note_write(method, owner, name, version, Some(place))),
+        Some(query) => match home_in(alloc, query)? {
+            Some(home) => Ok(note_write(method, owner, name, version, Some(home))),
             None => Ok(None),
         },
         None => Ok(note_write(method, owner, name, version, None)),
@@ -321,13 +303,13 @@ fn note_write(
     owner: Name,
     name: Name,
     version: u32,
-    place: Option<(Name, Group)>,
+    home: Option<(Name, Group)>,
 ) -> Option<Form>
-    ensures { result ≡ note_write method owner name version place }
+    ensures { result ≡ note_write method owner name version home }
 {
     match method {
         Method::Get => None,
-        Method::Put => match place {
+        Method::Put => match home {
             Some((manifest, group)) => Some(Form::PutNote {
                 owner,
                 name,
@@ -346,9 +328,9 @@ fn note_write(
 }
 
 /// The manifest and the group of `manifest=M` or `manifest=M&group=G`.
-#[tactic(auto, unfolding(crate::specs::Form::place_in))]
-fn place_in(alloc: Global, query: &str) -> Result<Option<(Name, Group)>, AllocError>
-    ensures { IfOk result (λ place. place ≡ place_in query.now) }
+#[tactic(auto, unfolding(crate::specs::Form::home_in))]
+fn home_in(alloc: Global, query: &str) -> Result<Option<(Name, Group)>, AllocError>
+    ensures { IfOk result (λ home. home ≡ home_in query.now) }
 {
     let (first, behind) = parameters(query);
     match named_value(alloc, "manifest", first)? {

@@ -3,19 +3,13 @@
 
 pub use lines::find;
 pub use program::run;
+pub use status::Status;
 
 mod answer;
-#[cfg(test)]
-mod edge_tests;
 mod form;
-mod input;
 mod line;
 mod lines;
-#[cfg(test)]
-mod machine_tests;
-mod output;
 mod program;
 mod split;
-#[cfg(test)]
-mod tests;
+mod status;
 mod turn;

@@ -4,22 +4,24 @@ ghost use Rattle.an_machine.specs.State.{empty};
 ghost use Rattle.an_app.specs.Find.{play, report_of, report_played, refusal_line};
 ghost use Rattle.an_app.specs.Shown.{shown};
 ghost use Rattle.an_app.specs.Split.{lines_of};
-ghost use Rattle.an_app.specs.Status.{Finds};
+ghost use Rattle.an_app.specs.Status.{Finds, ReadsLittle};
 
-use crate::input::{INPUT_LIMIT, InputError, read_input};
-use crate::output::write_all;
 use crate::split::first_line;
+use crate::status::Status;
 use crate::turn::turn;
 use an_base::Code;
 use an_machine::Book;
 use an_search::Settings;
-use an_world::Link;
+use an_world::{Link, LinkError, read_to, write_all};
 use std::alloc::{AllocError, Global};
 
-/// A status, and what is to be printed.
+/// How many bytes an input may have.
+const INPUT_LIMIT: usize = 268_435_456;
+
+/// How the run ends, and what is to be printed.
 #[derive(Drop)]
 struct Report {
-    status: u8,
+    status: Status,
     text: Vec<u8>,
 }
 
@@ -37,34 +39,36 @@ struct Played {
     stop: Option<Stop>,
 }
 
-/// Reads an input of lines to its end, applies its writes to an empty state, and prints the answer to
-/// each of its reads. The first line that is refused and isn't old ends the run. The status is 0 where
-/// the whole input was played; 3 where a line was refused, or the input is larger than 268,435,456
-/// bytes; 5 where a read failed; 1 where a write failed; and 6 where memory ran out, after which
-/// nothing was printed.
-pub fn find<L: Link>(alloc: Global, line: &mut L, settings: &Settings) -> u8
+/// Reads an input of lines to its end, or to one byte beyond what an input may have, applies its
+/// writes to an empty state, and prints the answer to each of its reads. The first line that is refused
+/// and isn't old ends the run. An input of more than 268,435,456 bytes is refused before its first
+/// line. Nothing is printed where memory runs out.
+#[tactic(auto, using(crate::proofs::StatusLemmas::ends_of_find))]
+pub fn find<L: Link>(alloc: Global, link: &mut L, settings: &Settings) -> Status
     ensures finds { Finds settings.now
-        (Rises (L.read_faults line.old) (L.read_faults line.new))
-        (Rises (L.write_faults line.old) (L.write_faults line.new))
-        (L.traffic line.old) (L.traffic line.new) result }
+        (Rises (L.read_faults link.old) (L.read_faults link.new))
+        (Rises (L.write_faults link.old) (L.write_faults link.new))
+        (L.traffic link.old) (L.traffic link.new) result }
+    ensures bounded { ReadsLittle (L.traffic link.old) (L.traffic link.new) }
 
     // Over a link that never fails the whole report is printed, unless memory runs out.
-    ensures sure { IsTrue L.is_sure → (result ≡ 0) ⊎ ((result ≡ 3) ⊎ (result ≡ 6)) }
+    ensures sure { IsTrue L.is_sure
+        → (result ≡ Status.Played) ⊎ ((result ≡ Status.Refused) ⊎ (result ≡ Status.Memory)) }
 {
-    match read_input(alloc, line) {
+    match read_to(alloc, link, INPUT_LIMIT + 1) {
         Ok(input) => match report_of(alloc, input.as_slice(), settings) {
-            Ok(report) => match write_all(line, report.text.as_slice()) {
+            Ok(report) => match write_all(link, report.text.as_slice()) {
                 Ok(_) => report.status,
-                Err(_) => 1,
+                Err(_) => Status::WriteFault,
             },
-            Err(_) => 6,
+            Err(_) => Status::Memory,
         },
         Err(error) => match error {
-            InputError::Fault => match write_all(line, "read failed\n".as_bytes()) {
-                Ok(_) => 5,
-                Err(_) => 1,
+            LinkError::ReadFault => match write_all(link, "read failed\n".as_bytes()) {
+                Ok(_) => Status::ReadFault,
+                Err(_) => Status::WriteFault,
             },
-            InputError::Memory => 6,
+            LinkError::Memory => Status::Memory,
         },
     }
 }
@@ -78,7 +82,7 @@ fn report_of(alloc: Global, input: &[u8], settings: &Settings) -> Result<Report,
     if input.len() > INPUT_LIMIT {
         let text = refusal_line(alloc, 0, Code::Input)?;
         return Ok(Report {
-            status: 3,
+            status: Status::Refused,
             text: text.into_bytes(),
         });
     }
@@ -97,12 +101,12 @@ fn report_played(alloc: Global, played: Played) -> Result<Report, AllocError>
             let mut output = output;
             output.extend_from_slice(text.as_bytes())?;
             Ok(Report {
-                status: 3,
+                status: Status::Refused,
                 text: output,
             })
         }
         None => Ok(Report {
-            status: 0,
+            status: Status::Played,
             text: output,
         }),
     }

@@ -1,12 +1,12 @@
-ghost use Rattle.std.specs.Prelude.{◌≡◌, ◌++◌, ℕ, List, IfOk, OnOk, IsTrue, None, Some, if◌then◌else◌};
+ghost use Rattle.std.specs.Prelude.{◌≡◌, ◌++◌, ℕ, List, IfOk, None, Some, if◌then◌else◌};
 ghost use Rattle.std.specs.Option.{option_copied};
 ghost use Rattle.std.specs.Result.{result_map_both};
 ghost use Rattle.std.specs.Str.{is_utf8};
 ghost use Rattle.an_base.specs.Outcome.{only_if};
 ghost use Rattle.an_base.specs.Tree.{tree_of};
-ghost use Rattle.an_machine.specs.State.{is_distinct, who_of};
+ghost use Rattle.an_machine.specs.State.{who_of};
 ghost use Rattle.an_app.specs.Line.{by_of, lent_words, words_of};
-ghost use Rattle.an_app.specs.Find.{turn_of, words_turn, by_turn, form_turn, write_turn, writes, state_after, refusal_code, text_code, read_turn, search_line, manifest_line, annotation_line, not_signed_line, command_turn, is_old, writer, reader};
+ghost use Rattle.an_app.specs.Find.{turn_of, words_turn, by_turn, form_turn, write_turn, writes, state_after, refusal_code, text_code, read_turn, search_line, manifest_line, annotation_line, not_signed_line, command_turn, is_old, view_by, writer, reader};
 ghost use Rattle.an_app.specs.Turned.{Takes};
 
 use crate::answer::{answer_annotation, answer_manifest, answer_search};
@@ -29,10 +29,8 @@ pub(crate) fn turn(
     line: &[u8],
     output: &mut Vec<u8>,
 ) -> Result<Option<Code>, AllocError>
-    requires distinct { IsTrue (is_distinct book.old.state) }
-    ensures takes { IfOk result (Takes (turn_of settings.now book.old.state line.now)
+    ensures { IfOk result (Takes (turn_of settings.now book.old.state line.now)
         book.old.state book.new.state output.old.items output.new.items) }
-    ensures distinct { OnOk result (IsTrue (is_distinct book.new.state)) }
 {
     if line.is_empty() {
         return Ok(None);
@@ -60,10 +58,8 @@ fn text_turn(
     text: &str,
     output: &mut Vec<u8>,
 ) -> Result<Option<Code>, AllocError>
-    requires distinct { IsTrue (is_distinct book.old.state) }
-    ensures takes { IfOk result (Takes (words_turn settings.now book.old.state (words_of text.now))
+    ensures { IfOk result (Takes (words_turn settings.now book.old.state (words_of text.now))
         book.old.state book.new.state output.old.items output.new.items) }
-    ensures distinct { OnOk result (IsTrue (is_distinct book.new.state)) }
 {
     match words_of(text) {
         Some(words) => by_turn(alloc, book, settings, &words, output),
@@ -78,10 +74,8 @@ fn by_turn(
     words: &LineWords<'_>,
     output: &mut Vec<u8>,
 ) -> Result<Option<Code>, AllocError>
-    requires distinct { IsTrue (is_distinct book.old.state) }
-    ensures takes { IfOk result (Takes (words_turn settings.now book.old.state (Some (lent_words words.now)))
+    ensures { IfOk result (Takes (words_turn settings.now book.old.state (Some (lent_words words.now)))
         book.old.state book.new.state output.old.items output.new.items) }
-    ensures distinct { OnOk result (IsTrue (is_distinct book.new.state)) }
 {
     match by_of(alloc, words.by)? {
         Some(by) => known_turn(alloc, book, settings, words, by, output),
@@ -113,10 +107,8 @@ fn known_turn(
     by: Option<Name>,
     output: &mut Vec<u8>,
 ) -> Result<Option<Code>, AllocError>
-    requires distinct { IsTrue (is_distinct book.old.state) }
-    ensures takes { IfOk result (Takes (by_turn settings.now book.old.state (lent_words words.now) (Some by))
+    ensures { IfOk result (Takes (by_turn settings.now book.old.state (lent_words words.now) (Some by))
         book.old.state book.new.state output.old.items output.new.items) }
-    ensures distinct { OnOk result (IsTrue (is_distinct book.new.state)) }
 {
     match form_of(alloc, words.method, words.target)? {
         Some(form) => form_turn(alloc, book, settings, words, by, form, output),
@@ -133,10 +125,8 @@ fn form_turn(
     form: Form,
     output: &mut Vec<u8>,
 ) -> Result<Option<Code>, AllocError>
-    requires distinct { IsTrue (is_distinct book.old.state) }
-    ensures takes { IfOk result (Takes (form_turn settings.now book.old.state (lent_words words.now) by (Some form))
+    ensures { IfOk result (Takes (form_turn settings.now book.old.state (lent_words words.now) by (Some form))
         book.old.state book.new.state output.old.items output.new.items) }
-    ensures distinct { OnOk result (IsTrue (is_distinct book.new.state)) }
 {
     match form {
         Form::PutReader { name, version } => put_reader(alloc, book, words, by, name, version),
@@ -211,11 +201,9 @@ fn put_reader(
     name: Name,
     version: u32,
 ) -> Result<Option<Code>, AllocError>
-    requires distinct { IsTrue (is_distinct book.old.state) }
-    ensures takes { IfOk result (λ stop. (output : List ℕ) → Takes
+    ensures { IfOk result (λ stop. (output : List ℕ) → Takes
         (write_turn book.old.state (lent_words words.now).moment by (λ tree. Command.PutReader name version tree)
         (tree_of (lent_words words.now).tree)) book.old.state book.new.state output output stop) }
-    ensures distinct { OnOk result (IsTrue (is_distinct book.new.state)) }
 {
     match tree_in(alloc, words.tree)? {
         Ok(tree) => write(
@@ -242,11 +230,9 @@ fn put_manifest(
     version: u32,
     group: Group,
 ) -> Result<Option<Code>, AllocError>
-    requires distinct { IsTrue (is_distinct book.old.state) }
-    ensures takes { IfOk result (λ stop. (output : List ℕ) → Takes
+    ensures { IfOk result (λ stop. (output : List ℕ) → Takes
         (write_turn book.old.state (lent_words words.now).moment by (λ tree. Command.PutManifest name version group tree)
         (tree_of (lent_words words.now).tree)) book.old.state book.new.state output output stop) }
-    ensures distinct { OnOk result (IsTrue (is_distinct book.new.state)) }
 {
     match tree_in(alloc, words.tree)? {
         Ok(tree) => write(
@@ -265,7 +251,7 @@ fn put_manifest(
     }
 }
 
-/// The path is the owner and the name, the place the manifest and the group.
+/// The path is the owner and the name, the home the manifest and the group on which it stands.
 fn put_note(
     alloc: Global,
     book: &mut Book,
@@ -273,17 +259,15 @@ fn put_note(
     by: Option<Name>,
     path: (Name, Name),
     version: u32,
-    place: (Name, Group),
+    home: (Name, Group),
 ) -> Result<Option<Code>, AllocError>
-    requires distinct { IsTrue (is_distinct book.old.state) }
-    ensures takes { IfOk result (λ stop. (output : List ℕ) → Takes
+    ensures { IfOk result (λ stop. (output : List ℕ) → Takes
         (write_turn book.old.state (lent_words words.now).moment by
-        (λ tree. Command.PutNote path.0 path.1 version place.0 place.1 tree)
+        (λ tree. Command.PutNote path.0 path.1 version home.0 home.1 tree)
         (tree_of (lent_words words.now).tree)) book.old.state book.new.state output output stop) }
-    ensures distinct { OnOk result (IsTrue (is_distinct book.new.state)) }
 {
     let (owner, name) = path;
-    let (manifest, group) = place;
+    let (manifest, group) = home;
     match tree_in(alloc, words.tree)? {
         Ok(tree) => write(
             alloc,
@@ -336,11 +320,9 @@ fn write(
     by: Option<Name>,
     command: Command,
 ) -> Result<Option<Code>, AllocError>
-    requires distinct { IsTrue (is_distinct book.old.state) }
-    ensures takes { IfOk result (λ stop. (output : List ℕ) → Takes
+    ensures { IfOk result (λ stop. (output : List ℕ) → Takes
         (command_turn book.old.state moment by command)
         book.old.state book.new.state output output stop) }
-    ensures distinct { OnOk result (IsTrue (is_distinct book.new.state)) }
 {
     let caller = writer(by);
     match book.decide(alloc, moment, &caller, &command) {
@@ -369,15 +351,7 @@ fn is_old(version: u32, refused: Refused) -> bool
 {
     match refused {
         Refused::Version { current } => version < current,
-        Refused::NotSigned => false,
-        Refused::NotWriter => false,
-        Refused::NotOwn => false,
-        Refused::NoManifest => false,
-        Refused::NotMember => false,
-        Refused::Shape(_) => false,
-        Refused::GroupFixed => false,
-        Refused::TokenTaken => false,
-        Refused::Memory => false,
+        _ => false,
     }
 }
 
@@ -409,12 +383,10 @@ fn writer(by: Option<Name>) -> Caller
 }
 
 fn apply(book: &mut Book, decided: Decided) -> Result<Option<Code>, AllocError>
-    requires distinct { IsTrue (is_distinct book.old.state) }
-    ensures takes { IfOk result (λ stop. (output : List ℕ) → Takes (writes (state_after book.old.state decided.entry))
+    ensures { IfOk result (λ stop. (output : List ℕ) → Takes (writes (state_after book.old.state decided.entry))
         book.old.state book.new.state output output stop) }
-    ensures distinct { OnOk result (IsTrue (is_distinct book.new.state)) }
 {
-    let Decided { entry, reply: _ } = decided;
+    let Decided { entry, .. } = decided;
     match entry {
         Some(entry) => {
             book.room(&entry)?;
@@ -435,9 +407,9 @@ fn search_turn(
     word: &Text,
     output: &mut Vec<u8>,
 ) -> Result<Option<Code>, AllocError>
-    requires distinct { IsTrue (is_distinct book.now.state) }
     ensures { IfOk result (Takes
-        (read_turn (search_line settings.now book.now.state manifest.now word.now) (who_of book.now.state (reader by)))
+        (read_turn (search_line settings.now manifest.now word.now)
+        (view_by book.now.state by))
         book.now.state book.now.state output.old.items output.new.items) }
 {
     let caller = reader(by);
@@ -459,9 +431,9 @@ fn manifest_turn(
     name: &Name,
     output: &mut Vec<u8>,
 ) -> Result<Option<Code>, AllocError>
-    requires distinct { IsTrue (is_distinct book.now.state) }
     ensures { IfOk result (Takes
-        (read_turn (manifest_line settings.now book.now.state name.now) (who_of book.now.state (reader by)))
+        (read_turn (manifest_line settings.now name.now)
+        (view_by book.now.state by))
         book.now.state book.now.state output.old.items output.new.items) }
 {
     let caller = reader(by);
@@ -484,9 +456,9 @@ fn annotation_turn(
     name: &Name,
     output: &mut Vec<u8>,
 ) -> Result<Option<Code>, AllocError>
-    requires distinct { IsTrue (is_distinct book.now.state) }
     ensures { IfOk result (Takes
-        (read_turn (annotation_line settings.now book.now.state owner.now name.now) (who_of book.now.state (reader by)))
+        (read_turn (annotation_line settings.now owner.now name.now)
+        (view_by book.now.state by))
         book.now.state book.now.state output.old.items output.new.items) }
 {
     let caller = reader(by);

@@ -1,8 +1,14 @@
 pub mod TreeLemmas
 pub mod TreeTexts
+pub mod ValueLemmas
+pub mod CharLemmas
 pub mod TreeEquality
 pub mod ObjectLemmas
 pub mod ItemLemmas
+pub mod WriteLemmas
+pub mod CutLemmas
+pub mod KeptLemmas
+pub mod TextSetLemmas
 mod TreeRows
 pub mod DecimalLemmas
 pub mod MomentCalendar
@@ -11,4 +17,5 @@ pub mod MomentDates
 pub mod MomentParts
 pub mod MomentTexts
 pub mod MomentLaws
+pub mod MomentTest
 mod MomentRows

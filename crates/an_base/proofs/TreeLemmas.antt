@@ -63,7 +63,7 @@ json_refused bytes refused = elim (cases_Bool (is_utf8 bytes)) [
   | inr is ↦ rw is refl
 ]
 
-known : {A E : Type 0} (o : Option A) (e : E) (a : A) → ok_or o e ≡ Ok a → o ≡ Some a
+pub known : {A E : Type 0} (o : Option A) (e : E) (a : A) → ok_or o e ≡ Ok a → o ≡ Some a
 known None e a h = absurd (cc)
 known (Some b) e a h = cc
 
@@ -88,7 +88,7 @@ tree_of-deep bytes value e whole deep = read_as bytes value e ∙ rw (not_false 
 pub tree_of-ok : (bytes : List ℕ) (value : Data) → ok_or (json_of bytes) Json ≡ Ok value → not (has_float value) ≡ true → nat_le (depth value) max_tree_depth ≡ true → tree_of bytes ≡ Ok value
 tree_of-ok bytes value e whole shallow = read_as bytes value e ∙ rw (not_false _ true whole, is_deep value true shallow) refl
 
-refused : {A E : Type 0} (o : Option A) (e f : E) → ok_or o e ≡ Err f → (o ≡ None) × (e ≡ f)
+pub refused : {A E : Type 0} (o : Option A) (e f : E) → ok_or o e ≡ Err f → (o ≡ None) × (e ≡ f)
 refused None e f h = (refl, cc)
 refused (Some a) e f h = absurd (cc)
 

@@ -117,7 +117,7 @@ sign_then : (x : ℕ) (xs : List ℕ) → nat_lt x 128 ≡ true → IsUtf8 xs �
 sign_then x xs small u = IsUtf8-append (x ∷ []) xs (IsUtf8-are_ascii (x ∷ []) (and_from _ _ small refl)) u
 
 mutual
-  IsUtf8-compact_text : (d : Data) → is_whole d ≡ true → IsUtf8 (compact_text d)
+  pub IsUtf8-compact_text : (d : Data) → is_whole d ≡ true → IsUtf8 (compact_text d)
   IsUtf8-compact_text null h = IsUtf8-are_ascii _ refl
   IsUtf8-compact_text (boolean b) h = IsUtf8-boolean b
   IsUtf8-compact_text (number n) h = IsUtf8-whole n h
@@ -194,7 +194,7 @@ mutual
 
 -- ---- reading back
 
-read-compact_text : (d : Data) → is_whole d ≡ true → depth d ≤ max_depth → read (compact_text d) ≡ Some d
+pub read-compact_text : (d : Data) → is_whole d ≡ true → depth d ≤ max_depth → read (compact_text d) ≡ Some d
 read-compact_text d whole shallow =
     let printed = tokens-print (json_tokens (outline d)) (ArePrintable-json_tokens (outline d) (HasNumbers-outline d whole)) in
     let same : tokens (compact_text d) ≡ json_tokens (outline d) ++ [] = ap tokens (sym (print-outline d)) ∙ printed ∙ sym (append-nil _) in

@@ -1,7 +1,7 @@
 -- The codes of refusals, as they are printed.
 use Rattle.std.specs.Prelude.{ℕ, List, codes}
 use Rattle.an_base.specs.declared.code.Code.{Code}
-use Rattle.an_base.specs.declared.code.Code.TheVariants.{Line, Input, Unbuilt, Absent, Group, ReaderToken, ReaderRole, ReaderUser, ReaderGroups, Json, NotWhole, Deep, NoteType, NoteTarget, NoteBody, NoteMotivation, NoteSelector, ManifestVersion2, ManifestType, ManifestLabel, ManifestItems, ManifestCanvas, NotSigned, NotWriter, NotOwn, NotMember, GroupFixed, TokenTaken, Version, Gone}
+use Rattle.an_base.specs.declared.code.Code.TheVariants.{Line, Input, Unbuilt, Absent, Group, ReaderToken, ReaderRole, ReaderUser, ReaderGroups, Json, NotWhole, Deep, NoteType, NoteTarget, NoteBody, NoteMotivation, NoteSelector, ManifestVersion2, ManifestType, ManifestLabel, ManifestItems, ManifestCanvas, NotSigned, NotWriter, NotOwn, NotMember, GroupFixed, TokenTaken, Version, Gone, Head, Transfer, Length, Large, LengthRequired, Body}
 
 abbrev pub code_text : Code → List ℕ
 code_text Line = codes "line"
@@ -34,3 +34,9 @@ code_text GroupFixed = codes "group_fixed"
 code_text TokenTaken = codes "token_taken"
 code_text (Version current) = codes "version"
 code_text Gone = codes "gone"
+code_text Head = codes "head"
+code_text Transfer = codes "transfer"
+code_text Length = codes "length"
+code_text Large = codes "large"
+code_text LengthRequired = codes "length_required"
+code_text Body = codes "body"

@@ -7,8 +7,11 @@ use Rattle.an_base.specs.Outcome.{only_if}
 
 -- digits, of which the first is 0 only where it stands alone
 abbrev pub is_decimal : List ℕ → Bool
-is_decimal text = nat_lt 0 (length text) && list_all is_ascii_digit text && (not (slice_index text 0 == 48) || (length text == 1))
+is_decimal text =
+    nat_lt 0 (length text) && list_all is_ascii_digit text && (not (slice_index text 0 == 48) ||
+    (length text == 1))
 
 -- the number that a text writes in decimal, where it is no greater than this
 abbrev pub decimal_of : ℕ → List ℕ → Option ℕ
-decimal_of greatest text = if is_decimal text then only_if (λ n. nat_le n greatest) (digits_value 10 text) else None
+decimal_of greatest text =
+    if is_decimal text then only_if (λ n. nat_le n greatest) (digits_value 10 text) else None

@@ -4,8 +4,14 @@ pub mod Code
 pub mod Decimal
 pub mod Member
 pub mod Tree
+pub mod Value
 pub mod TreeCode
 pub mod Moment
 pub mod TreeSame
 pub mod Object
 pub mod Items
+pub mod Write
+pub mod Cut
+pub mod Kept
+pub mod TextSet
+pub mod Token

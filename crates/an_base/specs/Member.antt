@@ -17,7 +17,8 @@ member_count tree = unwrap_or (option_map members_len (as_object tree)) 0
 -- one of the items is this text
 abbrev pub has_item : List ℕ → Items → Bool
 has_item text no_items = false
-has_item text (item tree items) = passes (λ found. bytes_eq found text) (as_str tree) || has_item text items
+has_item text (item tree items) =
+    passes (λ found. bytes_eq found text) (as_str tree) || has_item text items
 
 -- the member `type` is this name, or an array that has it
 abbrev pub has_type : List ℕ → Data → Bool

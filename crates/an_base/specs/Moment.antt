@@ -1,5 +1,5 @@
 -- Moments and their texts: UTC in the proleptic Gregorian calendar, written as ISO 8601 does.
-use Rattle.std.specs.Prelude.{ℕ, zero, suc, ◌+◌, ◌-◌, ◌*◌, ◌/◌, ◌%◌, ℤ, pos, negsuc, ◌+ℤ◌, ◌-ℤ◌, ◌≤ℤ◌, unsigned_abs, Bool, true, false, not, ◌&&◌, ◌||◌, ◌==◌, nat_lt, nat_le, if◌then◌else◌, List, [], ◌∷◌, ◌++◌, length, slice_index, codes, Result, Ok, Err}
+use Rattle.std.specs.Prelude.{ℕ, zero, suc, ◌+◌, ◌-◌, ◌*◌, ◌/◌, ◌%◌, ℤ, pos, negsuc, ◌+ℤ◌, ◌-ℤ◌, ◌≤ℤ◌, unsigned_abs, int_le, Bool, true, false, not, ◌&&◌, ◌||◌, ◌==◌, nat_lt, nat_le, if◌then◌else◌, List, [], ◌∷◌, ◌++◌, length, slice_index, codes, Result, Ok, Err}
 use Rattle.std.specs.Char.{is_ascii_digit}
 use Rattle.std.specs.List.{zip, list_all}
 use Rattle.an_base.specs.declared.moment.DateTime.{DateTime}
@@ -131,6 +131,10 @@ epoch = 62_167_219_200
 -- a number of seconds since 1970-01-01T00:00:00Z, in the years 0000 to 9999
 abbrev pub IsMoment : ℤ → Type 0
 IsMoment m = (negsuc 62_167_219_199 ≤ℤ m) × (m ≤ℤ pos 253_402_300_799)
+
+-- the same, as a test
+unfoldable pub is_moment : ℤ → Bool
+is_moment m = int_le (negsuc 62_167_219_199) m && int_le m (pos 253_402_300_799)
 
 -- the moment of a date and time, where the calendar and the day have it
 abbrev pub moment_at : DateTime → Result ℤ MomentError

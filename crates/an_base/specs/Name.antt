@@ -18,7 +18,9 @@ bad_sign text = if is_dash text then Some 0 else position (λ b. not (is_name_si
 
 -- why a text is no name, in the order of the refusals
 abbrev pub name_refusals : List ℕ → List (Option NameError)
-name_refusals text = when (length text == 0) Empty ∷ when (nat_lt 64 (length text)) Long ∷ option_map Sign (bad_sign text) ∷ []
+name_refusals text =
+    when (length text == 0) Empty ∷ when (nat_lt 64 (length text)) Long ∷ option_map Sign
+    (bad_sign text) ∷ []
 
 -- 1 to 64 signs, other than `-` alone
 abbrev pub is_name : List ℕ → Bool

@@ -1,4 +1,5 @@
--- How a definition says which of several refusals comes, and how a contract ties a call to a definition.
+-- How a definition says which of several refusals comes, and how a contract ties a call to a
+-- definition.
 use Rattle.std.specs.Prelude.{◌≡◌, Bool, false, List, [], ◌∷◌, if◌then◌else◌, Option, Some, None, Result, Ok, Err, MatchResult}
 
 -- the refusal, where its cause holds
@@ -32,4 +33,5 @@ or_refuse refusal (Some value) next = next value
 
 -- The call gives what the definition means. Want of memory alone may stand in place of any answer.
 abbrev pub Gives : {A B E : Type 0} → (A → B) → E → Result A E → Result B E → Type 0
-Gives view memory result meant = MatchResult result (λ x. meant ≡ Ok (view x)) (λ e. ¬ (e ≡ memory) → meant ≡ Err e)
+Gives view memory result meant =
+    MatchResult result (λ x. meant ≡ Ok (view x)) (λ e. ¬ (e ≡ memory) → meant ≡ Err e)

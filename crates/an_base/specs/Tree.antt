@@ -25,13 +25,15 @@ is_whole_number (float x) = false
 -- each of the texts is below all that follow it, by their bytes
 abbrev pub ascend : List (List ℕ) → Bool
 ascend [] = true
-ascend (text ∷ texts) = list_all (λ later. is_lt (slice_cmp nat_cmp text later)) texts && ascend texts
+ascend (text ∷ texts) =
+    list_all (λ later. is_lt (slice_cmp nat_cmp text later)) texts && ascend texts
 
 abbrev pub names : Members → List (List ℕ)
 names no_members = []
 names (member name value members) = name ∷ names members
 
--- numbers are whole, texts and names are UTF-8, and an object's names ascend, so that each stands there once
+-- numbers are whole, texts and names are UTF-8, and an object's names ascend, so that each stands
+-- there once
 abbrev mutual
   pub is_whole : Data → Bool
   is_whole null = true
@@ -47,7 +49,8 @@ abbrev mutual
 
   pub members_are_whole : Members → Bool
   members_are_whole no_members = true
-  members_are_whole (member name value members) = is_utf8 name && is_whole value && members_are_whole members
+  members_are_whole (member name value members) =
+      is_utf8 name && is_whole value && members_are_whole members
 
 -- a whole JSON value in which at most 100 arrays and objects stand inside each other
 unfoldable pub is_tree : Data → Bool
@@ -59,7 +62,8 @@ json_of bytes = if is_utf8 bytes then read bytes else None
 
 -- why a JSON value is no tree, in the order of the refusals
 abbrev pub tree_refusals : Data → List (Option TreeError)
-tree_refusals value = when (has_float value) NotWhole ∷ when (nat_lt max_tree_depth (depth value)) Deep ∷ []
+tree_refusals value =
+    when (has_float value) NotWhole ∷ when (nat_lt max_tree_depth (depth value)) Deep ∷ []
 
 abbrev pub tree_if_json : Option Data → Result Data TreeError
 tree_if_json None = Err Json

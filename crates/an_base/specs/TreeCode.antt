@@ -1,4 +1,5 @@
--- How the logic stores a JSON value, which holds itself: as a list of marks, each before the marks of its parts.
+-- How the logic stores a JSON value, which holds itself: as a list of marks, each before the marks
+-- of its parts.
 use Rattle.std.specs.Prelude.{◌≡◌, ℕ, ℤ, pos, Bool, true, false, cond, ◌==◌, Float, List, [], ◌∷◌, refl}
 use Rattle.std.specs.Float.{nan}
 use Rattle.std.specs.Coded.{Coded, code_by, coded×, coded_ℕ, coded_ℤ, coded_list}
@@ -38,9 +39,12 @@ to_parts (member_mark name) = (12, (name, (0, (pos 0, nan))))
 
 abbrev from_parts : Parts → Mark
 from_parts p =
-    cond (p.0 == 0) null_mark (cond (p.0 == 1) (boolean_mark false) (cond (p.0 == 2) (boolean_mark true)
-    (cond (p.0 == 3) (number_mark (unsigned p.1.1.0)) (cond (p.0 == 4) (number_mark (negative p.1.1.1.0)) (cond (p.0 == 5) (number_mark (float p.1.1.1.1))
-    (cond (p.0 == 6) (string_mark p.1.0) (cond (p.0 == 7) array_mark (cond (p.0 == 8) no_items_mark (cond (p.0 == 9) item_mark
+    cond (p.0 == 0) null_mark (cond (p.0 == 1) (boolean_mark false) (cond (p.0 == 2)
+    (boolean_mark true)
+    (cond (p.0 == 3) (number_mark (unsigned p.1.1.0)) (cond (p.0 == 4) (number_mark
+    (negative p.1.1.1.0)) (cond (p.0 == 5) (number_mark (float p.1.1.1.1))
+    (cond (p.0 == 6) (string_mark p.1.0) (cond (p.0 == 7) array_mark (cond (p.0 == 8) no_items_mark
+    (cond (p.0 == 9) item_mark
     (cond (p.0 == 10) object_mark (cond (p.0 == 11) no_members_mark (member_mark p.1.0))))))))))))
 
 pub from_parts-to_parts : (m : Mark) → from_parts (to_parts m) ≡ m
@@ -59,7 +63,9 @@ from_parts-to_parts no_members_mark = refl
 from_parts-to_parts (member_mark name) = refl
 
 abbrev mark_code : Coded Mark
-mark_code = code_by Parts (coded× coded_ℕ (coded× (coded_list coded_ℕ) (coded× coded_ℕ (coded× coded_ℤ coded_float)))) to_parts from_parts from_parts-to_parts
+mark_code =
+    code_by Parts (coded× coded_ℕ (coded× (coded_list coded_ℕ) (coded× coded_ℕ
+    (coded× coded_ℤ coded_float)))) to_parts from_parts from_parts-to_parts
 
 -- ---- the marks of a value, before the marks of what follows it
 
@@ -78,7 +84,8 @@ abbrev mutual
 
   pub members_marks : Members → List Mark → List Mark
   members_marks no_members rest = no_members_mark ∷ rest
-  members_marks (member name value members) rest = member_mark name ∷ marks value (members_marks members rest)
+  members_marks (member name value members) rest =
+      member_mark name ∷ marks value (members_marks members rest)
 
 -- ---- and back, from the last mark to the first, over the values that the later marks gave
 
@@ -117,33 +124,43 @@ add_mark (number_mark n) parts = value_part (number n) ∷ parts
 add_mark (string_mark text) parts = value_part (string text) ∷ parts
 add_mark array_mark parts = value_part (array (as_items (first parts))) ∷ rest_of parts
 add_mark no_items_mark parts = items_part no_items ∷ parts
-add_mark item_mark parts = items_part (item (as_value (first parts)) (as_items (first (rest_of parts)))) ∷ rest_of (rest_of parts)
+add_mark item_mark parts =
+    items_part (item (as_value (first parts)) (as_items (first (rest_of parts)))) ∷ rest_of
+    (rest_of parts)
 add_mark object_mark parts = value_part (object (as_members (first parts))) ∷ rest_of parts
 add_mark no_members_mark parts = members_part no_members ∷ parts
-add_mark (member_mark name) parts = members_part (member name (as_value (first parts)) (as_members (first (rest_of parts)))) ∷ rest_of (rest_of parts)
+add_mark (member_mark name) parts =
+    members_part (member name (as_value (first parts)) (as_members (first (rest_of parts))))
+    ∷ rest_of (rest_of parts)
 
 abbrev pub parts_of : List Mark → List Part
 parts_of [] = []
 parts_of (mark ∷ marks) = add_mark mark (parts_of marks)
 
 mutual
-  pub parts_of-marks : (value : Data) (rest : List Mark) → parts_of (marks value rest) ≡ value_part value ∷ parts_of rest
+  pub parts_of-marks : (value : Data) (rest : List Mark)
+      → parts_of (marks value rest) ≡ value_part value ∷ parts_of rest
   parts_of-marks null rest = refl
   parts_of-marks (boolean b) rest = refl
   parts_of-marks (number n) rest = refl
   parts_of-marks (string text) rest = refl
   parts_of-marks (array items) rest = ap (add_mark array_mark) (parts_of-items_marks items rest)
-  parts_of-marks (object members) rest = ap (add_mark object_mark) (parts_of-members_marks members rest)
+  parts_of-marks (object members) rest =
+      ap (add_mark object_mark) (parts_of-members_marks members rest)
 
-  pub parts_of-items_marks : (items : Items) (rest : List Mark) → parts_of (items_marks items rest) ≡ items_part items ∷ parts_of rest
+  pub parts_of-items_marks : (items : Items) (rest : List Mark)
+      → parts_of (items_marks items rest) ≡ items_part items ∷ parts_of rest
   parts_of-items_marks no_items rest = refl
   parts_of-items_marks (item value items) rest =
-      ap (add_mark item_mark) (parts_of-marks value (items_marks items rest) ∙ ap (λ parts. value_part value ∷ parts) (parts_of-items_marks items rest))
+      ap (add_mark item_mark) (parts_of-marks value (items_marks items rest) ∙ ap
+      (λ parts. value_part value ∷ parts) (parts_of-items_marks items rest))
 
-  pub parts_of-members_marks : (members : Members) (rest : List Mark) → parts_of (members_marks members rest) ≡ members_part members ∷ parts_of rest
+  pub parts_of-members_marks : (members : Members) (rest : List Mark)
+      → parts_of (members_marks members rest) ≡ members_part members ∷ parts_of rest
   parts_of-members_marks no_members rest = refl
   parts_of-members_marks (member name value members) rest =
-      ap (add_mark (member_mark name)) (parts_of-marks value (members_marks members rest) ∙ ap (λ parts. value_part value ∷ parts) (parts_of-members_marks members rest))
+      ap (add_mark (member_mark name)) (parts_of-marks value (members_marks members rest) ∙ ap
+      (λ parts. value_part value ∷ parts) (parts_of-members_marks members rest))
 
 abbrev pub tree_from : List Mark → Data
 tree_from marks = as_value (first (parts_of marks))
@@ -153,4 +170,5 @@ tree_from-marks value = ap (λ parts. as_value (first parts)) (parts_of-marks va
 
 -- the code of JSON values, for a model whose value holds one
 abbrev pub tree_code : Coded Data
-tree_code = code_by (List Mark) (coded_list mark_code) (λ value. marks value []) tree_from tree_from-marks
+tree_code =
+    code_by (List Mark) (coded_list mark_code) (λ value. marks value []) tree_from tree_from-marks

@@ -1,4 +1,5 @@
--- For private clauses: whether two values are the same, level by level. Where every number is whole, this tells whether they have one text.
+-- For private clauses: whether two values are the same, level by level. Where every number is
+-- whole, this tells whether they have one text.
 use Rattle.std.specs.Prelude.{Bool, true, false, not, ◌&&◌, nat_eq, bytes_eq, is_some}
 use Rattle.std.specs.Ordering.{int_eq}
 use Rattle.std.specs.Option.{option_eq}
@@ -34,4 +35,5 @@ abbrev mutual
   same_members no_members no_members = true
   same_members no_members (member name other others) = false
   same_members (member name value more) no_members = false
-  same_members (member name value more) (member other_name other others) = bytes_eq name other_name && same value other && same_members more others
+  same_members (member name value more) (member other_name other others) =
+      bytes_eq name other_name && same value other && same_members more others

@@ -65,6 +65,18 @@ pub enum Code {
     Version { current: u32 },
     /// The annotation was there for the caller, and isn't any more.
     Gone,
+    /// The request's head is too long, has too many fields, or is out of the grammar (RFC 9112).
+    Head,
+    /// The request has a Transfer-Encoding field: a coded body isn't read.
+    Transfer,
+    /// The request has several Content-Length fields, or one that isn't 1 to 10 digits.
+    Length,
+    /// The request's body is larger than a body may be.
+    Large,
+    /// A PUT has no Content-Length field.
+    LengthRequired,
+    /// The input ends inside the request's body.
+    Body,
 }
 
 impl Code {
@@ -86,23 +98,29 @@ impl Code {
             Code::NotWhole => "not_whole",
             Code::Deep => "deep",
             Code::NoteType => "note_type",
-            Code::NoteTarget { at: _ } => "note_target",
-            Code::NoteBody { at: _ } => "note_body",
-            Code::NoteMotivation { at: _ } => "note_motivation",
-            Code::NoteSelector { at: _ } => "note_selector",
+            Code::NoteTarget { .. } => "note_target",
+            Code::NoteBody { .. } => "note_body",
+            Code::NoteMotivation { .. } => "note_motivation",
+            Code::NoteSelector { .. } => "note_selector",
             Code::ManifestVersion2 => "manifest_version2",
             Code::ManifestType => "manifest_type",
             Code::ManifestLabel => "manifest_label",
             Code::ManifestItems => "manifest_items",
-            Code::ManifestCanvas { at: _ } => "manifest_canvas",
+            Code::ManifestCanvas { .. } => "manifest_canvas",
             Code::NotSigned => "not_signed",
             Code::NotWriter => "not_writer",
             Code::NotOwn => "not_own",
             Code::NotMember => "not_member",
             Code::GroupFixed => "group_fixed",
             Code::TokenTaken => "token_taken",
-            Code::Version { current: _ } => "version",
+            Code::Version { .. } => "version",
             Code::Gone => "gone",
+            Code::Head => "head",
+            Code::Transfer => "transfer",
+            Code::Length => "length",
+            Code::Large => "large",
+            Code::LengthRequired => "length_required",
+            Code::Body => "body",
         }
     }
 }

@@ -2,29 +2,41 @@
 #![tactic(auto)]
 
 pub use bytes::Bytes;
+pub use chars::char_count;
 pub use code::Code;
 pub use copy::TryCopy;
 pub use decimal::read_decimal;
+pub use kept::KeptTree;
 pub use list::List;
-pub use member::{has_type, member_count, text_in, trees_in};
+pub use member::{has_item, has_type, member_count, text_in, trees_in};
 pub use moment::{
     Moment, MomentError, moment_of, moment_text, moment_texts_are_ascii, moment_texts_are_unique,
-    moments_read_back,
+    moments_are_told, moments_read_back,
 };
 pub use name::{Name, NameError};
 pub use object::{with_member, without_member};
 pub use span::{Prefer, Span, TermTotal};
 pub use steps::Steps;
 pub use text::Text;
+pub use text_set::{TextSet, to_u32};
+pub use token::is_token;
 pub use tree::{
     Tree, TreeError, equal_texts_are_equal_trees, one_or_many, read_tree, tree_text,
     trees_read_back,
 };
+pub use value::{is_tree, read_value, values_read_back};
+pub use write::{
+    close_items, close_members, push_array_member, push_comma, push_members, push_members_above,
+    push_name, push_number, push_number_member, push_text, push_text_member, push_value,
+    push_value_member,
+};
 
 mod bytes;
+mod chars;
 mod code;
 mod copy;
 mod decimal;
+mod kept;
 mod list;
 mod member;
 mod moment;
@@ -32,7 +44,9 @@ mod name;
 mod object;
 mod span;
 mod steps;
-#[cfg(test)]
-mod tests;
 mod text;
+mod text_set;
+mod token;
 mod tree;
+mod value;
+mod write;

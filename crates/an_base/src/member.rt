@@ -49,8 +49,9 @@ pub fn has_type(tree: &Value, name: &str) -> bool
     }
 }
 
-fn has_item(items: &[Value], text: &str) -> bool
-    ensures { result ≡ has_item text.now (items_view items.now) }
+/// Whether one of the items is this text.
+pub fn has_item(items: &[Value], text: &str) -> bool
+    ensures is { result ≡ has_item text.now (items_view items.now) }
 {
     for item in items {
         if is_text(item, text) {

@@ -1,7 +1,7 @@
 ghost use Rattle.std.specs.Prelude.{◌≡◌, ◌↔◌, ◌+◌, ◌-◌, ◌<◌, ◌≤◌, ◌&&◌, if◌then◌else◌, length, IsTrue, List, ℕ, ℤ, Ok, IfOk, IfSome, IsSome};
 ghost use Rattle.std.specs.Str.{IsAscii};
 ghost use Rattle.std.specs.Char.{is_ascii_digit};
-ghost use Rattle.an_base.specs.Moment.{has_form, has_digits, fits, number_at, date_time_in, is_date, is_time, days_before, moment_at, moment_of, date_time_text, date_time_after, moment_text, IsMoment};
+ghost use Rattle.an_base.specs.Moment.{has_form, has_digits, fits, number_at, date_time_in, is_date, is_time, days_before, moment_at, moment_of, date_time_text, date_time_after, moment_text, IsMoment, is_moment};
 
 use crate::text::Text;
 use jiff_core::civil::Date;
@@ -82,6 +82,12 @@ impl Moment {
         }
     }
 }
+
+/// A law: `is_moment` tells the moments.
+#[tactic(auto, using(crate::proofs::MomentTest::told))]
+pub fn moments_are_told()
+    ensures told { (m : ℤ) → IsTrue (is_moment m) ↔ IsMoment m }
+{}
 
 /// Each moment is read again from its text.
 pub fn moments_read_back()
@@ -263,6 +269,3 @@ fn date_time_text(alloc: Global, t: DateTime) -> Result<Text, AllocError>
     )?;
     Ok(Text::from_string(text))
 }
-
-#[cfg(test)]
-mod tests;

@@ -35,14 +35,6 @@ impl Text {
         Text { text }
     }
 
-    /// Takes no memory.
-    pub fn into_string(self) -> String
-        ensures value { string_bytes result ≡ self }
-    {
-        let Text { text } = self;
-        text
-    }
-
     pub fn as_str(&self) -> &str
         ensures value { result.now ≡ self.now }
     {

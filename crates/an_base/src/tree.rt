@@ -14,11 +14,8 @@ use std::alloc::{AllocError, Global};
 use std::marker::Model;
 use std::slice;
 
-#[cfg(test)]
-mod tests;
-
 /// How many arrays and objects may stand inside each other in a tree.
-const MAX_TREE_DEPTH: usize = 100;
+pub(crate) const MAX_TREE_DEPTH: usize = 100;
 
 /// Why bytes are no tree.
 #[derive(Clone, Copy, Debug, PartialEq, Eq)]
@@ -165,7 +162,7 @@ pub fn equal_texts_are_equal_trees()
 
 /// The JSON value that bytes are, of which the later of two members with one name counts.
 #[tactic(auto, using(crate::proofs::TreeLemmas::reading))]
-fn read_json(alloc: Global, bytes: &[u8]) -> Result<Value, TreeError>
+pub(crate) fn read_json(alloc: Global, bytes: &[u8]) -> Result<Value, TreeError>
     ensures json { Gives view TreeError.Memory result (ok_or (json_of bytes.now) TreeError.Json) }
 {
     match Value::from_slice(alloc, bytes) {
@@ -183,7 +180,7 @@ fn read_json(alloc: Global, bytes: &[u8]) -> Result<Value, TreeError>
 /// Whether no number is a float. What the types keep is the rest of a whole value: a text is
 /// UTF-8, and a map's names ascend.
 #[cycle(whole)]
-fn is_whole(value: &Value) -> bool
+pub(crate) fn is_whole(value: &Value) -> bool
     ensures whole { result ≡ is_whole (view value.now) }
     ensures no_float { result ≡ not (has_float (view value.now)) }
 {
@@ -239,7 +236,7 @@ fn members_are_whole(members: &Map<String, Value>) -> bool
 
 /// Whether at most this many arrays and objects stand inside each other.
 #[cycle(nests)]
-fn nests_within(value: &Value, levels: usize) -> bool
+pub(crate) fn nests_within(value: &Value, levels: usize) -> bool
     ensures { result ≡ nat_le (depth (view value.now)) levels }
 {
     match value {

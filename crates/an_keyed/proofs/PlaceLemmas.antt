@@ -80,7 +80,7 @@ same_owner-refl : (a : Option (List ℕ)) → same_owner a a ≡ true
 same_owner-refl None = refl
 same_owner-refl (Some a) = (bytes_eq-Decides a a).1 refl
 
-same_key-refl : (a : Key) → same_key a a ≡ true
+pub same_key-refl : (a : Key) → same_key a a ≡ true
 same_key-refl a = and_from (same_owner a.owner a.owner) _ (same_owner-refl a.owner) ((bytes_eq-Decides a.name a.name).1 refl)
 
 position-push-within : {A : Type 0} (p : A → Bool) (xs : List A) (y : A) (i : ℕ) → position p xs ≡ Some i → position p (xs ++ y ∷ []) ≡ Some i

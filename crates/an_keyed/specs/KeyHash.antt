@@ -6,4 +6,5 @@ use Rattle.an_keyed.specs.Key.{Key}
 
 -- SipHash-1-3 of the owner, where there is one, and then the name
 unfoldable pub key_hash : Key → ℕ
-key_hash key = sip.finish (fold sip.write sip.initial (fed.option fed.str key.owner ++ fed.str key.name))
+key_hash key =
+    sip.finish (fold sip.write sip.initial (fed.option fed.str key.owner ++ fed.str key.name))

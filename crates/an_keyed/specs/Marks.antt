@@ -1,4 +1,5 @@
--- Rows that may have a mark: a text by which a row is found beside its key. Several rows may have one mark.
+-- Rows that may have a mark: a text by which a row is found beside its key. Several rows may have
+-- one mark.
 use Rattle.std.specs.Prelude.{ℕ, ◌+◌, List, drop, bytes_eq, Bool, Option, option_map, find, position}
 use Rattle.an_base.specs.Outcome.{passes}
 
@@ -13,4 +14,6 @@ module _ {R : Type 0} (mark : R → Option (List ℕ)) where
 
   -- the first place from `start` on whose row has this mark
   abbrev pub marked_place : List ℕ → ℕ → List R → Option ℕ
-  marked_place wanted start rows = option_map (λ place. start + place) (position (λ row. is_mark wanted (mark row)) (drop start rows))
+  marked_place wanted start rows =
+      option_map (λ place. start + place) (position (λ row. is_mark wanted (mark row))
+      (drop start rows))

@@ -1,5 +1,6 @@
 -- A list of rows, each under a key of its own, in the order in which the keys came first.
-use Rattle.std.specs.Prelude.{ℕ, List, [], ◌∷◌, ◌++◌, Option, Some, None, option_and_then, position, slice_set, slice_get}
+use Rattle.std.specs.Prelude.{ℕ, List, [], ◌∷◌, ◌++◌, Bool, true, ◌&&◌, not, Option, Some, None, option_and_then, position, slice_set, slice_get}
+use Rattle.std.specs.List.{list_any}
 use Rattle.an_keyed.specs.Key.{Key, same_key}
 
 -- the rows, and how many more there is memory for
@@ -23,3 +24,9 @@ module _ {R : Type 0} (key : R → Key) where
 
   abbrev pub put_row : R → List R → List R
   put_row row rows = put_at (place_of (key row) rows) row rows
+
+  -- no two rows have one key
+  abbrev pub keys_are_distinct : List R → Bool
+  keys_are_distinct [] = true
+  keys_are_distinct (row ∷ rows) =
+      not (list_any (λ other. same_key (key other) (key row)) rows) && keys_are_distinct rows

@@ -2,17 +2,15 @@
 #![tactic(auto)]
 
 pub use key::Keyed;
+pub use log::Log;
 pub use mark::Marked;
 pub use marked::MarkedRows;
 pub use rows::Rows;
-pub use scanned::ScannedRows;
 
 mod hashes;
 mod key;
+mod log;
 mod mark;
 mod marked;
 mod places;
 mod rows;
-mod scanned;
-#[cfg(test)]
-mod tests;

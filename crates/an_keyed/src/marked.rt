@@ -1,8 +1,8 @@
-ghost use Rattle.std.specs.Prelude.{◌≡◌, ◌+◌, ◌<◌, ◌≤◌, [], IfSome, OnOk, length, map, option_and_then, slice_get, unwrap_or};
+ghost use Rattle.std.specs.Prelude.{◌≡◌, ◌+◌, ◌<◌, ◌≤◌, [], IfSome, IsTrue, OnOk, length, map, option_and_then, slice_get, unwrap_or};
 ghost use Rattle.std.specs.Option.{option_copied};
 ghost use Rattle.an_keyed.specs.MarkIndex.{IsEntered, IsKept, IsMarkIndex, mark_hash};
 ghost use Rattle.an_keyed.specs.Marks.{marked_place, marked_row};
-ghost use Rattle.an_keyed.specs.Rows.{place_of, row_of, put_row};
+ghost use Rattle.an_keyed.specs.Rows.{keys_are_distinct, place_of, row_of, put_row};
 
 use crate::key::Keyed;
 use crate::mark::{Marked, hash_of_mark, is_marked_from, with_place};
@@ -65,9 +65,10 @@ impl<R: Keyed + Marked + Drop> MarkedRows<R> {
         self.rows.place(owner, name)
     }
 
-    /// The row with this key.
+    /// The row with this key; no two rows have one key.
     pub fn find(&self, owner: Option<&Name>, name: &Name) -> Option<&R>
         ensures row { option_copied result ≡ row_of R.key (record { owner = option_copied owner.entry; name = name.now }) self.now.rows }
+        ensures distinct { IsTrue (keys_are_distinct R.key self.now.rows) }
     {
         self.rows.find(owner, name)
     }

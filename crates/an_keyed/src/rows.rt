@@ -1,8 +1,8 @@
-ghost use Rattle.std.specs.Prelude.{◌≡◌, ◌+◌, ◌<◌, ◌≤◌, [], OnOk, map};
+ghost use Rattle.std.specs.Prelude.{◌≡◌, ◌+◌, ◌<◌, ◌≤◌, [], IsTrue, OnOk, map};
 ghost use Rattle.std.specs.Option.{option_copied};
 ghost use Rattle.an_keyed.specs.Index.{IsHashed};
 ghost use Rattle.an_keyed.specs.KeyHash.{key_hash};
-ghost use Rattle.an_keyed.specs.Rows.{place_of, row_of, put_row};
+ghost use Rattle.an_keyed.specs.Rows.{keys_are_distinct, place_of, row_of, put_row};
 
 use crate::hashes::Hashes;
 use crate::key::{Keyed, has_key, hash_of};
@@ -68,9 +68,11 @@ impl<R: Keyed + Drop> Rows<R> {
         )
     }
 
-    /// The row with this key.
+    /// The row with this key; no two rows have one key.
+    #[tactic(auto, using(crate::proofs::DistinctLemmas::distinct_rows))]
     pub fn find(&self, owner: Option<&Name>, name: &Name) -> Option<&R>
         ensures row { option_copied result ≡ row_of R.key (record { owner = option_copied owner.entry; name = name.now }) self.now.rows }
+        ensures distinct { IsTrue (keys_are_distinct R.key self.now.rows) }
     {
         match self.place(owner, name) {
             None => None,

@@ -1,40 +1,36 @@
 -- Each accepted write leads from a coherent state to a coherent one.
-use Rattle.std.proofs.Common.{◌≡◌, ℕ, ℤ, false, not, List, [], ◌∷◌, ◌++◌, Option, Some, None, option_map, refl, sym, ap, subst, ◌∙◌}
+use Rattle.std.proofs.Common.{◌≡◌, ℕ, ℤ, true, false, not, List, [], ◌∷◌, ◌++◌, Option, Some, None, refl, sym, ap, subst, ◌∙◌}
 use Rattle.std.specs.Prelude.{All, IsTrue}
 use Rattle.std.specs.List.{list_all}
-use Rattle.std.specs.Result.{result_ok}
 use Rattle.std.proofs.lemmas.Bool.{not-false}
 use Rattle.std.proofs.lemmas.List.Elements.{All-nil}
-use Rattle.serde_json.specs.Data.{Data}
 use Rattle.an_base.specs.Outcome.{first_of, passes}
-use Rattle.an_manifest.specs.Manifest.{manifest_of}
-use Rattle.an_model.specs.Note.{note_of}
 use Rattle.an_keyed.specs.Key.{Key}
 use Rattle.an_policy.specs.Audience.{Identity}
-use Rattle.an_policy.specs.declared.group.Audience.{Audience}
-use Rattle.an_policy.specs.declared.group.Group.{Group}
-use Rattle.an_policy.specs.declared.group.Group.TheVariants.{Public}
-use Rattle.an_machine.specs.Accepted.{creator_of, live_note_of, manifest_created, moment_of_write, new_activities, new_rows, put_manifest, put_note}
+use Rattle.an_machine.specs.Accepted.{audience_of_manifest, audience_of_note, effect_of, manifest_tombstone, moment_of_write, note_tombstone, put_manifest, put_note}
 use Rattle.an_machine.specs.Entries.{after, with_row, with_rows}
-use Rattle.an_machine.specs.Refusals.{manifest_refusals, note_refusals, refusals}
-use Rattle.an_machine.specs.State.{State, KeptReader, KeptManifest, KeptNote, empty, manifest_row, is_distinct}
-use Rattle.an_machine.specs.Versions.{ruling, same_group}
-use Rattle.an_machine.specs.declared.command.Command.{Command}
-use Rattle.an_machine.specs.declared.command.Command.TheVariants.{PutReader, DropReader, PutManifest, DropManifest, PutNote, DropNote}
+use Rattle.an_machine.specs.Refusals.{refusals_behind}
+use Rattle.an_machine.specs.Sound.{is_sound, stands_on_live}
+use Rattle.an_machine.specs.State.{State, KeptReader, KeptManifest, empty, manifest_row, note_row, is_distinct}
+use Rattle.an_machine.specs.Versions.{is_next, same_group}
 use Rattle.an_machine.specs.declared.activity.Activity.{Activity}
+use Rattle.an_machine.specs.declared.asked.Asked.{Asked}
+use Rattle.an_machine.specs.declared.asked.Asked.TheVariants.{Deletion}
+use Rattle.an_machine.specs.declared.asked.Asked.TheVariants as put
+use Rattle.an_machine.specs.declared.asked.ManifestPut.{ManifestPut}
+use Rattle.an_machine.specs.declared.asked.NotePut.{NotePut}
+use Rattle.an_machine.specs.declared.command.Object.TheVariants as object
 use Rattle.an_machine.specs.declared.entry.Row.TheVariants as kept
-use Rattle.an_machine.specs.declared.versions.Ruling.TheVariants.{Next}
 use Rattle.an_laws.specs.Coherent.{Chain, Coherent, activities_of, audiences_of, has_any, has_row}
-use Rattle.an_laws.specs.Legal.{Write, Accepts, LegalFrom, Legal, state_from, state_of}
-use Rattle.an_laws.specs.Sound.{is_sound, stands_on_live}
+use Rattle.an_laws.specs.Legal.{Write, Accepts, Legal, state_of}
 use Rattle.an_laws.proofs.AudienceLemmas.{CoherentFirst, coherent-first, all-audiences}
 use Rattle.an_laws.proofs.BurialLemmas.{left_state}
-use Rattle.an_laws.proofs.DropLemmas.{as_dropped, with_rows-tombstone}
+use Rattle.an_laws.proofs.DropLemmas.{with_rows-tombstone}
 use Rattle.an_laws.proofs.LeadLemmas.{key_at, Leads, leads-none, leads-both, leads-note, leads-manifest, coherent-behind, NotesStay}
 use Rattle.an_laws.proofs.LeftLemmas.{leads-left}
-use Rattle.an_laws.proofs.RefusalLemmas.{manifest-put, manifest-fixed, note-put, same_group-equal}
+use Rattle.an_laws.proofs.RefusalLemmas.{manifest-fixed, same_group-equal}
 use Rattle.an_laws.proofs.RiseLemmas.{drop-found}
-use Rattle.an_laws.proofs.SoundLemmas.{empty-sound, sound-after}
+use Rattle.an_laws.proofs.SoundLemmas.{sound-after}
 use Rattle.an_laws.proofs.SoundParts.{sound-parts}
 use Rattle.an_laws.proofs.StayLemmas.{group_in, stay-kept, stay-new}
 use Rattle.an_laws.proofs.StepLemmas.{accepted-is}
@@ -66,23 +62,8 @@ arrives-reader : (s : State) (row : KeptReader) → Arrives s [] (with_row s (ke
 arrives-reader s row = record { leads = leads-none s (with_row s (kept.Reader row)) (λ key. (refl, refl)); same = refl }
 
 module _ (s : State) (who : Identity) (at : ℤ) where
-  abbrev ArrivesBy : Command → Type 0
-  ArrivesBy command = Arrives s (new_activities s who at command) (with_rows (new_rows s who at command) s)
-
-  -- an annotation that is put is one that is kept
-  arrives-put_note : (owner name : List ℕ) (version : ℕ) (manifest : List ℕ) (group : Group) (tree : Data) → first_of (note_refusals s who owner manifest group tree) ≡ None
-      → ArrivesBy (PutNote owner name version manifest group tree)
-  arrives-put_note owner name version manifest group tree none =
-      let tree_kept = note-put s who owner manifest group tree none in
-      let live = option_map (put_note (creator_of who (live_note_of s owner name)) at (option_map (λ before. before.created) (live_note_of s owner name)) manifest group) (result_ok (note_of tree)) in
-      let row : KeptNote = record { owner = owner; name = name; version = version; live = live } in
-      let behind : Option Audience = option_map (λ m. record { outer = m.group; inner = group; owner = Some owner }) (manifest_row s manifest) in
-      record { leads = leads-note s row who at behind (rw tree_kept refl); same = refl }
-
-  -- the tombstone of an annotation is read by nobody
-  arrives-drop_note : (owner name : List ℕ) (version : ℕ) → ArrivesBy (DropNote owner name version)
-  arrives-drop_note owner name version =
-      record { leads = leads-note s (record { owner = owner; name = name; version = version; live = None }) who at None refl; same = refl }
+  abbrev ArrivesBy : Asked → Type 0
+  ArrivesBy asked = Arrives s (effect_of s who at asked).activities (with_rows (effect_of s who at asked).rows s)
 
   -- a manifest that is put has the group of the one that it replaces
   stay-put : (row : KeptManifest) (found : Option KeptManifest) → manifest_row s row.name ≡ found → passes (λ other. not (same_group other.group row.group)) found ≡ false
@@ -90,46 +71,50 @@ module _ (s : State) (who : Identity) (at : ℤ) where
   stay-put row None is fixed stand = stay-new s row is stand
   stay-put row (Some old) is fixed stand = stay-kept s row (ap group_in is ∙ ap (λ group. Some group) (same_group-equal old.group row.group (not-false _ fixed)))
 
-  -- a manifest that is put is one that is kept
-  arrives-put_manifest : (name : List ℕ) (version : ℕ) (group : Group) (tree : Data) → first_of (manifest_refusals s who name group tree) ≡ None
-      → IsTrue (list_all (stands_on_live s) s.notes) → ArrivesBy (PutManifest name version group tree)
-  arrives-put_manifest name version group tree none stand =
-      let tree_kept = manifest-put s who name group tree none in
-      let fixed = manifest-fixed s who name group tree none in
-      let row : KeptManifest = record { name = name; version = version; group = group; live = option_map (put_manifest at (manifest_created s name)) (result_ok (manifest_of tree)) } in
-      record {
-        leads = leads-manifest s row who at (Some (record { outer = group; inner = Public; owner = None })) (rw tree_kept refl) (stay-put row (manifest_row s name) refl fixed stand);
-        same = refl;
-      }
+  arrives-put_manifest : (m : ManifestPut) → first_of (refusals_behind s (put.Manifest m)) ≡ None
+      → IsTrue (list_all (stands_on_live s) s.notes) → ArrivesBy (put.Manifest m)
+  arrives-put_manifest m none stand =
+      let row = put_manifest at (manifest_row s m.name) m in
+      record { leads = leads-manifest s row who at (audience_of_manifest row) refl (stay-put row (manifest_row s m.name) refl (manifest-fixed s m none) stand); same = refl }
+
+  arrives-put_note : (n : NotePut) → ArrivesBy (put.Note n)
+  arrives-put_note n =
+      let row = put_note who at (note_row s n.owner n.name) n in
+      record { leads = leads-note s row who at (audience_of_note s row) refl; same = refl }
+
+  -- the tombstone of an annotation is read by nobody
+  arrives-drop_note : (owner name : List ℕ) (version : ℕ) → ArrivesBy (Deletion (object.Note owner name) version)
+  arrives-drop_note owner name version = record { leads = leads-note s (note_tombstone owner name version) who at None refl; same = refl }
 
   -- the tombstone of a manifest is put behind those of its annotations
-  arrives-buried : (name : List ℕ) (version : ℕ) (old : KeptManifest) → manifest_row s name ≡ Some old → IsTrue (is_distinct s) → ArrivesBy (DropManifest name version)
+  arrives-buried : (name : List ℕ) (version : ℕ) (old : KeptManifest) → manifest_row s name ≡ Some old → IsTrue (is_distinct s) → ArrivesBy (Deletion (object.Manifest name) version)
   arrives-buried name version old is distinct =
       let left = left_state s name in
-      let row = as_dropped name version old in
+      let row = manifest_tombstone name version old in
       let buried = leads-left s who at name distinct in
       let last = leads-manifest left row who at None refl (stay-kept left row (ap group_in is)) in
-      subst (λ t. Arrives s (new_activities s who at (DropManifest name version)) t) (sym (with_rows-tombstone s who at name version old is)) (record { leads = leads-both buried last; same = refl })
+      subst (λ t. Arrives s (effect_of s who at (Deletion (object.Manifest name) version)).activities t) (sym (with_rows-tombstone s who at name version old is)) (record { leads = leads-both buried last; same = refl })
 
-  -- each command leads to the rows that it puts
-  arrives : (command : Command) → first_of (refusals s who command) ≡ None → ruling s command ≡ Next → IsTrue (is_sound s) → ArrivesBy command
-  arrives (PutReader name version tree) none next sound = arrives-reader s _
-  arrives (DropReader name version) none next sound = arrives-reader s _
-  arrives (PutManifest name version group tree) none next sound = arrives-put_manifest name version group tree none (sound-parts s sound).stand
-  arrives (DropManifest name version) none next sound =
-      let found = drop-found (manifest_row s name) version next in
+  -- what is asked for leads to the rows that it puts
+  arrives : (asked : Asked) → first_of (refusals_behind s asked) ≡ None → is_next s asked ≡ true → IsTrue (is_sound s) → ArrivesBy asked
+  arrives (put.Reader r) none next sound = arrives-reader s _
+  arrives (put.Manifest m) none next sound = arrives-put_manifest m none (sound-parts s sound).stand
+  arrives (put.Note n) none next sound = arrives-put_note n
+  arrives (Deletion (object.Reader name) version) none next sound = arrives-reader s _
+  arrives (Deletion (object.Manifest name) version) none next sound =
+      let found = drop-found s name version next in
       arrives-buried name version found.0 found.1 (sound-parts s sound).distinct
-  arrives (PutNote owner name version manifest group tree) none next sound = arrives-put_note owner name version manifest group tree none
-  arrives (DropNote owner name version) none next sound = arrives-drop_note owner name version
+  arrives (Deletion (object.Note owner name) version) none next sound = arrives-drop_note owner name version
 
 -- a write that is accepted keeps the first rows coherent
 first-after : (s : State) (write : Write) → Accepts s write → IsTrue (is_sound s) → CoherentFirst s → CoherentFirst (after s write.entry)
 first-after s write accepts sound coherent =
     let is = accepted-is s write accepts in
     let at = moment_of_write s write.moment in
-    let behind = arrives s is.who at write.command is.unrefused is.next sound in
+    let effect = effect_of s is.who at is.asked in
+    let behind = arrives s is.who at is.asked is.unrefused is.next sound in
     subst (λ entry. CoherentFirst (after s entry)) (sym is.same)
-    (coherent-arrives s (with_rows (new_rows s is.who at write.command) s) (new_activities s is.who at write.command) coherent behind)
+    (coherent-arrives s (with_rows effect.rows s) effect.activities coherent behind)
 
 -- and all rows, whose names stay distinct; in the two parts that the law's clause has there
 pub chains-after : (s : State) (write : Write) (key : Key) → Accepts s write → IsTrue (is_sound s) → Coherent s
@@ -144,19 +129,18 @@ rows-after s write key accepts sound coherent = (first-after s write accepts sou
 pub coherent-after : (s : State) (write : Write) → Accepts s write → IsTrue (is_sound s) → Coherent s → Coherent (after s write.entry)
 coherent-after s write accepts sound coherent key = (chains-after s write key accepts sound coherent, rows-after s write key accepts sound coherent)
 
-coherent-along : (s : State) (writes : List Write) → LegalFrom s writes → IsTrue (is_sound s) → Coherent s → Coherent (state_from s writes)
-coherent-along s [] legal sound coherent = coherent
-coherent-along s (write ∷ writes) legal sound coherent =
-    coherent-along (after s write.entry) writes legal.1 (sound-after s write legal.0 sound) (coherent-after s write legal.0 sound coherent)
-
 -- so each legal history leads to a coherent state
-pub histories-coherent : (writes : List Write) → Legal writes → Coherent (state_of writes)
-histories-coherent writes legal = coherent-along empty writes legal empty-sound empty-coherent
+pub histories-coherent : (s : State) (writes : List Write) → Legal s writes → IsTrue (is_sound s) → Coherent s → Coherent (state_of s writes)
+histories-coherent s [] legal sound coherent = coherent
+histories-coherent s (write ∷ writes) legal sound coherent =
+    histories-coherent (after s write.entry) writes legal.1 (sound-after s write legal.0 sound) (coherent-after s write legal.0 sound coherent)
 
-pub chains-along : (writes : List Write) (key : Key) → Legal writes → All (Chain None (activities_of key (state_of writes).activities)) (audiences_of (state_of writes) key)
-chains-along writes key legal = (histories-coherent writes legal key).0
+pub chains-along : (s : State) (writes : List Write) (key : Key) → Legal s writes → IsTrue (is_sound s) → Coherent s
+    → All (Chain None (activities_of key (state_of s writes).activities)) (audiences_of (state_of s writes) key)
+chains-along s writes key legal sound coherent = (histories-coherent s writes legal sound coherent key).0
 
-pub rows-along : (writes : List Write) (key : Key) → Legal writes → has_row (state_of writes) key ≡ has_any (activities_of key (state_of writes).activities)
-rows-along writes key legal = (histories-coherent writes legal key).1
+pub rows-along : (s : State) (writes : List Write) (key : Key) → Legal s writes → IsTrue (is_sound s) → Coherent s
+    → has_row (state_of s writes) key ≡ has_any (activities_of key (state_of s writes).activities)
+rows-along s writes key legal sound coherent = (histories-coherent s writes legal sound coherent key).1
 
 pub ruleset coherence = (empty-coherent, chains-after, rows-after, chains-along, rows-along)

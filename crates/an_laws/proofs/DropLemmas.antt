@@ -2,16 +2,11 @@
 use Rattle.std.proofs.Common.{◌≡◌, ℕ, ℤ, List, ◌++◌, Option, Some, None, option_map, option_to_list, refl, ap, ◌∙◌}
 use Rattle.an_keyed.specs.Rows.{put_row}
 use Rattle.an_policy.specs.Audience.{Identity}
-use Rattle.an_machine.specs.Accepted.{moment_of_write, new_activities, new_rows, entry_of, notes_on, buried_manifest}
-use Rattle.an_machine.specs.Entries.{with_row, with_rows, after}
+use Rattle.an_machine.specs.Accepted.{manifest_deletion, manifest_tombstone, notes_on}
+use Rattle.an_machine.specs.Entries.{with_row, with_rows}
 use Rattle.an_machine.specs.State.{State, KeptManifest, manifest_key, manifest_row}
-use Rattle.an_machine.specs.declared.command.Command.TheVariants.{DropManifest}
 use Rattle.an_machine.specs.declared.entry.Row.TheVariants as kept
 use Rattle.an_laws.proofs.BurialLemmas.{left_state, with_rows-notes}
-
--- the row of a manifest that is deleted
-abbrev pub as_dropped : List ℕ → ℕ → KeptManifest → KeptManifest
-as_dropped name version row = record { name = name; version = version; group = row.group; live = None }
 
 -- the row is put, where there is one
 abbrev pub put_found : Option KeptManifest → List KeptManifest → List KeptManifest
@@ -20,30 +15,24 @@ put_found (Some row) rows = put_row manifest_key row rows
 
 -- the rows are put: the annotations are left, and the manifest, where it has a row, is a tombstone
 abbrev pub dropped : State → List ℕ → ℕ → State
-dropped s name version = record (left_state s name) { manifests = put_found (option_map (as_dropped name version) (manifest_row s name)) s.manifests }
+dropped s name version = record (left_state s name) { manifests = put_found (option_map (manifest_tombstone name version) (manifest_row s name)) s.manifests }
 
 -- the tombstone is put, where the manifest has a row
 with_rows-found : (name : List ℕ) (version : ℕ) (found : Option KeptManifest) (s : State)
-    → with_rows (option_to_list (option_map (λ row. kept.Manifest (as_dropped name version row)) found)) s
-    ≡ record s { manifests = put_found (option_map (as_dropped name version) found) s.manifests }
+    → with_rows (option_to_list (option_map kept.Manifest (option_map (manifest_tombstone name version) found))) s
+    ≡ record s { manifests = put_found (option_map (manifest_tombstone name version) found) s.manifests }
 with_rows-found name version None s = refl
 with_rows-found name version (Some row) s = refl
 
 module _ (s : State) (who : Identity) (at : ℤ) (name : List ℕ) (version : ℕ) where
   -- the rows of the deletion are put
-  with_rows-dropped : with_rows (new_rows s who at (DropManifest name version)) s ≡ dropped s name version
-  with_rows-dropped = with_rows-notes (notes_on s name) (option_to_list (buried_manifest s name version)) s ∙ with_rows-found name version (manifest_row s name) (left_state s name)
+  pub with_rows-dropped : with_rows (manifest_deletion s who at (manifest_row s name) name version).rows s ≡ dropped s name version
+  with_rows-dropped =
+      with_rows-notes (notes_on s name) (option_to_list (option_map kept.Manifest (option_map (manifest_tombstone name version) (manifest_row s name)))) s
+      ∙ with_rows-found name version (manifest_row s name) (left_state s name)
 
   -- where the manifest has a row its tombstone is put last
   pub with_rows-tombstone : (row : KeptManifest) → manifest_row s name ≡ Some row
-      → with_rows (new_rows s who at (DropManifest name version)) s ≡ with_row (left_state s name) (kept.Manifest (as_dropped name version row))
+      → with_rows (manifest_deletion s who at (manifest_row s name) name version).rows s ≡ with_row (left_state s name) (kept.Manifest (manifest_tombstone name version row))
   with_rows-tombstone row is =
-      with_rows-dropped ∙ ap (λ found. record (left_state s name) { manifests = put_found (option_map (as_dropped name version) found) s.manifests }) is
-
--- the state after the deletion
-pub after-dropped : (s : State) (who : Identity) (moment : ℤ) (name : List ℕ) (version : ℕ)
-    → after s (entry_of s who moment (DropManifest name version))
-    ≡ record (dropped s name version) { activities = s.activities ++ new_activities s who (moment_of_write s moment) (DropManifest name version) }
-after-dropped s who moment name version =
-    let more = new_activities s who (moment_of_write s moment) (DropManifest name version) in
-    ap (λ (t : State). record t { activities = t.activities ++ more }) (with_rows-dropped s who (moment_of_write s moment) name version)
+      with_rows-dropped ∙ ap (λ found. record (left_state s name) { manifests = put_found (option_map (manifest_tombstone name version) found) s.manifests }) is

@@ -13,7 +13,8 @@ use Rattle.an_machine.specs.declared.activity.Activity.{Activity}
 use Rattle.an_machine.specs.declared.entry.Row.TheVariants as kept
 use Rattle.an_machine.proofs.DistinctLemmas.{same_key-self}
 use Rattle.an_machine.proofs.ViewLemmas.{same_key-equal}
-use Rattle.an_laws.specs.Coherent.{key_of, activities_of, has_row, Chain, has_any}
+use Rattle.an_machine.specs.View.{activity_key}
+use Rattle.an_laws.specs.Coherent.{activities_of, has_row, Chain, has_any}
 pub use Rattle.an_laws.proofs.AudienceLemmas.{key_at}
 use Rattle.an_laws.proofs.AudienceLemmas.{audience_of, CoherentFirst}
 use Rattle.an_laws.proofs.RowLemmas.{row_of-put_row}
@@ -37,7 +38,7 @@ has_any-append (activity ∷ first) second = refl
 
 module _ (key : Key) (first second : List Activity) where
   of-append : activities_of key (first ++ second) ≡ activities_of key first ++ activities_of key second
-  of-append = filter-append (λ activity. same_key (key_of activity) key) first second
+  of-append = filter-append (λ activity. same_key (activity_key activity) key) first second
 
   -- activities that lead to a state, and then those that lead from it
   leads-both_at : (s t u : State) → LeadsAt s first t key → LeadsAt t second u key → LeadsAt s (first ++ second) u key
@@ -75,12 +76,12 @@ coherent-behind s t new coherent leads key = coherent-at key s.activities new s 
 
 -- it leads from the audience that its object has to the one that it has behind, and no other object changes
 module _ (s t : State) (activity : Activity)
-    (before : activity.before ≡ audience_of s (key_of activity)) (behind : activity.after ≡ audience_of t (key_of activity)) (there : has_row t (key_of activity) ≡ true)
-    (others : (key : Key) → same_key (key_of activity) key ≡ false → (audience_of s key ≡ audience_of t key) × (has_row t key ≡ has_row s key)) where
+    (before : activity.before ≡ audience_of s (activity_key activity)) (behind : activity.after ≡ audience_of t (activity_key activity)) (there : has_row t (activity_key activity) ≡ true)
+    (others : (key : Key) → same_key (activity_key activity) key ≡ false → (audience_of s key ≡ audience_of t key) × (has_row t key ≡ has_row s key)) where
   own_or_other : (key : Key) → LeadsAt s (activity ∷ []) t key
-  own_or_other key = elim (cases_Bool (same_key (key_of activity) key)) [
+  own_or_other key = elim (cases_Bool (same_key (activity_key activity) key)) [
     | inl is ↦
-        let same = same_key-equal (key_of activity) key is in
+        let same = same_key-equal (activity_key activity) key is in
         rw is ((subst (λ k. activity.before ≡ audience_of s k) same before, subst (λ k. activity.after ≡ audience_of t k) same behind), subst (λ k. has_row t k ≡ true) same there ∙ sym (or-true (has_row s key)))
     | inr isnt ↦ rw isnt ((others key isnt).0, (others key isnt).1 ∙ sym (or-false (has_row s key)))
   ]

@@ -7,7 +7,7 @@ use Rattle.std.proofs.lemmas.Int.{ints}
 use Rattle.std.proofs.lemmas.List.Folds.{list_all-append}
 use Rattle.an_machine.specs.Accepted.{later, last_moment}
 use Rattle.an_machine.specs.declared.activity.Activity.{Activity}
-use Rattle.an_laws.specs.Sound.{moments_never_fall}
+use Rattle.an_machine.specs.Sound.{moments_never_fall}
 use Rattle.an_laws.proofs.FoundLemmas.{all-weaker}
 
 -- ---- moments

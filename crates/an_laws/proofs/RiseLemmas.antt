@@ -1,68 +1,48 @@
 -- What an accepted write makes of the numbers of objects.
-use Rattle.std.proofs.Common.{◌≡◌, ℕ, ◌+◌, ◌≤◌, ℤ, Bool, true, false, cond, ◌&&◌, not, List, ◌++◌, Option, Some, None, option_map, unwrap_or, inl, inr, refl, sym, ap, subst, ◌∙◌, arith}
+use Rattle.std.proofs.Common.{◌≡◌, ℕ, ◌+◌, ◌≤◌, ℤ, Bool, true, false, cond, ◌||◌, List, ◌++◌, Option, Some, None, option_map, unwrap_or, inl, inr, refl, sym, ap, subst, ◌∙◌, arith}
 use Rattle.std.specs.Prelude.{◌==◌, ◌^◌, ◌-◌, is_some, nat_lt}
 use Rattle.std.proofs.lemmas.Bool.{cases_Bool, and_parts, cond-true, cond-false, cond_both, eqb-true}
 use Rattle.an_base.specs.Outcome.{passes}
 use Rattle.an_keyed.specs.Key.{Key, same_key}
 use Rattle.an_keyed.specs.Rows.{row_of, put_row}
 use Rattle.an_policy.specs.Audience.{Identity}
-use Rattle.an_machine.specs.Accepted.{object_of, version_of, new_rows, new_activities, moment_of_write, number_behind, buried}
+use Rattle.an_machine.specs.Accepted.{effect_of, deletion, moment_of_write, number_behind, buried, manifest_tombstone}
+use Rattle.an_machine.specs.Asked.{object_of, version_of, object_asked, version_asked, is_put}
 use Rattle.an_machine.specs.Entries.{with_row, with_rows, after}
 use Rattle.an_machine.specs.State.{State, KeptReader, KeptManifest, KeptNote, reader_key, manifest_key, note_key, reader_row, manifest_row, note_row, is_distinct}
-use Rattle.an_machine.specs.Versions.{current, reader_standing, manifest_standing, note_standing, holds_reader, holds_manifest, holds_note, put_ruling, drop_ruling, ruling}
+use Rattle.an_machine.specs.Versions.{current, standing, note_standing, number_of, is_next}
 use Rattle.an_machine.specs.View.{is_on}
 use Rattle.an_machine.specs.declared.activity.Activity.{Activity}
-use Rattle.an_machine.specs.declared.command.Command.{Command}
-use Rattle.an_machine.specs.declared.command.Command.TheVariants.{PutReader, DropReader, PutManifest, DropManifest, PutNote, DropNote}
+use Rattle.an_machine.specs.declared.asked.Asked.{Asked}
+use Rattle.an_machine.specs.declared.asked.Asked.TheVariants.{Deletion}
+use Rattle.an_machine.specs.declared.asked.Asked.TheVariants as put
 use Rattle.an_machine.specs.declared.command.Object.{Object}
 use Rattle.an_machine.specs.declared.command.Object.TheVariants.{Reader, Manifest, Note}
 use Rattle.an_machine.specs.declared.entry.Row.TheVariants as kept
-use Rattle.an_machine.specs.declared.versions.Ruling.TheVariants.{Next, Again, Neither}
-use Rattle.an_machine.specs.declared.versions.Standing.{Standing}
 use Rattle.an_machine.proofs.DistinctLemmas.{same_key-self}
 use Rattle.an_machine.proofs.ViewLemmas.{same_key-equal}
 use Rattle.an_laws.specs.Legal.{Write, Accepts}
-use Rattle.an_laws.specs.Numbers.{number_of}
 use Rattle.an_laws.proofs.BurialLemmas.{as_left, left_state, note_row-left}
-use Rattle.an_laws.proofs.DropLemmas.{as_dropped, with_rows-tombstone}
+use Rattle.an_laws.proofs.DropLemmas.{with_rows-tombstone}
 use Rattle.an_laws.proofs.FoundLemmas.{passes-some}
+use Rattle.an_laws.proofs.RefusalLemmas.{asked-agrees}
 use Rattle.an_laws.proofs.RowLemmas.{row_of-put_row}
 use Rattle.an_laws.proofs.StepLemmas.{accepted-is}
 
--- ---- the number that a ruling asks for
-
--- the next put has the number behind the current one
-put-next : (s : Standing) (holds : Bool) (version : ℕ) → put_ruling s holds version ≡ Next → version ≡ current s + 1
-put-next s holds version next = elim (cases_Bool (version == current s + 1)) [
-  | inl is ↦ eqb-true _ _ is
-  | inr isnt ↦ elim (cases_Bool ((version == current s) && holds)) [
-    | inl again ↦ let other : Again ≡ Next = sym (rw (isnt, again) refl) ∙ next in absurd (cc)
-    | inr stale ↦ let other : Neither ≡ Next = sym (rw (isnt, stale) refl) ∙ next in absurd (cc)
-  ]
-]
-
--- the next deletion has it too, and is of what is live
-drop-next : (s : Standing) (version : ℕ) → drop_ruling s version ≡ Next → (version ≡ current s + 1) × (s.live ≡ true)
-drop-next s version next = elim (cases_Bool ((version == current s + 1) && s.live)) [
-  | inl is ↦ let both = and_parts (version == current s + 1) s.live is in (eqb-true _ _ both.0, both.1)
-  | inr isnt ↦ elim (cases_Bool ((version == current s) && is_some s.version && not s.live)) [
-    | inl again ↦ let other : Again ≡ Next = sym (cond-false _ _ _ isnt ∙ cond-true _ _ _ again) ∙ next in absurd (cc)
-    | inr stale ↦ let other : Neither ≡ Next = sym (cond-false _ _ _ isnt ∙ cond-false _ _ _ stale) ∙ next in absurd (cc)
-  ]
-]
-
--- so a manifest that is deleted next has a row
-pub drop-found : (found : Option KeptManifest) (version : ℕ) → drop_ruling (manifest_standing found) version ≡ Next → (row : KeptManifest) × (found ≡ Some row)
-drop-found found version next = passes-some (λ row. is_some row.live) found (drop-next (manifest_standing found) version next).1
+-- ---- the number of the next write
 
 -- the next write on an object has the number behind its last one
-pub next-number : (s : State) (command : Command) → ruling s command ≡ Next → version_of command ≡ number_of s (object_of command) + 1
-next-number s (PutReader name version tree) next = put-next (reader_standing (reader_row s name)) (passes (holds_reader name version tree) (reader_row s name)) version next
-next-number s (DropReader name version) next = (drop-next (reader_standing (reader_row s name)) version next).0
-next-number s (PutManifest name version group tree) next = put-next (manifest_standing (manifest_row s name)) (passes (holds_manifest tree) (manifest_row s name)) version next
-next-number s (DropManifest name version) next = (drop-next (manifest_standing (manifest_row s name)) version next).0
-next-number s (PutNote owner name version manifest group tree) next = put-next (note_standing (note_row s owner name)) (passes (holds_note manifest group tree) (note_row s owner name)) version next
-next-number s (DropNote owner name version) next = (drop-next (note_standing (note_row s owner name)) version next).0
+pub next-number : (s : State) (asked : Asked) → is_next s asked ≡ true → version_asked asked ≡ number_of s (object_asked asked) + 1
+next-number s asked next = eqb-true _ _ (and_parts (is_put asked || (standing s (object_asked asked)).live) (version_asked asked == number_of s (object_asked asked) + 1) next).1
+
+-- the next deletion is of what is live
+pub drop-next : (s : State) (object : Object) (version : ℕ) → is_next s (Deletion object version) ≡ true → (standing s object).live ≡ true
+drop-next s object version next = (and_parts (standing s object).live (version == number_of s object + 1) next).0
+
+-- so a manifest that is deleted next has a row
+pub drop-found : (s : State) (name : List ℕ) (version : ℕ) → is_next s (Deletion (Manifest name) version) ≡ true → (row : KeptManifest) × (manifest_row s name ≡ Some row)
+drop-found s name version next =
+    let found = passes-some (λ row. is_some row.live) (manifest_row s name) (drop-next s (Manifest name) version next) in (found.0, found.1)
 
 -- ---- the number of a row that is put
 
@@ -142,24 +122,28 @@ left-rises s manifest distinct (Note owner name) =
 
 -- the tombstone of the manifest is put last
 dropped-written : (s : State) (name : List ℕ) (version : ℕ) → is_distinct s ≡ true → version ≡ number_of s (Manifest name) + 1
-    → (row : KeptManifest) → IsWritten s (with_row (left_state s name) (kept.Manifest (as_dropped name version row))) (Manifest name) version
+    → (row : KeptManifest) → IsWritten s (with_row (left_state s name) (kept.Manifest (manifest_tombstone name version row))) (Manifest name) version
 dropped-written s name version distinct next row =
-    let put = manifest-written (left_state s name) (as_dropped name version row) next in
+    let put = manifest-written (left_state s name) (manifest_tombstone name version row) next in
     record { rises = λ other. omega (arith, left-rises s name distinct other, put.rises other); has = put.has }
 
 -- ---- an accepted write
 
 -- the rows of an accepted write make no number lower, and give its object its number
-rows-written : (s : State) (who : Identity) (at : ℤ) (command : Command) → is_distinct s ≡ true → ruling s command ≡ Next
-    → IsWritten s (with_rows (new_rows s who at command) s) (object_of command) (version_of command)
-rows-written s who at (PutReader name version tree) distinct next = reader-written s _ (next-number s (PutReader name version tree) next)
-rows-written s who at (DropReader name version) distinct next = reader-written s _ (next-number s (DropReader name version) next)
-rows-written s who at (PutManifest name version group tree) distinct next = manifest-written s _ (next-number s (PutManifest name version group tree) next)
-rows-written s who at (DropManifest name version) distinct next =
-    let found = drop-found (manifest_row s name) version next in
-    subst (λ t. IsWritten s t (Manifest name) version) (sym (with_rows-tombstone s who at name version found.0 found.1)) (dropped-written s name version distinct (next-number s (DropManifest name version) next) found.0)
-rows-written s who at (PutNote owner name version manifest group tree) distinct next = note-written s _ (next-number s (PutNote owner name version manifest group tree) next)
-rows-written s who at (DropNote owner name version) distinct next = note-written s _ (next-number s (DropNote owner name version) next)
+deletion-written : (s : State) (who : Identity) (at : ℤ) (object : Object) (version : ℕ) → is_distinct s ≡ true → is_next s (Deletion object version) ≡ true
+    → IsWritten s (with_rows (deletion s who at version object).rows s) object version
+deletion-written s who at (Reader name) version distinct next = reader-written s _ (next-number s (Deletion (Reader name) version) next)
+deletion-written s who at (Manifest name) version distinct next =
+    let found = drop-found s name version next in
+    subst (λ t. IsWritten s t (Manifest name) version) (sym (with_rows-tombstone s who at name version found.0 found.1)) (dropped-written s name version distinct (next-number s (Deletion (Manifest name) version) next) found.0)
+deletion-written s who at (Note owner name) version distinct next = note-written s _ (next-number s (Deletion (Note owner name) version) next)
+
+rows-written : (s : State) (who : Identity) (at : ℤ) (asked : Asked) → is_distinct s ≡ true → is_next s asked ≡ true
+    → IsWritten s (with_rows (effect_of s who at asked).rows s) (object_asked asked) (version_asked asked)
+rows-written s who at (put.Reader r) distinct next = reader-written s _ (next-number s (put.Reader r) next)
+rows-written s who at (put.Manifest m) distinct next = manifest-written s _ (next-number s (put.Manifest m) next)
+rows-written s who at (put.Note n) distinct next = note-written s _ (next-number s (put.Note n) next)
+rows-written s who at (Deletion object version) distinct next = deletion-written s who at object version distinct next
 
 -- activities have no numbers
 number-activities : (s : State) (activities : List Activity) (object : Object) → number_of (record s { activities = activities }) object ≡ number_of s object
@@ -177,6 +161,8 @@ activities-written s t activities object version put = record {
 pub accepted-written : (s : State) (write : Write) → is_distinct s ≡ true → Accepts s write → IsWritten s (after s write.entry) (object_of write.command) (version_of write.command)
 accepted-written s write distinct accepts =
     let is = accepted-is s write accepts in
-    let at = moment_of_write s write.moment in
-    let t = with_rows (new_rows s is.who at write.command) s in
-    rw is.same (activities-written s t (t.activities ++ new_activities s is.who at write.command) (object_of write.command) (version_of write.command) (rows-written s is.who at write.command distinct is.next))
+    let agree = asked-agrees write.command is.asked is.reads in
+    let effect = effect_of s is.who (moment_of_write s write.moment) is.asked in
+    let t = with_rows effect.rows s in
+    let put = rows-written s is.who (moment_of_write s write.moment) is.asked distinct is.next in
+    rw (is.same, ← agree.object, ← agree.version) (activities-written s t (t.activities ++ effect.activities) (object_asked is.asked) (version_asked is.asked) put)

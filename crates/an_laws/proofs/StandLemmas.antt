@@ -6,13 +6,13 @@ use Rattle.std.proofs.lemmas.Option.{same_Some}
 use Rattle.an_base.specs.Outcome.{passes}
 use Rattle.an_keyed.specs.Key.{Key, same_key}
 use Rattle.an_keyed.specs.Rows.{row_of, put_row}
-use Rattle.an_machine.specs.Accepted.{buried}
+use Rattle.an_machine.specs.Accepted.{buried, manifest_tombstone}
 use Rattle.an_machine.specs.State.{State, KeptManifest, KeptNote, manifest_key, note_key, manifest_row, keys_are_distinct}
 use Rattle.an_machine.specs.View.{is_on}
 use Rattle.an_machine.proofs.DistinctLemmas.{other-key}
-use Rattle.an_laws.specs.Sound.{is_live_manifest, stands_on_live}
+use Rattle.an_machine.specs.Sound.{is_live_manifest, stands_on_live}
 use Rattle.an_laws.proofs.BurialLemmas.{as_left, row_of-left}
-use Rattle.an_laws.proofs.DropLemmas.{as_dropped, put_found, dropped}
+use Rattle.an_laws.proofs.DropLemmas.{put_found, dropped}
 use Rattle.an_laws.proofs.FoundLemmas.{all-weaker, found-passes, all-from_found}
 use Rattle.an_laws.proofs.LeadLemmas.{key_at}
 use Rattle.an_laws.proofs.RowLemmas.{row_of-put_row}
@@ -47,10 +47,10 @@ stand-put s row lives stand =
 
 -- every other manifest is live as before
 live-found : (name other : List ℕ) (version : ℕ) → bytes_eq other name ≡ false → (manifests : List KeptManifest) → has_live (row_of manifest_key (key_at None other) manifests) ≡ true
-    → (found : Option KeptManifest) → has_live (row_of manifest_key (key_at None other) (put_found (option_map (as_dropped name version) found) manifests)) ≡ true
+    → (found : Option KeptManifest) → has_live (row_of manifest_key (key_at None other) (put_found (option_map (manifest_tombstone name version) found) manifests)) ≡ true
 live-found name other version differ manifests live None = live
 live-found name other version differ manifests live (Some row) =
-    ap has_live (row_of-put_row manifest_key (as_dropped name version row) (key_at None other) manifests ∙ cond-false _ _ _ (other-key (key_at None other) (key_at None name) differ)) ∙ live
+    ap has_live (row_of-put_row manifest_key (manifest_tombstone name version row) (key_at None other) manifests ∙ cond-false _ _ _ (other-key (key_at None other) (key_at None name) differ)) ∙ live
 
 -- an annotation on another manifest stands still
 stands-apart : (s : State) (name : List ℕ) (version : ℕ) (row : KeptNote) → is_on name row ≡ false → stands_on_live s row ≡ true → stands_on_live (dropped s name version) row ≡ true

@@ -9,7 +9,7 @@ use Rattle.an_machine.specs.Accepted.{audience_of_note}
 use Rattle.an_machine.specs.State.{State, KeptManifest, KeptNote, LiveNote, manifest_key, note_key, manifest_row, note_row}
 use Rattle.an_machine.specs.View.{note_audience}
 use Rattle.an_machine.proofs.ViewLemmas.{same_key-equal}
-use Rattle.an_laws.specs.Sound.{is_live_manifest, stands_on_live}
+use Rattle.an_machine.specs.Sound.{is_live_manifest, stands_on_live}
 use Rattle.an_laws.proofs.FoundLemmas.{found-passes, passes-some}
 use Rattle.an_laws.proofs.LeadLemmas.{key_at, with_manifest, manifest_found, NotesStay}
 

@@ -11,7 +11,7 @@ use Rattle.an_machine.specs.Refusals.{is_taken_from}
 use Rattle.an_machine.specs.Rows.{reader_agrees}
 use Rattle.an_machine.specs.State.{KeptReader, reader_key, keys_are_distinct}
 use Rattle.an_machine.proofs.DistinctLemmas.{set_or_push, put_at-position}
-use Rattle.an_laws.specs.Sound.{agrees, tokens_are_distinct}
+use Rattle.an_machine.specs.Sound.{agrees, tokens_are_distinct}
 use Rattle.an_laws.proofs.RowLemmas.{none-behind}
 
 -- ---- tests of what there may be

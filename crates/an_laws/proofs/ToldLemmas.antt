@@ -1,6 +1,6 @@
 -- What a caller saw of an object tells whether the object is in its view.
 use Rattle.std.proofs.Common.{◌≡◌, ℕ, Bool, true, false, not, cond, ◌&&◌, List, [], ◌∷◌, Option, Some, None, option_map, option_and_then, is_some, map, inl, inr, refl, sym, ap, ◌∙◌}
-use Rattle.std.specs.Prelude.{All, filter, find}
+use Rattle.std.specs.Prelude.{All, IsTrue, filter, find}
 use Rattle.std.specs.Option.{option_or}
 use Rattle.std.specs.List.{last_or, cons_option}
 use Rattle.std.proofs.Math.Bool.{and-false}
@@ -14,12 +14,13 @@ use Rattle.an_policy.specs.declared.group.Audience.{Audience}
 use Rattle.an_policy.specs.declared.kind.Kind.{Kind}
 use Rattle.an_policy.specs.declared.kind.Kind.TheVariants.{Create, Update, Delete}
 use Rattle.an_machine.specs.Accepted.{audience_of_manifest, audience_of_note}
+use Rattle.an_machine.specs.Sound.{is_sound}
 use Rattle.an_machine.specs.State.{State, KeptManifest, KeptNote, LiveManifest, LiveNote, manifest_key, note_key, manifest_row, note_row}
-use Rattle.an_machine.specs.View.{view_of, manifest_audience, note_audience, shows_manifest, shows_note, object_of_activity, seen_by, key_of_object, is_change_of}
+use Rattle.an_machine.specs.View.{view_of, manifest_audience, note_audience, shows_manifest, shows_note, activity_key, seen_by, is_change_of}
 use Rattle.an_machine.specs.declared.activity.Activity.{Activity}
 use Rattle.an_machine.specs.declared.activity.Seen.{Seen}
-use Rattle.an_machine.specs.declared.command.Object.TheVariants as object
-use Rattle.an_laws.specs.Coherent.{key_of, activities_of, Chain, Coherent, is_in_view, is_told}
+use Rattle.an_machine.proofs.ChangeLemmas.{change, own_change, other_change}
+use Rattle.an_laws.specs.Coherent.{activities_of, Chain, Coherent, is_in_view, is_told}
 use Rattle.an_laws.specs.Legal.{Write, Legal, state_of}
 use Rattle.an_laws.proofs.AudienceLemmas.{key_at, audience_of, coherent-first}
 use Rattle.an_laws.proofs.CoherentLemmas.{histories-coherent}
@@ -118,30 +119,6 @@ in_view s who (Some owner) name coherent =
 
 -- ---- what was seen
 
--- what an activity changed has the activity's key
-key_of_object-owner : (owner : Option (List ℕ)) (name : List ℕ)
-    → key_of_object (elim owner [ None ↦ object.Manifest name | Some its ↦ object.Note its name ]) ≡ Some (record { owner = owner; name = name })
-key_of_object-owner None name = refl
-key_of_object-owner (Some owner) name = refl
-
-abbrev change : Activity → Kind → Seen
-change activity kind = record { moment = activity.at; object = object_of_activity activity; kind = kind }
-
-module _ (key : Key) (activity : Activity) where
-  is_change_of-seen : (kind : Kind) → is_change_of key (change activity kind) ≡ same_key (key_of activity) key
-  is_change_of-seen kind = ap (passes (λ its. same_key its key)) (key_of_object-owner activity.owner activity.name)
-
-  -- a change of this object stays among its changes, and no other does
-  own_change : (kind : Option Kind) (rest : List Seen) → same_key (key_of activity) key ≡ true
-      → filter (is_change_of key) (cons_option (option_map (change activity) kind) rest) ≡ cons_option (option_map (change activity) kind) (filter (is_change_of key) rest)
-  own_change None rest is = refl
-  own_change (Some kind) rest is = cond-true _ _ _ (is_change_of-seen kind ∙ is)
-
-  other_change : (kind : Option Kind) (rest : List Seen) → same_key (key_of activity) key ≡ false
-      → filter (is_change_of key) (cons_option (option_map (change activity) kind) rest) ≡ filter (is_change_of key) rest
-  other_change None rest isnt = refl
-  other_change (Some kind) rest isnt = cond-false _ _ _ (is_change_of-seen kind ∙ isnt)
-
 last_or-cons_option : {A : Type 0} (start o : Option A) (rest : List A) → last_or start (cons_option o rest) ≡ last_or (option_or o start) rest
 last_or-cons_option start None rest = refl
 last_or-cons_option start (Some x) rest = refl
@@ -164,7 +141,7 @@ module _ (who : Identity) (key : Key) where
   tells-last : (activities : List Activity) (start : Option Seen) (before now : Option Audience) → tells start ≡ reads who before
       → Chain before (activities_of key activities) now → tells (last_or start (changes activities)) ≡ reads who now
   tells-last [] start before now told chain = told ∙ ap (reads who) chain
-  tells-last (activity ∷ activities) start before now told chain = elim (cases_Bool (same_key (key_of activity) key)) [
+  tells-last (activity ∷ activities) start before now told chain = elim (cases_Bool (same_key (activity_key activity) key)) [
     | inl is ↦
         let links = rw is at chain in
         let seen = option_map (change activity) (as_seen who activity.before activity.after) in
@@ -186,8 +163,8 @@ view-told s who key coherent =
     ∙ sym (tells-last who key s.activities None None (audience_of s key) refl (coherent-first s coherent key).0)
 
 -- and so it is behind each legal history
-pub histories-told : (writes : List Write) (who : Identity) (key : Key) → Legal writes
-    → is_in_view (view_of (state_of writes) who) key ≡ is_told (view_of (state_of writes) who).seen key
-histories-told writes who key legal = view-told (state_of writes) who key (histories-coherent writes legal)
+pub histories-told : (s : State) (writes : List Write) (who : Identity) (key : Key) → Legal s writes → IsTrue (is_sound s) → Coherent s
+    → is_in_view (view_of (state_of s writes) who) key ≡ is_told (view_of (state_of s writes) who).seen key
+histories-told s writes who key legal sound coherent = view-told (state_of s writes) who key (histories-coherent s writes legal sound coherent)
 
 pub ruleset told = (view-told, histories-told)

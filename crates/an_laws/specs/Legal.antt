@@ -1,8 +1,9 @@
--- Histories: lists of writes, each of which the machine accepts in the state that those before it lead to.
+-- Histories: lists of writes, each of which the machine accepts in the state that those before it
+-- lead to. They begin in any state.
 use Rattle.std.specs.Prelude.{◌≡◌, ℤ, List, [], ◌∷◌, Some, Ok, ⊤}
 use Rattle.an_policy.specs.declared.who.Caller.{Caller}
 use Rattle.an_machine.specs.Entries.{after}
-use Rattle.an_machine.specs.State.{State, empty}
+use Rattle.an_machine.specs.State.{State}
 use Rattle.an_machine.specs.Step.{step}
 use Rattle.an_machine.specs.declared.command.Command.{Command}
 use Rattle.an_machine.specs.declared.command.Decided.{Decided}
@@ -17,21 +18,17 @@ pub record Write : Type 0 where
 
 -- the machine accepts a write in this state
 abbrev pub Accepts : State → Write → Type 0
-Accepts s write = (decided : Decided) × (step s write.moment write.caller write.command ≡ Ok decided) × (decided.entry ≡ Some write.entry)
+Accepts s write =
+    (decided : Decided)
+    × (step s write.moment write.caller write.command ≡ Ok decided)
+    × (decided.entry ≡ Some write.entry)
 
 -- the state that writes lead to from a state
-abbrev pub state_from : State → List Write → State
-state_from s [] = s
-state_from s (write ∷ writes) = state_from (after s write.entry) writes
+abbrev pub state_of : State → List Write → State
+state_of s [] = s
+state_of s (write ∷ writes) = state_of (after s write.entry) writes
 
 -- each write is accepted in the state that those before it lead to
-abbrev pub LegalFrom : State → List Write → Type 0
-LegalFrom s [] = ⊤
-LegalFrom s (write ∷ writes) = Accepts s write × LegalFrom (after s write.entry) writes
-
--- a legal history begins with nothing
-abbrev pub Legal : List Write → Type 0
-Legal writes = LegalFrom empty writes
-
-abbrev pub state_of : List Write → State
-state_of writes = state_from empty writes
+abbrev pub Legal : State → List Write → Type 0
+Legal s [] = ⊤
+Legal s (write ∷ writes) = Accepts s write × Legal (after s write.entry) writes

@@ -1,4 +1,3 @@
 pub mod Legal
 pub mod Numbers
-pub mod Sound
 pub mod Coherent

@@ -9,7 +9,7 @@ use Rattle.an_machine.specs.Entries.{with_row, with_rows, after}
 use Rattle.an_machine.specs.State.{State, manifest_key, note_key, empty, keys_are_distinct, manifests_are_distinct, notes_are_distinct, is_distinct}
 use Rattle.an_machine.proofs.ViewLemmas.{same_key-equal}
 use Rattle.an_machine.specs.declared.entry.Entry.{Entry}
-use Rattle.an_machine.specs.declared.entry.Entry.TheVariants.{Done}
+use Rattle.an_machine.specs.declared.entry.Entry.TheVariants.{Restored, Done}
 use Rattle.an_machine.specs.declared.entry.Row.{Row}
 use Rattle.an_machine.specs.declared.entry.Row.TheVariants as kept
 
@@ -102,6 +102,7 @@ distinct-with_rows (r ∷ rows) s distinct = distinct-with_rows rows (with_row s
 -- no entry gives two manifests one name, or two annotations one owner and name
 pub distinct-after : (s : State) (e : Entry) → is_distinct s ≡ true → is_distinct (after s e) ≡ true
 unfolding is_distinct
+distinct-after s (Restored row) distinct = distinct-with_row s row distinct
 distinct-after s (Done command moment by rows activities) distinct = distinct-with_rows rows s distinct
 
 pub distinct-empty : is_distinct empty ≡ true

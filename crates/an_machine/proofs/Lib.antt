@@ -1,3 +1,5 @@
 pub mod TokenLemmas
 pub mod ViewLemmas
+pub mod ChangeLemmas
 pub mod DistinctLemmas
+pub mod JudgeLemmas

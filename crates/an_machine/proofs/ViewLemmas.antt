@@ -82,30 +82,11 @@ module _ {R : Type 0} (key : R → Key) (shows : R → Bool) (wanted : Key) wher
             other_key row rows isnt ∙ one_shown rows parts.1 ∙ sym found
       ]
 
-  -- the row of a key that is shown is the first of its key among those shown
-  pub shown_is_first : (rows : List R) (first : R) → option_and_then (only_if shows) (find has_key rows) ≡ Some first → find has_key (filter shows rows) ≡ Some first
-  shown_is_first [] first shown = shown
-  shown_is_first (row ∷ rows) first shown = elim (cases_Bool (has_key row)) [
-    | inl is ↦
-        let found : option_and_then (only_if shows) (find has_key (row ∷ rows)) ≡ only_if shows row = ap (option_and_then (only_if shows)) (cond-true _ _ _ is) in
-        elim (shows row) as (λ b. cond b (Some row) None ≡ Some first → find has_key (cond b (row ∷ filter shows rows) (filter shows rows)) ≡ Some first) [
-          | true ↦ λ h. cond-true _ _ _ is ∙ h
-          | false ↦ λ h. absurd (cc)
-        ] (sym found ∙ shown)
-    | inr isnt ↦
-        let found : option_and_then (only_if shows) (find has_key (row ∷ rows)) ≡ option_and_then (only_if shows) (find has_key rows) = ap (option_and_then (only_if shows)) (cond-false _ _ _ isnt) in
-        other_key row rows isnt ∙ shown_is_first rows first (sym found ∙ shown)
-  ]
-
 pub manifest_in-distinct : (s : State) (who : Identity) (name : List ℕ) → IsTrue (manifests_are_distinct s)
     → option_and_then (only_if (shows_manifest who)) (manifest_row s name) ≡ manifest_in (view_of s who) name
 manifest_in-distinct s who name distinct =
     ap (option_and_then (only_if (shows_manifest who))) (row_found (λ row. same_key (manifest_key row) (record { owner = None; name = name })) s.manifests)
     ∙ sym (one_shown manifest_key (shows_manifest who) (record { owner = None; name = name }) s.manifests distinct)
-
-pub manifest_in-shown : (s : State) (who : Identity) (name : List ℕ) (row : KeptManifest) → option_and_then (only_if (shows_manifest who)) (manifest_row s name) ≡ Some row → manifest_in (view_of s who) name ≡ Some row
-manifest_in-shown s who name row shown =
-    shown_is_first manifest_key (shows_manifest who) (record { owner = None; name = name }) s.manifests row (sym (ap (option_and_then (only_if (shows_manifest who))) (row_found (λ row. same_key (manifest_key row) (record { owner = None; name = name })) s.manifests)) ∙ shown)
 
 pub note_in-distinct : (s : State) (who : Identity) (owner name : List ℕ) → IsTrue (notes_are_distinct s)
     → option_and_then (only_if (shows_note s who)) (note_row s owner name) ≡ note_in (view_of s who) owner name
@@ -113,8 +94,4 @@ note_in-distinct s who owner name distinct =
     ap (option_and_then (only_if (shows_note s who))) (row_found (λ row. same_key (note_key row) (record { owner = Some owner; name = name })) s.notes)
     ∙ sym (one_shown note_key (shows_note s who) (record { owner = Some owner; name = name }) s.notes distinct)
 
-pub note_in-shown : (s : State) (who : Identity) (owner name : List ℕ) (row : KeptNote) → option_and_then (only_if (shows_note s who)) (note_row s owner name) ≡ Some row → note_in (view_of s who) owner name ≡ Some row
-note_in-shown s who owner name row shown =
-    shown_is_first note_key (shows_note s who) (record { owner = Some owner; name = name }) s.notes row (sym (ap (option_and_then (only_if (shows_note s who))) (row_found (λ row. same_key (note_key row) (record { owner = Some owner; name = name })) s.notes)) ∙ shown)
-
-pub ruleset shown_rows = (manifest_in-distinct, manifest_in-shown, note_in-distinct, note_in-shown)
+pub ruleset shown_rows = (manifest_in-distinct, note_in-distinct)

@@ -1,13 +1,14 @@
--- What an accepted command does to the state.
+-- What an entry does to the state.
 use Rattle.std.specs.Prelude.{ℕ, ◌+◌, List, [], ◌∷◌, ◌++◌, length}
 use Rattle.an_keyed.specs.Rows.{put_row}
 use Rattle.an_machine.specs.State.{State, reader_key, manifest_key, note_key}
 use Rattle.an_machine.specs.declared.entry.Entry.{Entry}
-use Rattle.an_machine.specs.declared.entry.Entry.TheVariants.{Done}
+use Rattle.an_machine.specs.declared.entry.Entry.TheVariants.{Restored, Done}
 use Rattle.an_machine.specs.declared.entry.Row.{Row}
 use Rattle.an_machine.specs.declared.entry.Row.TheVariants as kept
 
--- a row takes the place of the one with its key, or stands behind all; an activity stands behind all
+-- a row takes the place of the one with its key, or stands behind all; an activity stands behind
+-- all
 abbrev pub with_row : State → Row → State
 with_row s (kept.Reader r) = record s { readers = put_row reader_key r s.readers }
 with_row s (kept.Manifest m) = record s { manifests = put_row manifest_key m s.manifests }
@@ -18,12 +19,15 @@ abbrev pub with_rows : List Row → State → State
 with_rows [] s = s
 with_rows (r ∷ rows) s = with_rows rows (with_row s r)
 
--- the state after an entry: its rows are put in order, and its activities stand behind those before
+-- the state after an entry: a row that is restored is put; of an accepted command the rows are put
+-- in order, and its activities stand behind those before
 abbrev pub after : State → Entry → State
+after s (Restored row) = with_row s row
 after s (Done command moment by rows activities) =
     let t = with_rows rows s in
     record t { activities = t.activities ++ activities }
 
 -- how many rows an entry may add to a list
 abbrev pub needs : Entry → ℕ
+needs (Restored row) = 1
 needs (Done command moment by rows activities) = length rows + length activities

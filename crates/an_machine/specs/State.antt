@@ -1,4 +1,5 @@
--- What the server knows: four lists, in the order in which their rows were first made. A row stays in its place for good.
+-- What the server knows: four lists, in the order in which their rows were first made. A row stays
+-- in its place for good.
 use Rattle.std.specs.Prelude.{ℕ, ℤ, List, [], ◌∷◌, Bool, true, ◌&&◌, not, Option, Some, None, option_map, option_and_then, find, bytes_eq}
 use Rattle.std.specs.List.{filter_map, list_any}
 use Rattle.serde_json.specs.Data.{Data}
@@ -9,6 +10,7 @@ use Rattle.an_policy.specs.declared.who.Caller.TheVariants.{Anonymous, Operator,
 use Rattle.an_policy.specs.Audience.{Identity, anonymous, operator, signed}
 use Rattle.an_keyed.specs.Key.{Key, same_key}
 use Rattle.an_keyed.specs.Rows.{row_of}
+pub use Rattle.an_keyed.specs.Rows.{keys_are_distinct}
 use Rattle.an_machine.specs.declared.activity.Activity.{Activity}
 
 -- a reader's row; without a live part it is a tombstone
@@ -71,11 +73,6 @@ manifest_row s name = row_of manifest_key (record { owner = None; name = name })
 
 abbrev pub note_row : State → List ℕ → List ℕ → Option KeptNote
 note_row s owner name = row_of note_key (record { owner = Some owner; name = name }) s.notes
-
--- no two rows have one key
-abbrev pub keys_are_distinct : {R : Type 0} → (R → Key) → List R → Bool
-keys_are_distinct key [] = true
-keys_are_distinct key (row ∷ rows) = not (list_any (λ other. same_key (key other) (key row)) rows) && keys_are_distinct key rows
 
 -- no two manifests have one name
 abbrev pub manifests_are_distinct : State → Bool

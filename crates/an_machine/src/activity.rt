@@ -1,5 +1,6 @@
 use crate::command::Object;
 use an_base::{Moment, Name, TryCopy};
+use an_keyed::Keyed;
 use an_policy::{Audience, Kind};
 use std::alloc::AllocError;
 
@@ -15,6 +16,20 @@ pub struct Activity {
     pub name: Name,
     pub before: Option<Audience>,
     pub after: Option<Audience>,
+}
+
+impl Keyed for Activity {
+    ghost use Rattle.an_machine.specs.View.{activity_key};
+
+    ghost key = { activity_key };
+
+    fn owner(&self) -> Option<&Name> {
+        self.owner.as_ref()
+    }
+
+    fn name(&self) -> &Name {
+        &self.name
+    }
 }
 
 impl TryCopy for Activity {

@@ -1,6 +1,6 @@
-ghost use Rattle.std.specs.Prelude.{◌≡◌, ◌+◌, ◌<◌, ◌≤◌, ◌++◌, IfSome, OnOk, length};
+ghost use Rattle.std.specs.Prelude.{◌≡◌, ◌+◌, ◌<◌, ◌≤◌, ◌++◌, IfSome, IsTrue, OnOk, length};
 ghost use Rattle.std.specs.Option.{option_copied};
-ghost use Rattle.an_machine.specs.State.{empty, reader_row, manifest_row, note_row, reader_token};
+ghost use Rattle.an_machine.specs.State.{empty, reader_row, manifest_row, note_row, reader_token, manifests_are_distinct, notes_are_distinct};
 ghost use Rattle.an_keyed.specs.Marks.{marked_place, marked_row};
 ghost use Rattle.an_machine.specs.Entries.{with_row, with_rows, after, needs};
 
@@ -8,7 +8,7 @@ use crate::activity::Activity;
 use crate::entry::{Entry, Row};
 use crate::row::{ManifestRow, NoteRow, ReaderRow};
 use an_base::Name;
-use an_keyed::{MarkedRows, Rows};
+use an_keyed::{Log, MarkedRows, Rows};
 use std::alloc::{AllocError, Global};
 use std::marker::Model;
 
@@ -19,7 +19,7 @@ pub struct Book {
     readers: MarkedRows<ReaderRow>,
     manifests: Rows<ManifestRow>,
     notes: Rows<NoteRow>,
-    activities: Vec<Activity>,
+    activities: Log<Activity>,
     room: usize,
 }
 
@@ -48,7 +48,7 @@ impl Book {
             readers: MarkedRows::new(alloc),
             manifests: Rows::new(alloc),
             notes: Rows::new(alloc),
-            activities: Vec::new(alloc),
+            activities: Log::new(alloc),
             room: 0,
         }
     }
@@ -72,6 +72,13 @@ impl Book {
         ensures rows { result.now ≡ self.now.state.activities }
     {
         self.activities.as_slice()
+    }
+
+    /// The activities in their order, and the last of each object.
+    pub(crate) fn log(&self) -> &Log<Activity>
+        ensures rows { result.now.rows ≡ self.now.state.activities }
+    {
+        &self.activities
     }
 
     /// The row of a reader, live or a tombstone.
@@ -100,6 +107,7 @@ impl Book {
     /// The row of a manifest, live or a tombstone.
     pub fn manifest_row(&self, name: &Name) -> Option<&ManifestRow>
         ensures row { option_copied result ≡ manifest_row self.now.state name.now }
+        ensures distinct { IsTrue (manifests_are_distinct self.now.state) }
     {
         self.manifests.find(None, name)
     }
@@ -107,6 +115,7 @@ impl Book {
     /// The row of an annotation, live or a tombstone.
     pub fn note_row(&self, owner: &Name, name: &Name) -> Option<&NoteRow>
         ensures row { option_copied result ≡ note_row self.now.state owner.now name.now }
+        ensures distinct { IsTrue (notes_are_distinct self.now.state) }
     {
         self.notes.find(Some(owner), name)
     }
@@ -129,7 +138,7 @@ impl Book {
             self.readers.make_room(more)?;
             self.manifests.make_room(more)?;
             self.notes.make_room(more)?;
-            self.activities.reserve(more)?;
+            self.activities.make_room(more)?;
             self.room = more;
         }
         Ok(())
@@ -142,12 +151,11 @@ impl Book {
         ensures room { self.new.room + needs entry ≡ self.old.room }
     {
         match entry {
+            Entry::Restored(row) => self.put(row),
             Entry::Done {
-                command: _,
-                moment: _,
-                by: _,
                 rows,
                 activities,
+                ..
             } => {
                 self.put_all(rows.into_vec());
                 self.add_all(activities.into_vec());
@@ -184,7 +192,7 @@ impl Book {
             Row::Reader(row) => self.readers.put(row),
             Row::Manifest(row) => self.manifests.put(row),
             Row::Note(row) => self.notes.put(row),
-            Row::Activity(activity) => self.activities.push_reserved(activity),
+            Row::Activity(activity) => self.activities.push(activity),
         }
         self.room -= 1;
     }

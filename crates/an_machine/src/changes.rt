@@ -1,86 +1,37 @@
-//! The activities that an accepted command adds.
-ghost use Rattle.std.specs.Prelude.{◌≡◌, [], ◌∷◌, ◌++◌, IfOk, Some, None, map, option_map, option_and_then};
+//! The changes that are told of, with who could read the object before and who can after.
+ghost use Rattle.std.specs.Prelude.{◌≡◌, IfOk, Some, option_and_then, option_map};
+ghost use Rattle.std.specs.Option.{option_copied};
 ghost use Rattle.an_policy.specs.Audience.{identity};
-ghost use Rattle.an_machine.specs.State.{manifest_row, note_row};
-ghost use Rattle.an_machine.specs.View.{manifest_audience};
-ghost use Rattle.an_machine.specs.Accepted.{by_whom, audience_of_manifest, audience_of_note, manifest_activity, note_activity, burial, notes_on, new_activities};
+ghost use Rattle.an_machine.specs.Accepted.{audience_of_manifest, audience_of_note, by_whom, manifest_activity, note_activity};
 
-use crate::accept::by_whom;
 use crate::activity::Activity;
 use crate::book::Book;
-use crate::command::Command;
-use crate::look::is_on;
-use crate::new_rows::one;
 use crate::row::{ManifestRow, NoteRow};
-use an_base::{List, Moment, Name, TryCopy};
-use an_keyed::Keyed;
+use an_base::{Moment, Name, TryCopy};
 use an_policy::{Audience, Group, Who};
-use std::alloc::{AllocError, Global};
+use std::alloc::AllocError;
 
-/// The activities of a command, in order.
-pub(crate) fn new_activities(
-    alloc: Global,
-    book: &Book,
-    who: &Who<'_>,
-    at: Moment,
-    command: &Command,
-) -> Result<List<Activity>, AllocError>
-    ensures { IfOk result (λ activities. activities
-        ≡ new_activities book.now.state (identity who.now) at command.now) }
+/// The name of who writes. The operator has none.
+pub(crate) fn by_whom(who: &Who<'_>) -> Result<Option<Name>, AllocError>
+    ensures { IfOk result (λ by. by ≡ by_whom (identity who.now)) }
 {
-    match command {
-        Command::PutReader {
-            name: _,
-            version: _,
-            tree: _,
-        } => Ok(List::new(alloc)),
-        Command::DropReader {
-            name: _,
-            version: _,
-        } => Ok(List::new(alloc)),
-        Command::PutManifest {
-            name,
-            version: _,
-            group,
-            tree: _,
-        } => {
-            let after = manifest_audience(group)?;
-            one(alloc, manifest_activity(book, who, at, name, Some(after))?)
-        }
-        Command::DropManifest { name, version: _ } => burials(alloc, book, who, at, name),
-        Command::PutNote {
-            owner,
-            name,
-            version: _,
-            manifest,
-            group,
-            tree: _,
-        } => {
-            let after = audience_on(book, owner, manifest, group)?;
-            one(alloc, note_activity(book, who, at, owner, name, after)?)
-        }
-        Command::DropNote {
-            owner,
-            name,
-            version: _,
-        } => one(alloc, note_activity(book, who, at, owner, name, None)?),
+    match who {
+        Who::Anonymous => Ok(None),
+        Who::Operator => Ok(None),
+        Who::Signed(reader) => Ok(Some(reader.name.copy()?)),
     }
 }
 
-fn manifest_activity(
-    book: &Book,
+pub(crate) fn manifest_activity(
     who: &Who<'_>,
     at: Moment,
     name: &Name,
+    before: Option<Audience>,
     after: Option<Audience>,
 ) -> Result<Activity, AllocError>
-    ensures { IfOk result (λ activity. activity ≡ manifest_activity (identity who.now) at name.now
-        (option_and_then audience_of_manifest (manifest_row book.now.state name.now)) after) }
+    ensures { IfOk result (λ activity. activity
+        ≡ manifest_activity (identity who.now) at name.now before after) }
 {
-    let before = match book.manifest_row(name) {
-        Some(row) => audience_of_manifest(row)?,
-        None => None,
-    };
     Ok(Activity {
         at,
         by: by_whom(who)?,
@@ -91,45 +42,7 @@ fn manifest_activity(
     })
 }
 
-fn audience_of_manifest(row: &ManifestRow) -> Result<Option<Audience>, AllocError>
-    ensures { IfOk result (λ audience. audience ≡ audience_of_manifest row.now) }
-{
-    if row.is_live() {
-        Ok(Some(manifest_audience(row.group())?))
-    } else {
-        Ok(None)
-    }
-}
-
-fn manifest_audience(group: &Group) -> Result<Audience, AllocError>
-    ensures { IfOk result (λ audience. audience ≡ record { outer = group.now; inner = Group.Public; owner = None }) }
-{
-    Ok(Audience {
-        outer: group.copy()?,
-        inner: Group::Public,
-        owner: None,
-    })
-}
-
-fn note_activity(
-    book: &Book,
-    who: &Who<'_>,
-    at: Moment,
-    owner: &Name,
-    name: &Name,
-    after: Option<Audience>,
-) -> Result<Activity, AllocError>
-    ensures { IfOk result (λ activity. activity ≡ note_activity (identity who.now) at owner.now name.now
-        (option_and_then (audience_of_note book.now.state) (note_row book.now.state owner.now name.now)) after) }
-{
-    let before = match book.note_row(owner, name) {
-        Some(row) => audience_of_note(book, row)?,
-        None => None,
-    };
-    activity_of(who, at, owner, name, before, after)
-}
-
-fn activity_of(
+pub(crate) fn note_activity(
     who: &Who<'_>,
     at: Moment,
     owner: &Name,
@@ -150,28 +63,54 @@ fn activity_of(
     })
 }
 
-/// Who may read the annotation, while it is live.
-fn audience_of_note(book: &Book, row: &NoteRow) -> Result<Option<Audience>, AllocError>
-    ensures { IfOk result (λ audience. audience ≡ audience_of_note book.now.state row.now) }
+/// Who may read the manifest, while it is live.
+pub(crate) fn audience_of_manifest(row: &ManifestRow) -> Result<Option<Audience>, AllocError>
+    ensures { IfOk result (λ audience. audience ≡ audience_of_manifest row.now) }
 {
-    match row.live() {
-        Some(live) => audience_on(book, row.owned_by(), live.manifest, live.group),
+    if row.is_live() {
+        let outer = row.group().copy()?;
+        Ok(Some(Audience {
+            outer,
+            inner: Group::Public,
+            owner: None,
+        }))
+    } else {
+        Ok(None)
+    }
+}
+
+/// Who could read the manifest that had this row.
+pub(crate) fn could_read_manifest(row: Option<&ManifestRow>) -> Result<Option<Audience>, AllocError>
+    ensures { IfOk result (λ audience. audience
+        ≡ option_and_then audience_of_manifest (option_copied row.entry)) }
+{
+    match row {
+        Some(row) => audience_of_manifest(row),
         None => Ok(None),
     }
 }
 
-/// Who may read an annotation of this owner on a manifest in a group.
-fn audience_on(
-    book: &Book,
+/// Who may read the annotation, while it is live.
+pub(crate) fn audience_of_note(book: &Book, row: &NoteRow) -> Result<Option<Audience>, AllocError>
+    ensures { IfOk result (λ audience. audience ≡ audience_of_note book.now.state row.now) }
+{
+    match row.live() {
+        Some(live) => audience_below(book.manifest_row(live.manifest), row.owned_by(), live.group),
+        None => Ok(None),
+    }
+}
+
+/// Who may read an annotation of this owner in a group, below its manifest.
+pub(crate) fn audience_below(
+    manifest: Option<&ManifestRow>,
     owner: &Name,
-    manifest: &Name,
     group: &Group,
 ) -> Result<Option<Audience>, AllocError>
     ensures { IfOk result (λ audience. audience ≡ option_map
         (λ m. record { outer = m.group; inner = group.now; owner = Some owner.now })
-        (manifest_row book.now.state manifest.now)) }
+        (option_copied manifest.entry)) }
 {
-    match book.manifest_row(manifest) {
+    match manifest {
         Some(row) => Ok(Some(Audience {
             outer: row.group().copy()?,
             inner: group.copy()?,
@@ -181,46 +120,16 @@ fn audience_on(
     }
 }
 
-/// The deletions of the annotations on a manifest, and then its own.
-fn burials(
-    alloc: Global,
+/// Who could read the annotation that had this row.
+pub(crate) fn could_read_note(
     book: &Book,
-    who: &Who<'_>,
-    at: Moment,
-    name: &Name,
-) -> Result<List<Activity>, AllocError>
-    ensures { IfOk result (λ activities. activities
-        ≡ map (burial book.now.state (identity who.now) at) (notes_on book.now.state name.now)
-        ++ manifest_activity (identity who.now) at name.now (option_and_then audience_of_manifest (manifest_row book.now.state name.now)) None ∷ []) }
+    row: Option<&NoteRow>,
+) -> Result<Option<Audience>, AllocError>
+    ensures { IfOk result (λ audience. audience
+        ≡ option_and_then (audience_of_note book.now.state) (option_copied row.entry)) }
 {
-    let mut activities = note_burials(alloc, book, who, at, name)?;
-    activities.push(manifest_activity(book, who, at, name, None)?)?;
-    Ok(List::from_vec(activities))
-}
-
-fn note_burials(
-    alloc: Global,
-    book: &Book,
-    who: &Who<'_>,
-    at: Moment,
-    manifest: &Name,
-) -> Result<Vec<Activity>, AllocError>
-    ensures { IfOk result (λ activities. activities.items
-        ≡ map (burial book.now.state (identity who.now) at) (notes_on book.now.state manifest.now)) }
-{
-    let mut activities = Vec::new(alloc);
-    for row in book.notes() {
-        if is_on(row, manifest) {
-            activities.push(burial(book, who, at, row)?)?;
-        }
+    match row {
+        Some(row) => audience_of_note(book, row),
+        None => Ok(None),
     }
-    Ok(activities)
-}
-
-/// The deletion of an annotation with its manifest.
-fn burial(book: &Book, who: &Who<'_>, at: Moment, row: &NoteRow) -> Result<Activity, AllocError>
-    ensures { IfOk result (λ activity. activity ≡ burial book.now.state (identity who.now) at row.now) }
-{
-    let before = audience_of_note(book, row)?;
-    activity_of(who, at, row.owned_by(), row.name(), before, None)
 }

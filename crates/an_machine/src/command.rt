@@ -1,5 +1,5 @@
 ghost use Rattle.std.specs.Prelude.{◌≡◌, IfOk};
-ghost use Rattle.an_machine.specs.Accepted.{is_put, object_of, version_of};
+ghost use Rattle.an_machine.specs.Asked.{object_of, version_of};
 
 use crate::entry::Entry;
 use an_base::{Code, Name, Tree, TryCopy};
@@ -50,32 +50,12 @@ impl Command {
         ensures version { result ≡ version_of self.now }
     {
         match self {
-            Command::PutReader {
-                name: _,
-                version,
-                tree: _,
-            } => *version,
-            Command::DropReader { name: _, version } => *version,
-            Command::PutManifest {
-                name: _,
-                version,
-                group: _,
-                tree: _,
-            } => *version,
-            Command::DropManifest { name: _, version } => *version,
-            Command::PutNote {
-                owner: _,
-                name: _,
-                version,
-                manifest: _,
-                group: _,
-                tree: _,
-            } => *version,
-            Command::DropNote {
-                owner: _,
-                name: _,
-                version,
-            } => *version,
+            Command::PutReader { version, .. } => *version,
+            Command::DropReader { version, .. } => *version,
+            Command::PutManifest { version, .. } => *version,
+            Command::DropManifest { version, .. } => *version,
+            Command::PutNote { version, .. } => *version,
+            Command::DropNote { version, .. } => *version,
         }
     }
 }
@@ -139,7 +119,7 @@ impl TryCopy for Command {
     }
 }
 
-/// What a command writes.
+/// What is written.
 #[derive(Debug, Drop, PartialEq, Eq)]
 pub enum Object {
     Reader(Name),
@@ -147,76 +127,17 @@ pub enum Object {
     Note { owner: Name, name: Name },
 }
 
-/// Whether it makes or changes its object; else it deletes it.
-pub(crate) fn is_put(command: &Command) -> bool
-    ensures { result ≡ is_put command.now }
-{
-    match command {
-        Command::PutReader {
-            name: _,
-            version: _,
-            tree: _,
-        } => true,
-        Command::PutManifest {
-            name: _,
-            version: _,
-            group: _,
-            tree: _,
-        } => true,
-        Command::PutNote {
-            owner: _,
-            name: _,
-            version: _,
-            manifest: _,
-            group: _,
-            tree: _,
-        } => true,
-        Command::DropReader {
-            name: _,
-            version: _,
-        } => false,
-        Command::DropManifest {
-            name: _,
-            version: _,
-        } => false,
-        Command::DropNote {
-            owner: _,
-            name: _,
-            version: _,
-        } => false,
-    }
-}
-
+/// What a command writes.
 pub(crate) fn object_of(command: &Command) -> Result<Object, AllocError>
     ensures { IfOk result (λ object. object ≡ object_of command.now) }
 {
     match command {
-        Command::PutReader {
-            name,
-            version: _,
-            tree: _,
-        } => Ok(Object::Reader(name.copy()?)),
-        Command::DropReader { name, version: _ } => Ok(Object::Reader(name.copy()?)),
-        Command::PutManifest {
-            name,
-            version: _,
-            group: _,
-            tree: _,
-        } => Ok(Object::Manifest(name.copy()?)),
-        Command::DropManifest { name, version: _ } => Ok(Object::Manifest(name.copy()?)),
-        Command::PutNote {
-            owner,
-            name,
-            version: _,
-            manifest: _,
-            group: _,
-            tree: _,
-        } => note_object(owner, name),
-        Command::DropNote {
-            owner,
-            name,
-            version: _,
-        } => note_object(owner, name),
+        Command::PutReader { name, .. } => Ok(Object::Reader(name.copy()?)),
+        Command::DropReader { name, .. } => Ok(Object::Reader(name.copy()?)),
+        Command::PutManifest { name, .. } => Ok(Object::Manifest(name.copy()?)),
+        Command::DropManifest { name, .. } => Ok(Object::Manifest(name.copy()?)),
+        Command::PutNote { owner, name, .. } => note_object(owner, name),
+        Command::DropNote { owner, name, .. } => note_object(owner, name),
     }
 }
 
@@ -267,9 +188,19 @@ pub enum Refused {
     GroupFixed,
     /// Another live reader has the token.
     TokenTaken,
-    /// The write is neither the next of its object nor done already. The row's number is `current`, or
-    /// 0 without a row.
+    /// The write is neither the next of its object nor done already. The row's number is
+    /// `current`, or 0 without a row.
     Version { current: u32 },
     /// Memory ran out. It may stand in place of any answer.
     Memory,
+}
+
+impl From<AllocError> for Refused {
+    ghost use Rattle.an_machine.specs.declared.command.Refused.TheVariants.{Memory};
+
+    ghost from_gives = { λ e refused. refused ≡ Memory };
+
+    fn from(_error: AllocError) -> Refused {
+        Refused::Memory
+    }
 }

@@ -1,18 +1,27 @@
-ghost use Rattle.std.specs.Prelude.{◌≡◌, option_map};
-ghost use Rattle.an_base.specs.Outcome.{Gives, first_of};
+ghost use Rattle.std.specs.Prelude.{◌≡◌, IfOk, option_and_then, option_map};
+ghost use Rattle.std.specs.Option.{option_copied};
+ghost use Rattle.an_base.specs.Outcome.{Gives};
 ghost use Rattle.an_policy.specs.Audience.{identity};
-ghost use Rattle.std.specs.Result.{result_map_both};
-ghost use Rattle.an_machine.specs.Refusals.{refusals, signer_of};
-ghost use Rattle.an_machine.specs.Versions.{ruling};
-ghost use Rattle.an_machine.specs.Step.{refused_or, written, step};
+ghost use Rattle.an_machine.specs.Accepted.{decided, effect_of, moment_of_write};
+ghost use Rattle.an_machine.specs.Asked.{manifest_asked, object_of, version_of};
+ghost use Rattle.an_machine.specs.Refusals.{signer_of};
+ghost use Rattle.an_machine.specs.State.{manifest_row};
+ghost use Rattle.an_machine.specs.Step.{judged, step, step_by};
 
-use crate::accept::{accept, repeat};
+use crate::asked::{Asked, asked_of};
 use crate::book::Book;
-use crate::command::{Command, Decided, Refused};
+use crate::changes::by_whom;
+use crate::command::{Command, Decided, Object, Refused, WriteReply, object_of};
+use crate::deletion::delete;
+use crate::effect::Effect;
+use crate::entry::Entry;
 use crate::look::Look;
-use crate::refusal::refusal_of;
-use crate::versions::{Ruling, current, ruling_of, standing_of};
-use an_base::Moment;
+use crate::put_manifest::put_manifest;
+use crate::put_note::put_note;
+use crate::put_reader::put_reader;
+use crate::refusal::permit;
+use crate::row::ManifestRow;
+use an_base::{Moment, TryCopy};
 use an_policy::{Caller, Who};
 use std::alloc::{AllocError, Global};
 
@@ -51,6 +60,7 @@ fn signer<'a>(book: &'a Book, caller: &Caller) -> Option<Who<'a>>
     }
 }
 
+/// The row of a manifest is looked up where an annotation is put on it, and handed on.
 fn decide_by(
     alloc: Global,
     book: &Book,
@@ -58,47 +68,89 @@ fn decide_by(
     who: &Who<'_>,
     command: &Command,
 ) -> Result<Decided, Refused>
-    ensures { Gives (λ d. d) Refused.Memory result (refused_or
-        (first_of (refusals book.now.state (identity who.now) command.now))
-        (written book.now.state (identity who.now) moment command.now (ruling book.now.state command.now))) }
+    ensures { Gives (λ d. d) Refused.Memory result
+        (step_by book.now.state moment command.now (identity who.now)) }
 {
-    match refusal_of(alloc, book, who, command) {
-        Ok(refusal) => match refusal {
-            Some(refusal) => Err(refusal),
-            None => decide_by_number(alloc, book, moment, who, command),
+    let object = object_of(command)?;
+    let manifest = permit(book, who, &object, command)?;
+    let asked = asked_of(alloc, command)?;
+    let at = moment_of_write(book, moment);
+    let effect = judge(alloc, book, who, at, manifest, asked)?;
+    Ok(decided(who, at, object, command, effect)?)
+}
+
+/// A write has the given moment, but is no earlier than the last activity.
+fn moment_of_write(book: &Book, moment: Moment) -> Moment
+    ensures { result ≡ moment_of_write book.now.state moment }
+{
+    match book.activities().last() {
+        Some(activity) => if moment.seconds() < activity.at.seconds() {
+            activity.at
+        } else {
+            moment
         },
-        Err(_) => Err(Refused::Memory),
+        None => moment,
     }
 }
 
-/// What the rule on versions says of a write that nothing else refuses.
-fn decide_by_number(
+/// What a write changes whose tree is read. An annotation is put on this manifest.
+fn judge(
     alloc: Global,
     book: &Book,
-    moment: Moment,
     who: &Who<'_>,
-    command: &Command,
-) -> Result<Decided, Refused>
-    ensures { Gives (λ d. d) Refused.Memory result
-        (written book.now.state (identity who.now) moment command.now (ruling book.now.state command.now)) }
+    at: Moment,
+    manifest: Option<&ManifestRow>,
+    asked: Asked,
+) -> Result<Option<Effect>, Refused>
+    requires manifest { option_copied manifest
+        ≡ option_and_then (manifest_row book.now.state) (manifest_asked asked) }
+    ensures { Gives (λ e. e) Refused.Memory result
+        (judged book.now.state asked (effect_of book.now.state (identity who.now) at asked)) }
 {
-    match ruling_of(alloc, book, command) {
-        Ok(ruling) => match ruling {
-            Ruling::Next => or_memory(accept(alloc, book, moment, who, command)),
-            Ruling::Again => or_memory(repeat(command)),
-            Ruling::Neither => Err(Refused::Version {
-                current: current(standing_of(book, command)),
-            }),
-        },
-        Err(_) => Err(Refused::Memory),
+    match asked {
+        Asked::Reader(put) => put_reader(alloc, book, put),
+        Asked::Manifest(put) => put_manifest(alloc, book, who, at, put),
+        Asked::Note(put) => put_note(alloc, book, who, at, manifest, put),
+        Asked::Deletion { object, version } => delete(alloc, book, who, at, &object, version),
     }
 }
 
-fn or_memory(decided: Result<Decided, AllocError>) -> Result<Decided, Refused>
-    ensures { result ≡ result_map_both (λ d. d) (λ e. Refused.Memory) decided }
+/// The entry is the command with what it changes. A write that changes nothing has none.
+fn decided(
+    who: &Who<'_>,
+    at: Moment,
+    object: Object,
+    command: &Command,
+    effect: Option<Effect>,
+) -> Result<Decided, AllocError>
+    requires object { object ≡ object_of command.now }
+    ensures { IfOk result (λ d. d ≡ decided (identity who.now) at command.now effect) }
 {
-    match decided {
-        Ok(decided) => Ok(decided),
-        Err(_) => Err(Refused::Memory),
+    let version = command.version();
+    match effect {
+        Some(effect) => Ok(Decided {
+            entry: Some(Entry::Done {
+                command: command.copy()?,
+                moment: at,
+                by: by_whom(who)?,
+                rows: effect.rows,
+                activities: effect.activities,
+            }),
+            reply: WriteReply {
+                object,
+                version,
+                made: effect.made,
+                repeat: false,
+            },
+        }),
+        None => Ok(Decided {
+            entry: None,
+            reply: WriteReply {
+                object,
+                version,
+                made: false,
+                repeat: true,
+            },
+        }),
     }
 }

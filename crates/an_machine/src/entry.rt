@@ -27,9 +27,11 @@ impl TryCopy for Row {
     }
 }
 
-/// One step of the history: what was accepted, and what it changes.
+/// One step of the history, and what it changes.
 #[derive(Debug, Drop)]
 pub enum Entry {
+    /// A row that was found where rows are kept.
+    Restored(Row),
     /// A command that was accepted.
     Done {
         command: Command,
@@ -47,6 +49,7 @@ pub enum Entry {
 impl TryCopy for Entry {
     fn copy(&self) -> Result<Entry, AllocError> {
         match self {
+            Entry::Restored(row) => Ok(Entry::Restored(row.copy()?)),
             Entry::Done {
                 command,
                 moment,
@@ -70,12 +73,11 @@ impl Entry {
         ensures size { result ≡ needs self.now }
     {
         match self {
+            Entry::Restored(_) => 1,
             Entry::Done {
-                command: _,
-                moment: _,
-                by: _,
                 rows,
                 activities,
+                ..
             } => rows
                 .as_slice()
                 .len()

@@ -9,19 +9,20 @@ pub use look::Look;
 pub use row::{LiveNote, ManifestRow, NoteRow, ReaderRow};
 pub use shown::{shown_manifest, shown_note};
 
-mod accept;
 mod activity;
+mod asked;
 mod book;
 mod changes;
 mod command;
 mod decide;
+mod deletion;
+mod effect;
 mod entry;
 mod look;
-mod new_rows;
-mod read;
+mod put_manifest;
+mod put_note;
+mod put_reader;
 mod refusal;
 mod row;
 mod shown;
-#[cfg(test)]
-mod tests;
 mod versions;

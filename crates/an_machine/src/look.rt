@@ -1,8 +1,9 @@
-ghost use Rattle.std.specs.Prelude.{◌≡◌, ◌+◌, IfOk, option_and_then, option_map, slice_get};
+ghost use Rattle.std.specs.Prelude.{◌≡◌, ◌+◌, IfOk, IsTrue, option_and_then, option_map, slice_get};
 ghost use Rattle.std.specs.Option.{option_copied};
 ghost use Rattle.an_policy.specs.Audience.{identity, signed};
-ghost use Rattle.an_machine.specs.State.{who_of, reader_row, reader_with_token, manifest_row, note_row};
-ghost use Rattle.an_machine.specs.View.{readable_places, is_on, shows_note, seen_by, seen_as, object_of_activity};
+ghost use Rattle.an_policy.specs.Seen.{as_seen};
+ghost use Rattle.an_machine.specs.State.{who_of, reader_row, reader_with_token, manifest_row, note_row, manifests_are_distinct, notes_are_distinct};
+ghost use Rattle.an_machine.specs.View.{readable_places, is_on, shows_note, seen_by, seen_as, object_of_activity, last_kind};
 
 use crate::activity::{Activity, Seen};
 use crate::book::Book;
@@ -10,8 +11,8 @@ use crate::command::Object;
 use crate::row::{ManifestRow, NoteRow};
 use crate::shown::is_read_below;
 use an_base::{Name, Steps, TryCopy};
-use an_keyed::Keyed;
-use an_policy::{Caller, Reader, Who, as_seen};
+use an_keyed::{Keyed, Log};
+use an_policy::{Caller, Kind, Reader, Who, as_seen};
 use std::alloc::{AllocError, Global};
 use std::sync::ledger::Ledger;
 
@@ -25,13 +26,15 @@ pub trait Look {
     fn who(&self, caller: &Caller) -> Option<Who<'_>>
         ensures who { option_map identity result ≡ who_of (state self.now) caller.now };
 
-    /// The row of a manifest, live or a tombstone.
+    /// The row of a manifest, live or a tombstone. No two manifests have one name.
     fn manifest(&self, name: &Name) -> Option<&ManifestRow>
-        ensures row { option_copied result ≡ manifest_row (state self.now) name.now };
+        ensures row { option_copied result ≡ manifest_row (state self.now) name.now }
+        ensures distinct { IsTrue (manifests_are_distinct (state self.now)) };
 
-    /// The row of an annotation, live or a tombstone.
+    /// The row of an annotation, live or a tombstone. No two annotations have one owner and name.
     fn note(&self, owner: &Name, name: &Name) -> Option<&NoteRow>
-        ensures row { option_copied result ≡ note_row (state self.now) owner.now name.now };
+        ensures row { option_copied result ≡ note_row (state self.now) owner.now name.now }
+        ensures distinct { IsTrue (notes_are_distinct (state self.now)) };
 
     /// The annotation's row at a place of their list. It takes one step.
     fn note_at<L: Ledger>(&self, place: usize, steps: &mut Steps<L>) -> Option<&NoteRow>
@@ -45,11 +48,19 @@ pub trait Look {
         who: &Who<'_>,
         manifest: &Name,
     ) -> Result<Vec<usize>, AllocError>
-        ensures places { IfOk result (λ places. places.items ≡ readable_places (state self.now) (identity who.now) manifest.now) };
+        ensures places { IfOk result (λ places. places.items
+            ≡ readable_places (state self.now) (identity who.now) manifest.now) };
 
     /// The changes that the caller sees, the earliest first.
     fn seen(&self, alloc: Global, who: &Who<'_>) -> Result<Vec<Seen>, AllocError>
-        ensures seen { IfOk result (λ seen. seen.items ≡ seen_by (identity who.now) (state self.now).activities) };
+        ensures seen { IfOk result (λ seen. seen.items
+            ≡ seen_by (identity who.now) (state self.now).activities) };
+
+    /// What the last change of an object was that the caller sees. A manifest has no owner. No other
+    /// object's changes are looked at.
+    fn last_change(&self, who: &Who<'_>, owner: Option<&Name>, name: &Name) -> Option<Kind>
+        ensures last { result ≡ last_kind (record { owner = option_copied owner.entry; name = name.now })
+            (seen_by (identity who.now) (state self.now).activities) };
 }
 
 impl Look for Book {
@@ -89,6 +100,10 @@ impl Look for Book {
     fn seen(&self, alloc: Global, who: &Who<'_>) -> Result<Vec<Seen>, AllocError> {
         seen_in(alloc, self.activities(), who)
     }
+
+    fn last_change(&self, who: &Who<'_>, owner: Option<&Name>, name: &Name) -> Option<Kind> {
+        last_change_in(self.log(), who, owner, name)
+    }
 }
 
 fn seen_in(alloc: Global, activities: &[Activity], who: &Who<'_>) -> Result<Vec<Seen>, AllocError>
@@ -107,7 +122,7 @@ fn seen_in(alloc: Global, activities: &[Activity], who: &Who<'_>) -> Result<Vec<
 fn seen_as(activity: &Activity, who: &Who<'_>) -> Result<Option<Seen>, AllocError>
     ensures { IfOk result (λ seen. seen ≡ seen_as (identity who.now) activity.now) }
 {
-    match as_seen(who, activity.before.as_ref(), activity.after.as_ref()) {
+    match kind_of(activity, who) {
         Some(kind) => Ok(Some(Seen {
             moment: activity.at,
             object: object_of(activity)?,
@@ -115,6 +130,33 @@ fn seen_as(activity: &Activity, who: &Who<'_>) -> Result<Option<Seen>, AllocErro
         })),
         None => Ok(None),
     }
+}
+
+/// What the last change of an object was that the caller sees, among the changes of the object alone.
+fn last_change_in(
+    log: &Log<Activity>,
+    who: &Who<'_>,
+    owner: Option<&Name>,
+    name: &Name,
+) -> Option<Kind>
+    ensures { result ≡ last_kind (record { owner = option_copied owner.entry; name = name.now })
+        (seen_by (identity who.now) log.now.rows) }
+{
+    let mut next = log.last(owner, name);
+    while let Some(place) = next {
+        match kind_of(&log.as_slice()[place], who) {
+            Some(kind) => return Some(kind),
+            None => next = log.before(place, owner, name),
+        }
+    }
+    None
+}
+
+/// What an activity is for the caller, if it sees it.
+fn kind_of(activity: &Activity, who: &Who<'_>) -> Option<Kind>
+    ensures { result ≡ as_seen (identity who.now) activity.now.before activity.now.after }
+{
+    as_seen(who, activity.before.as_ref(), activity.after.as_ref())
 }
 
 /// What an activity changed.

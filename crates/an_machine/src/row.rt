@@ -3,8 +3,8 @@ ghost use Rattle.std.specs.Option.{option_copied};
 
 use an_base::{Moment, Name, Text, TryCopy};
 use an_keyed::{Keyed, Marked};
-use an_manifest::Sheet;
-use an_model::Note;
+use an_manifest::KeptSheet;
+use an_model as model;
 use an_policy::{Group, Reader};
 use std::alloc::AllocError;
 use std::marker::Model;
@@ -93,7 +93,7 @@ pub struct ManifestRow {
     pub group: Group,
     pub created: Option<Moment>,
     pub modified: Option<Moment>,
-    pub tree: Option<Sheet>,
+    pub tree: Option<KeptSheet>,
 }
 
 impl Model for ManifestRow {
@@ -165,7 +165,7 @@ impl ManifestRow {
     }
 
     /// What is kept of the manifest's tree while it is live.
-    pub fn sheet(&self) -> Option<&Sheet>
+    pub fn sheet(&self) -> Option<&KeptSheet>
         ensures sheet { option_copied result ≡ option_map (λ live. live.tree) self.now.live }
     {
         let _created = self.created?;
@@ -193,7 +193,7 @@ pub struct NoteRow {
     pub creator: Option<Text>,
     pub created: Option<Moment>,
     pub modified: Option<Moment>,
-    pub tree: Option<Note>,
+    pub tree: Option<model::KeptNote>,
 }
 
 impl Model for NoteRow {
@@ -252,7 +252,7 @@ pub struct LiveNote<'a> {
     pub creator: &'a Text,
     pub created: Moment,
     pub modified: Option<Moment>,
-    pub tree: &'a Note,
+    pub tree: &'a model::KeptNote,
 }
 
 impl NoteRow {

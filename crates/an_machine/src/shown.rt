@@ -1,4 +1,4 @@
-ghost use Rattle.std.specs.Prelude.{◌≡◌, IfSome, IsTrue, Some, option_and_then};
+ghost use Rattle.std.specs.Prelude.{◌≡◌, IsTrue, Some, option_and_then};
 ghost use Rattle.std.specs.Option.{option_copied};
 ghost use Rattle.an_base.specs.Outcome.{only_if, passes};
 ghost use Rattle.an_policy.specs.Audience.{identity, may};
@@ -18,17 +18,16 @@ pub fn shown_manifest<'a, T: Look>(
     who: &Who<'_>,
     name: &Name,
 ) -> Option<&'a ManifestRow>
-    ensures shown { IfSome result (λ row. manifest_in (view_of (T.state look.now) (identity who.now)) name.now
-        ≡ Some row.now) }
-    ensures row { IsTrue (manifests_are_distinct (T.state look.now))
-        → option_copied result ≡ manifest_in (view_of (T.state look.now) (identity who.now)) name.now }
+    ensures row { option_copied result
+        ≡ manifest_in (view_of (T.state look.now) (identity who.now)) name.now }
 {
     row_if_shown(look, who, name)
 }
 
 fn row_if_shown<'a, T: Look>(look: &'a T, who: &Who<'_>, name: &Name) -> Option<&'a ManifestRow>
-    ensures { option_copied result ≡ option_and_then (only_if (shows_manifest (identity who.now)))
+    ensures row { option_copied result ≡ option_and_then (only_if (shows_manifest (identity who.now)))
         (manifest_row (T.state look.now) name.now) }
+    ensures distinct { IsTrue (manifests_are_distinct (T.state look.now)) }
 {
     match look.manifest(name) {
         Some(row) => if is_shown(who, row) { Some(row) } else { None },
@@ -52,10 +51,8 @@ pub fn shown_note<'a, T: Look>(
     owner: &Name,
     name: &Name,
 ) -> Option<&'a NoteRow>
-    ensures shown { IfSome result (λ row. note_in (view_of (T.state look.now) (identity who.now)) owner.now name.now
-        ≡ Some row.now) }
-    ensures row { IsTrue (notes_are_distinct (T.state look.now))
-        → option_copied result ≡ note_in (view_of (T.state look.now) (identity who.now)) owner.now name.now }
+    ensures row { option_copied result
+        ≡ note_in (view_of (T.state look.now) (identity who.now)) owner.now name.now }
 {
     note_if_shown(look, who, owner, name)
 }
@@ -66,8 +63,10 @@ fn note_if_shown<'a, T: Look>(
     owner: &Name,
     name: &Name,
 ) -> Option<&'a NoteRow>
-    ensures { option_copied result ≡ option_and_then (only_if (shows_note (T.state look.now) (identity who.now)))
+    ensures row { option_copied result
+        ≡ option_and_then (only_if (shows_note (T.state look.now) (identity who.now)))
         (note_row (T.state look.now) owner.now name.now) }
+    ensures distinct { IsTrue (notes_are_distinct (T.state look.now)) }
 {
     match look.note(owner, name) {
         Some(row) => if is_note_shown(look, who, row) {

@@ -11,7 +11,7 @@ use Rattle.an_manifest.specs.Shape.{canvas_ids}
 use Rattle.an_manifest.specs.Manifest.{array_in, canvases_in, canvases_of}
 use Rattle.an_manifest.specs.Dress.{with_last, with_one_more, canvas_page, dressed_canvases, with_canvas_pages, manifest_iri, search_service, contexts, dressed, is_dressed}
 
-apart : (name other : List ℕ) → bytes_eq name other ≡ false → name ≡ other → ⊥
+pub apart : (name other : List ℕ) → bytes_eq name other ≡ false → name ≡ other → ⊥
 apart name other e same = true≢false (sym ((bytes_eq-Decides name other).1 same) ∙ e)
 
 get-with_member_other : (name other : List ℕ) (value tree : Data) → bytes_eq other name ≡ false → get other (with_member name value tree) ≡ get other tree

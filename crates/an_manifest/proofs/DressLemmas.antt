@@ -54,7 +54,7 @@ all_dressed base name done (first ∷ left) all none is = absurd (omega arith)
 -- ---- no float
 
 -- what may be there has no float
-abbrev HasNone : Option Data → Type 0
+abbrev pub HasNone : Option Data → Type 0
 HasNone None = Unit {0}
 HasNone (Some tree) = has_float tree ≡ false
 
@@ -69,7 +69,7 @@ HasNone-get_member name (member other tree members) h =
     let parts = or_parts (has_float tree) (members_have_float members) h in
     HasNone-found (slice_cmp nat_cmp name other) tree _ parts.0 (HasNone-get_member name members parts.1)
 
-HasNone-get : (name : List ℕ) (tree : Data) → has_float tree ≡ false → HasNone (get name tree)
+pub HasNone-get : (name : List ℕ) (tree : Data) → has_float tree ≡ false → HasNone (get name tree)
 HasNone-get name null h = tt
 HasNone-get name (boolean b) h = tt
 HasNone-get name (number n) h = tt
@@ -89,7 +89,7 @@ has_float-many_if : (found : Option Data) → HasNone found → items_have_float
 has_float-many_if None h = refl
 has_float-many_if (Some tree) h = has_float-one_or_many tree h
 
-has_float-array_in : (found : Option Data) → HasNone found → items_have_float (array_in found) ≡ false
+pub has_float-array_in : (found : Option Data) → HasNone found → items_have_float (array_in found) ≡ false
 has_float-array_in None h = refl
 has_float-array_in (Some null) h = refl
 has_float-array_in (Some (boolean b)) h = refl

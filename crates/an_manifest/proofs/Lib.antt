@@ -2,3 +2,12 @@ pub mod TakeLemmas
 pub mod ManifestLemmas
 pub mod DressLemmas
 pub mod DressLaws
+pub mod PieceLemmas
+pub mod SplitLemmas
+pub mod CutLemmas
+pub mod ServedLemmas
+pub mod ReadyLemmas
+pub mod SheetLemmas
+pub mod PushLemmas
+pub mod CutCode
+pub mod WrittenLemmas

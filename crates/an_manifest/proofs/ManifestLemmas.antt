@@ -7,6 +7,7 @@ use Rattle.serde_json.specs.Find.{get}
 use Rattle.serde_json.proofs.Views.{items_len-items_view}
 use Rattle.an_base.specs.Object.{without_member}
 use Rattle.an_base.proofs.ObjectLemmas.{get-without_member}
+use Rattle.an_base.proofs.ItemLemmas.{first_bad-items_view}
 use Rattle.an_base.specs.Outcome.{unless, first_of}
 use Rattle.an_base.specs.Tree.{ascend, names, is_whole, is_tree}
 use Rattle.an_base.proofs.ObjectLemmas.{is_tree-without_member}
@@ -39,7 +40,7 @@ is_manifest-kept_tree tree = rw (manifest_refusals-kept_tree tree)
 pub canvases_of-kept_tree : (tree : Data) → canvases_of (kept_tree tree) ≡ canvases_of tree
 canvases_of-kept_tree tree = rw (get-kept_tree (codes "items") tree refl refl)
 
-pub ruleset counting = (items_len-items_view)
+pub ruleset counting = (items_len-items_view, first_bad-items_view)
 
 -- ---- what isn't kept isn't there
 

@@ -12,12 +12,12 @@ use Rattle.serde_json.specs.Find.{get_member}
 use Rattle.an_base.specs.Object.{without}
 use Rattle.an_base.specs.Tree.{ascend, names}
 
-less : (o : Ordering) → is_lt o ≡ true → o ≡ Less
+pub less : (o : Ordering) → is_lt o ≡ true → o ≡ Less
 less Less h = refl
 less Equal h = absurd (cc)
 less Greater h = absurd (cc)
 
-same_name : (name other : List ℕ) → slice_cmp nat_cmp name other ≡ Equal → name ≡ other
+pub same_name : (name other : List ℕ) → slice_cmp nat_cmp name other ≡ Equal → name ≡ other
 same_name name other is = (bytes_eq-Decides name other).0 (sym (is_eq-slice_cmp name other) ∙ ap is_eq is)
 
 -- whether two names are the same, by how they compare
@@ -25,16 +25,16 @@ by_order : (o : Ordering) (name other : List ℕ) → slice_cmp nat_cmp name oth
 by_order o name other is = sym (is_eq-slice_cmp name other) ∙ ap is_eq is
 
 -- the name is below all names of the members
-abbrev is_below : List ℕ → Members → Bool
+abbrev pub is_below : List ℕ → Members → Bool
 is_below name members = list_all (λ later. is_lt (slice_cmp nat_cmp name later)) (names members)
 
-is_below-trans : (name other : List ℕ) (members : Members) → slice_cmp nat_cmp name other ≡ Less → is_below other members ≡ true → is_below name members ≡ true
+pub is_below-trans : (name other : List ℕ) (members : Members) → slice_cmp nat_cmp name other ≡ Less → is_below other members ≡ true → is_below name members ≡ true
 is_below-trans name other no_members less_than h = refl
 is_below-trans name other (member later value members) less_than h =
     let parts = and_parts (is_lt (slice_cmp nat_cmp other later)) _ h in
     and_from _ _ (ap is_lt (nat_list_cmp_total.trans name other later less_than (less _ parts.0))) (is_below-trans name other members less_than parts.1)
 
-put-below : (name : List ℕ) (value : Data) (members : Members) → is_below name members ≡ true → put name value members ≡ member name value members
+pub put-below : (name : List ℕ) (value : Data) (members : Members) → is_below name members ≡ true → put name value members ≡ member name value members
 put-below name value no_members h = refl
 put-below name value (member later tree members) h = rw (less _ (and_parts (is_lt (slice_cmp nat_cmp name later)) _ h).0) refl
 
@@ -59,7 +59,7 @@ put-without name value (member other tree members) h =
     let parts = and_parts (is_below other members) _ h in
     put-without_at _ name other value tree members refl parts.0 (put-without name value members parts.1)
 
-get_member-below : (name : List ℕ) (members : Members) → is_below name members ≡ true → get_member name members ≡ None
+pub get_member-below : (name : List ℕ) (members : Members) → is_below name members ≡ true → get_member name members ≡ None
 get_member-below name no_members h = refl
 get_member-below name (member later tree members) h =
     let parts = and_parts (is_lt (slice_cmp nat_cmp name later)) _ h in

@@ -1,5 +1,7 @@
--- The tree by which a manifest is served: the one that is kept, with its IRI, the search in the annotations on it (IIIF Content
--- Search API 2.0, section 3.1) and, in each canvas, the page of the annotations on it (IIIF Presentation API 3.0, section 5.3).
+-- The tree by which a manifest is served: the one that is kept, with its IRI, the search in the
+-- annotations on it (IIIF Content
+-- Search API 2.0, section 3.1) and, in each canvas, the page of the annotations on it (IIIF
+-- Presentation API 3.0, section 5.3).
 use Rattle.std.specs.Prelude.{ℕ, ◌+◌, List, [], ◌∷◌, ◌++◌, Bool, bytes_eq, codes, decimal}
 use Rattle.std.specs.List.{list_any}
 use Rattle.serde_json.specs.Data.{Data, string, array, object, Items, no_items, item, member, no_members}
@@ -20,7 +22,8 @@ with_one_more name value tree = with_member name (array (with_last value (trees_
 abbrev pub manifest_iri : List ℕ → List ℕ → List ℕ
 manifest_iri base name = base ++ (codes "/manifests/" ++ name)
 
--- the IRIs of the services that complete words and search, and of the first page of the annotations on the canvas of a number
+-- the IRIs of the services that complete words and search, and of the first page of the annotations
+-- on the canvas of a number
 abbrev pub complete_iri : List ℕ → List ℕ → List ℕ
 complete_iri base name = base ++ (codes "/autocomplete/" ++ name)
 
@@ -28,7 +31,9 @@ abbrev pub search_iri : List ℕ → List ℕ → List ℕ
 search_iri base name = base ++ (codes "/search/" ++ name)
 
 abbrev pub canvas_page_iri : List ℕ → List ℕ → ℕ → List ℕ
-canvas_page_iri base name number = base ++ (codes "/manifests/" ++ (name ++ (codes "/canvases/" ++ (decimal number ++ codes "?page=1"))))
+canvas_page_iri base name number =
+    base ++ (codes "/manifests/" ++ (name ++ (codes "/canvases/" ++ (decimal number
+    ++ codes "?page=1"))))
 
 -- the service that completes words
 abbrev pub complete_service : List ℕ → List ℕ → Data
@@ -58,7 +63,8 @@ dressed_canvases base name number (item canvas canvases) =
 
 -- the manifest with a page in each canvas, numbered from 1
 abbrev pub with_canvas_pages : List ℕ → List ℕ → Data → Data
-with_canvas_pages base name tree = with_member (codes "items") (array (dressed_canvases base name 1 (canvases_in tree))) tree
+with_canvas_pages base name tree =
+    with_member (codes "items") (array (dressed_canvases base name 1 (canvases_in tree))) tree
 
 -- the contexts of a search service and, last, of a manifest
 unfoldable pub contexts : Items
@@ -76,4 +82,5 @@ dressed base name tree =
 
 -- the members in which a served manifest may differ from the one that is kept
 abbrev pub is_dressed : List ℕ → Bool
-is_dressed name = list_any (bytes_eq name) (codes "@context" ∷ codes "id" ∷ codes "items" ∷ codes "service" ∷ [])
+is_dressed name =
+    list_any (bytes_eq name) (codes "@context" ∷ codes "id" ∷ codes "items" ∷ codes "service" ∷ [])

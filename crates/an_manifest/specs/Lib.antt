@@ -1,3 +1,4 @@
 pub mod Shape
 pub mod Manifest
 pub mod Dress
+pub mod Cuts

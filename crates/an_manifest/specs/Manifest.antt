@@ -4,9 +4,10 @@ use Rattle.serde_json.specs.Data.{Data, Items, no_items}
 use Rattle.serde_json.specs.Find.{get, as_array}
 use Rattle.serde_json.specs.Events.{items_len}
 use Rattle.an_base.specs.Outcome.{when, first_of, unless, passes}
+use Rattle.an_base.specs.Items.{first_bad}
 use Rattle.an_base.specs.Member.{has_type}
 use Rattle.an_base.specs.Object.{without_member}
-use Rattle.an_manifest.specs.Shape.{is_language_map, bad_canvas, canvas_ids}
+use Rattle.an_manifest.specs.Shape.{is_language_map, is_canvas, canvas_ids}
 use Rattle.an_manifest.specs.declared.sheet.SheetError.{SheetError}
 use Rattle.an_manifest.specs.declared.sheet.SheetError.TheVariants.{WrongType, Label, Items as NoItems, Canvas, Version2}
 
@@ -29,7 +30,7 @@ manifest_refusals tree =
     ∷ when (not (has_type (codes "Manifest") tree)) WrongType
     ∷ when (not (passes is_language_map (get (codes "label") tree))) Label
     ∷ when (items_len (canvases_in tree) == 0) NoItems
-    ∷ option_map Canvas (bad_canvas 0 (canvases_in tree))
+    ∷ option_map Canvas (first_bad is_canvas (canvases_in tree))
     ∷ []
 
 -- nothing refuses the tree as a manifest
@@ -42,7 +43,8 @@ kept_tree tree = without_member (codes "id") (without_member (codes "@context") 
 
 -- a manifest without the members that aren't kept
 unfoldable pub is_kept : Data → Bool
-is_kept tree = is_manifest tree && is_none (get (codes "@context") tree) && is_none (get (codes "id") tree)
+is_kept tree =
+    is_manifest tree && is_none (get (codes "@context") tree) && is_none (get (codes "id") tree)
 
 -- What is kept of the manifest that a tree is, or the first refusal.
 unfoldable pub manifest_of : Data → Result Data SheetError

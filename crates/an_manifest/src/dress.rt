@@ -62,14 +62,14 @@ fn contexts(alloc: Global) -> Result<Value, AllocError>
     ])
 }
 
-fn manifest_iri(alloc: Global, base: &str, name: &str) -> Result<String, AllocError>
+pub(crate) fn manifest_iri(alloc: Global, base: &str, name: &str) -> Result<String, AllocError>
     ensures { IfOk result (λ iri. string_bytes iri ≡ manifest_iri base.now name.now) }
 {
     format!(in alloc; "{base}/manifests/{name}")
 }
 
 /// The service that searches the annotations on the manifest.
-fn search_service(alloc: Global, base: &str, name: &str) -> Result<Value, AllocError>
+pub(crate) fn search_service(alloc: Global, base: &str, name: &str) -> Result<Value, AllocError>
     ensures { IfOk result (λ v. view v ≡ search_service base.now name.now) }
 {
     let id = search_iri(alloc, base, name)?;
@@ -161,7 +161,7 @@ fn canvas_page(alloc: Global, base: &str, name: &str, number: usize) -> Result<V
     json!(in alloc; {"id": id, "type": "AnnotationPage"})
 }
 
-fn canvas_page_iri(
+pub(crate) fn canvas_page_iri(
     alloc: Global,
     base: &str,
     name: &str,

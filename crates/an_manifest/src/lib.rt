@@ -2,13 +2,16 @@
 #![tactic(auto)]
 
 pub use dress::dress_manifest;
+pub use kept::KeptSheet;
 pub use laws::{canvas_ids_stay, other_members_stay};
+pub use served::push_manifest;
 pub use sheet::{Sheet, SheetError, manifest_refusal, read_manifest};
 
+mod cut;
 mod dress;
+mod kept;
 mod laws;
+mod served;
 mod shape;
 mod sheet;
 mod take;
-#[cfg(test)]
-mod tests;

@@ -1,8 +1,8 @@
-ghost use Rattle.std.specs.Prelude.{◌≡◌, codes};
+ghost use Rattle.std.specs.Prelude.{◌≡◌, codes, not, position};
 ghost use Rattle.serde_json.specs.Find.{get, as_array, as_object};
 ghost use Rattle.serde_json.specs.View.{view, items_view, members_view};
 ghost use Rattle.an_base.specs.Outcome.{passes};
-ghost use Rattle.an_manifest.specs.Shape.{has_some_text, has_size, are_texts, are_text_lists, is_language_map, is_canvas, bad_canvas};
+ghost use Rattle.an_manifest.specs.Shape.{has_some_text, has_size, are_texts, are_text_lists, is_language_map, is_canvas};
 ghost use Rattle.an_manifest.specs.Manifest.{is_version_2, canvases_in};
 
 use an_base::{has_type, member_count, text_in};
@@ -39,14 +39,9 @@ pub(crate) fn canvases_in(tree: &Value) -> &[Value]
 
 /// Where the first item stands that is no canvas, from 0.
 pub(crate) fn bad_canvas(items: &[Value]) -> Option<usize>
-    ensures { result ≡ bad_canvas 0 (items_view items.now) }
+    ensures { result ≡ position (λ v. not (is_canvas (view v))) items.now }
 {
-    for (at, item) in items.iter().enumerate() {
-        if !is_canvas(item) {
-            return Some(at);
-        }
-    }
-    None
+    items.iter().position(|item| !is_canvas(item))
 }
 
 #[tactic(auto, unfolding(crate::specs::Shape::is_canvas))]

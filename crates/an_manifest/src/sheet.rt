@@ -55,7 +55,7 @@ impl Model for Sheet {
 
 impl Sheet {
     ghost use Rattle.std.specs.Prelude.{Ok};
-    ghost use Rattle.an_manifest.specs.Manifest.{manifest_of, canvases_of};
+    ghost use Rattle.an_manifest.specs.Manifest.{is_kept, manifest_of, canvases_of};
 
     /// What is kept of the manifest's tree. What `tree_text` asks of a value holds of it, and read
     /// again it is kept as it is.
@@ -64,6 +64,7 @@ impl Sheet {
         ensures value { view result.now ≡ self.now }
         ensures tree { IsTrue (is_tree self.now) }
         ensures kept { manifest_of self.now ≡ Ok self.now }
+        ensures own { IsTrue (is_kept self.now) }
         ensures whole { has_float self.now ≡ false }
     {
         self.tree.as_value()
@@ -162,7 +163,7 @@ fn keep(alloc: Global, tree: &Value) -> Result<Sheet, AllocError>
     Ok(Sheet { tree, canvases })
 }
 
-fn canvas_ids(alloc: Global, canvases: &[Value]) -> Result<List<Text>, AllocError>
+pub(crate) fn canvas_ids(alloc: Global, canvases: &[Value]) -> Result<List<Text>, AllocError>
     ensures { IfOk result (λ ids. ids ≡ canvas_ids (items_view canvases.now)) }
 {
     let mut ids = Vec::with_capacity(alloc, canvases.len())?;

@@ -1,3 +1,7 @@
 pub mod NoteLemmas
+pub mod BareLemmas
+pub mod CutTextLemmas
+pub mod ServedLemmas
+pub mod KeptNoteLemmas
 pub mod TargetLemmas
 pub mod WalkLemmas

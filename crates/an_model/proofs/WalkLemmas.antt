@@ -1,28 +1,11 @@
 -- Walks over the items of an array.
-use Rattle.std.proofs.Common.{◌≡◌, ℕ, suc, ◌+◌, Bool, not, nat_lt, if◌then◌else◌, List, [], ◌∷◌, length, drop, Option, Some, None, refl, ap, ap₂}
-use Rattle.std.specs.List.{filter_map, cons_option, position, prefix_len}
+use Rattle.std.proofs.Common.{◌≡◌, ℕ, List, [], ◌∷◌, drop, Option, Some, None, refl, ap}
+use Rattle.std.specs.List.{filter_map, cons_option}
 use Rattle.std.specs.Prelude.{option_and_then}
 use Rattle.serde_json.specs.Data.{Data}
-use Rattle.serde_json.specs.View.{view, items_view}
+use Rattle.serde_json.specs.View.{items_view}
 use Rattle.serde_json.specs.declared.value.Value.{Value}
-use Rattle.an_base.specs.Items.{items_list, first_bad}
-
--- ---- the first item that fails a test
-
-prefix_len-items : (p : Data → Bool) (values : List Value) → prefix_len p (items_list (items_view values)) ≡ prefix_len (λ v. p (view v)) values
-prefix_len-items p [] = refl
-prefix_len-items p (value ∷ values) = ap (λ n. if p (view value) then 1 + n else 0) (prefix_len-items p values)
-
-length-items : (values : List Value) → length (items_list (items_view values)) ≡ length values
-length-items [] = refl
-length-items (value ∷ values) = ap suc (length-items values)
-
--- the place among the values is the place among the items
-pub first_bad-items_view : (test : Data → Bool) (values : List Value) → first_bad test (items_view values) ≡ position (λ v. not (test (view v))) values
-first_bad-items_view test values =
-    ap₂ (λ n size. if nat_lt n size then Some n else None) (prefix_len-items (λ tree. not (not (test tree))) values) (length-items values)
-
--- ---- what a walk collects
+use Rattle.an_base.specs.Items.{items_list}
 
 -- what is still to be collected from a place on
 abbrev pub left : {Y : Type 0} → (Data → Option Y) → List Value → ℕ → List Y

@@ -24,7 +24,8 @@ pub data Body : Type 0 where
 
 -- its format says that it is HTML
 abbrev pub is_html : Data → Bool
-is_html tree = passes (λ format. bytes_eq format (codes "text/html")) (text_in (codes "format") tree)
+is_html tree =
+    passes (λ format. bytes_eq format (codes "text/html")) (text_in (codes "format") tree)
 
 -- a text with the format that the tree says (Embedded Textual Body, section 3.2.4)
 abbrev pub text_body : Data → List ℕ → Body
@@ -41,7 +42,8 @@ by_id tree = option_map iri (id_of tree)
 
 -- an object with a text, or with an IRI
 abbrev pub by_text_or_id : Data → Option Body
-by_text_or_id tree = option_or (option_map (text_body tree) (text_in (codes "value") tree)) (by_id tree)
+by_text_or_id tree =
+    option_or (option_map (text_body tree) (text_in (codes "value") tree)) (by_id tree)
 
 -- the source of a specific resource (section 4)
 abbrev pub by_source : Data → Option Body
@@ -56,7 +58,8 @@ abbrev pub read_by : Option Data → (Data → Option Body) → Option Body → 
 read_by None read rest = rest
 read_by (Some member) read rest = read member
 
--- An IRI, or an object that is read by the first of these members that it has: `value`, `source`, `id`, `items`.
+-- An IRI, or an object that is read by the first of these members that it has: `value`, `source`,
+-- `id`, `items`.
 abbrev pub body_of : Data → Option Body
 body_of tree =
     read_by (get (codes "value") tree) (by_value tree)
@@ -67,7 +70,8 @@ body_of tree =
 abbrev pub is_body : Data → Bool
 is_body tree = is_some (body_of tree)
 
--- ---- the bodies of an annotation: none, one or many, or one plain text in `bodyValue` (String Body, section 3.2.5)
+-- ---- the bodies of an annotation: none, one or many, or one plain text in `bodyValue` (String
+-- Body, section 3.2.5)
 
 abbrev pub body_trees : Data → Items
 body_trees tree = trees_in (codes "body") tree
@@ -121,7 +125,8 @@ occurrence_in number o = record { text = number; term = o.term; span = o.span }
 -- the words of texts, the first of which has this number
 abbrev pub occurrences_from : ℕ → List (List ℕ) → List NoteOccurrence
 occurrences_from number [] = []
-occurrences_from number (text ∷ texts) = map (occurrence_in number) (occurrences_of text) ++ occurrences_from (number + 1) texts
+occurrences_from number (text ∷ texts) =
+    map (occurrence_in number) (occurrences_of text) ++ occurrences_from (number + 1) texts
 
 unfoldable pub note_occurrences : Data → List NoteOccurrence
 note_occurrences tree = occurrences_from 0 (texts_of tree)

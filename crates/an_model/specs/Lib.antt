@@ -4,3 +4,5 @@ pub mod Note
 pub mod Dress
 pub mod Lent
 pub mod Held
+pub mod Served
+pub mod KeptParts

@@ -1,10 +1,11 @@
--- An annotation (Web Annotation Data Model, section 3): what is kept of a tree that is sent, or why it is none.
-use Rattle.std.specs.Prelude.{ℕ, List, [], ◌∷◌, Bool, ◌&&◌, not, length, nat_lt, codes, is_some, Option, option_map, option_and_then, Result}
+-- An annotation (Web Annotation Data Model, section 3): what is kept of a tree that is sent, or why
+-- it is none.
+use Rattle.std.specs.Prelude.{ℕ, List, [], ◌∷◌, Bool, ◌&&◌, not, length, nat_lt, codes, is_none, is_some, Option, option_map, option_and_then, Result}
 use Rattle.std.specs.Char.{is_whitespace}
-use Rattle.std.specs.List.{list_any, filter_map}
+use Rattle.std.specs.List.{list_all, list_any, filter_map}
 use Rattle.std.specs.Str.{chars}
 use Rattle.serde_json.specs.Data.{Data}
-use Rattle.serde_json.specs.Find.{as_str}
+use Rattle.serde_json.specs.Find.{get, as_str}
 use Rattle.an_base.specs.Items.{items_list, first_bad, trees_in}
 use Rattle.an_base.specs.Member.{has_type}
 use Rattle.an_base.specs.Object.{without_member}
@@ -56,6 +57,15 @@ kept tree =
     (without_member (codes "creator")
     (without_member (codes "id")
     (without_member (codes "@context") tree))))
+
+-- the members that the server writes itself
+abbrev pub served_names : List (List ℕ)
+served_names =
+    codes "@context" ∷ codes "created" ∷ codes "creator" ∷ codes "id" ∷ codes "modified" ∷ []
+
+-- the tree has none of them
+unfoldable pub is_bare : Data → Bool
+is_bare tree = list_all (λ name. is_none (get name tree)) served_names
 
 -- what is kept of the tree, or the first refusal
 unfoldable pub note_of : Data → Result Data NoteError

@@ -1,5 +1,5 @@
 -- What an annotation is about (Web Annotation Data Model, sections 3.2 and 4).
-use Rattle.std.specs.Prelude.{ℕ, List, [], ◌∷◌, ◌==◌, Bool, true, false, length, nat_lt, codes, is_none, is_some, if◌then◌else◌, Option, Some, None, option_map, option_and_then}
+use Rattle.std.specs.Prelude.{ℕ, List, [], ◌∷◌, ◌==◌, Bool, true, false, length, map, nat_lt, codes, is_none, is_some, if◌then◌else◌, Option, Some, None, option_map, option_and_then}
 use Rattle.std.specs.List.{before_first, after_first, filter_map}
 use Rattle.std.specs.Option.{option_or}
 use Rattle.std.specs.Result.{result_ok}
@@ -33,19 +33,22 @@ abbrev pub iri_from : Option Data → Data → Option (List ℕ)
 iri_from None tree = resource_of tree
 iri_from (Some source) tree = resource_of source
 
--- the IRI of a target, with its fragment: that of the source of a specific resource (section 4), or its own
+-- the IRI of a target, with its fragment: that of the source of a specific resource (section 4), or
+-- its own
 abbrev pub target_iri : Data → Option (List ℕ)
 target_iri tree = iri_from (get (codes "source") tree) tree
 
 -- the selectors of a specific resource; a target without a source has none
 abbrev pub selector_trees : Data → Items
-selector_trees tree = if is_some (get (codes "source") tree) then trees_in (codes "selector") tree else no_items
+selector_trees tree =
+    if is_some (get (codes "source") tree) then trees_in (codes "selector") tree else no_items
 
 abbrev pub is_selector : Data → Bool
 is_selector tree = is_some (result_ok (selector_of tree))
 
 abbrev pub selectors_of : Data → List Selector
-selectors_of tree = filter_map (λ selector. result_ok (selector_of selector)) (items_list (selector_trees tree))
+selectors_of tree =
+    filter_map (λ selector. result_ok (selector_of selector)) (items_list (selector_trees tree))
 
 -- the values of the fragment selectors
 abbrev pub fragment_in : Selector → Option (List ℕ)
@@ -58,9 +61,11 @@ abbrev pub first_or : List ℕ → List (List ℕ) → List ℕ
 first_or otherwise [] = otherwise
 first_or otherwise (text ∷ texts) = text
 
--- the fragment that says the region: that of the first fragment selector, or without one what follows the first `#` of the IRI
+-- the fragment that says the region: that of the first fragment selector, or without one what
+-- follows the first `#` of the IRI
 abbrev pub fragment_of : List ℕ → List Selector → List ℕ
-fragment_of iri selectors = first_or (after_first (λ b. b == 35) iri) (filter_map fragment_in selectors)
+fragment_of iri selectors =
+    first_or (after_first (λ b. b == 35) iri) (filter_map fragment_in selectors)
 
 -- a target with this IRI: its source is the IRI up to the first `#`
 abbrev pub target_at : List Selector → List ℕ → Target
@@ -87,7 +92,8 @@ is_empty (item tree items) = false
 
 -- the place of the first target that is missing or malformed
 unfoldable pub bad_target : Data → Option ℕ
-bad_target tree = if is_empty (target_trees tree) then Some 0 else first_bad is_target (target_trees tree)
+bad_target tree =
+    if is_empty (target_trees tree) then Some 0 else first_bad is_target (target_trees tree)
 
 -- all selectors of the target are well formed
 abbrev pub has_good_selectors : Data → Bool
@@ -99,3 +105,7 @@ bad_selector tree = first_bad has_good_selectors (target_trees tree)
 
 unfoldable pub targets_of : Data → List Target
 targets_of tree = filter_map target_of (items_list (target_trees tree))
+
+-- the IRIs of the sources, in the order of the targets
+unfoldable pub sources_of : Data → List (List ℕ)
+sources_of tree = map (λ target. target.source) (targets_of tree)

@@ -1,10 +1,10 @@
-ghost use Rattle.std.specs.Prelude.{◌≡◌, IfOk, IsTrue, None, false};
+ghost use Rattle.std.specs.Prelude.{◌≡◌, IfOk, IsTrue, None, false, true};
 ghost use Rattle.serde_json.specs.View.{view};
 ghost use Rattle.serde_json.specs.Written.{has_float};
 ghost use Rattle.an_base.specs.Outcome.{Gives};
 ghost use Rattle.an_base.specs.Tree.{is_tree};
 ghost use Rattle.an_model.specs.Bodies.{texts_of, iris_of, note_occurrences};
-ghost use Rattle.an_model.specs.Note.{kept, motivations_of, note_of, note_refusal};
+ghost use Rattle.an_model.specs.Note.{is_bare, kept, motivations_of, note_of, note_refusal};
 ghost use Rattle.an_model.specs.Targets.{targets_of};
 
 use crate::body::{read_iris, read_texts};
@@ -51,6 +51,7 @@ impl Note {
         ensures tree { IsTrue (is_tree self.now) }
         ensures whole { has_float self.now ≡ false }
         ensures note { note_refusal self.now ≡ None }
+        ensures bare { is_bare self.now ≡ true }
     {
         self.tree.as_value()
     }
@@ -166,8 +167,10 @@ fn keep(tree: Value) -> Value
     without_member(tree, "modified")
 }
 
-fn note_over(alloc: Global, tree: Tree) -> Result<Note, AllocError>
-    requires { note_refusal tree ≡ None }
+/// An annotation over the tree that is kept of it.
+pub(crate) fn note_over(alloc: Global, tree: Tree) -> Result<Note, AllocError>
+    requires note { note_refusal tree ≡ None }
+    requires bare { is_bare tree ≡ true }
     ensures { IfOk result (λ note. note ≡ tree) }
 {
     let value = tree.as_value();

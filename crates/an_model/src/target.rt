@@ -209,13 +209,9 @@ fn fragment_of<'a>(iri: &'a str, selectors: &'a [Selector]) -> &'a str
 {
     for selector in selectors {
         match selector {
-            Selector::Fragment { value, conforms: _ } => return value.as_str(),
-            Selector::Quote {
-                exact: _,
-                prefix: _,
-                suffix: _,
-            } => {}
-            Selector::Position { start: _, end: _ } => {}
+            Selector::Fragment { value, .. } => return value.as_str(),
+            Selector::Quote { .. } => {}
+            Selector::Position { .. } => {}
             Selector::Other => {}
         }
     }

@@ -1,5 +1,5 @@
 -- The bodies of answers that show one thing.
-use Rattle.std.specs.Prelude.{ℕ, List, Bool, codes, if◌then◌else◌, Option, Some, option_map, option_and_then, ok_or, Result}
+use Rattle.std.specs.Prelude.{ℕ, List, codes, if◌then◌else◌, Option, Some, option_map, option_and_then, ok_or, Result}
 use Rattle.serde_json.specs.Data.{string}
 use Rattle.serde_json.specs.Written.{compact_text}
 use Rattle.an_manifest.specs.Dress.{dressed}
@@ -7,8 +7,7 @@ use Rattle.an_base.specs.Object.{with_member}
 use Rattle.an_base.specs.Outcome.{passes}
 use Rattle.an_policy.specs.Seen.{is_deletion}
 use Rattle.an_machine.specs.State.{KeptManifest, KeptNote, LiveManifest, LiveNote}
-use Rattle.an_machine.specs.View.{View, manifest_in, note_in, last_change}
-use Rattle.an_machine.specs.declared.activity.Seen.{Seen}
+use Rattle.an_machine.specs.View.{View, manifest_in, note_in, last_kind}
 use Rattle.an_search.specs.Listed.{listed_live}
 use Rattle.an_search.specs.Site.{Site}
 use Rattle.an_pages.specs.declared.error.PageError.{PageError}
@@ -23,7 +22,8 @@ manifest_body site row = option_map (live_body site row) row.live
 
 -- the manifest of this name, as the view has it
 unfoldable pub manifest_of_view : Site → View → List ℕ → Result (List ℕ) PageError
-manifest_of_view site view name = ok_or (option_and_then (manifest_body site) (manifest_in view name)) Absent
+manifest_of_view site view name =
+    ok_or (option_and_then (manifest_body site) (manifest_in view name)) Absent
 
 -- ---- an annotation
 
@@ -33,19 +33,23 @@ note_context = codes "http://www.w3.org/ns/anno.jsonld"
 
 -- an annotation that is live, as its own route shows it: as lists do, and with its context
 abbrev pub shown_live : Site → KeptNote → LiveNote → List ℕ
-shown_live site row live = compact_text (with_member (codes "@context") (string note_context) (listed_live site.base row live))
+shown_live site row live =
+    compact_text (with_member (codes "@context") (string note_context)
+    (listed_live site.base row live))
 
 abbrev pub note_body : Site → KeptNote → Option (List ℕ)
 note_body site row = option_map (shown_live site row) row.live
 
--- the last change of the annotation that the caller saw was its deletion
-abbrev pub was_deleted : List Seen → List ℕ → List ℕ → Bool
-was_deleted seen owner name = passes (λ change. is_deletion change.kind) (last_change (record { owner = Some owner; name = name }) seen)
-
--- why an annotation isn't shown: it is gone where the caller saw it go
+-- why an annotation isn't shown: it is gone where the last change of it that the caller saw was its
+-- deletion
 abbrev pub missing_note : View → List ℕ → List ℕ → PageError
-missing_note view owner name = if was_deleted view.seen owner name then Gone else Absent
+missing_note view owner name =
+    if passes is_deletion (last_kind (record { owner = Some owner; name = name }) view.seen)
+    then Gone
+    else Absent
 
 -- the annotation of this owner and name, as the view has it
 unfoldable pub annotation_of_view : Site → View → List ℕ → List ℕ → Result (List ℕ) PageError
-annotation_of_view site view owner name = ok_or (option_and_then (note_body site) (note_in view owner name)) (missing_note view owner name)
+annotation_of_view site view owner name =
+    ok_or (option_and_then (note_body site) (note_in view owner name))
+    (missing_note view owner name)

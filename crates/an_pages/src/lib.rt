@@ -8,5 +8,3 @@ pub use note::annotation;
 mod error;
 mod manifest;
 mod note;
-#[cfg(test)]
-mod tests;

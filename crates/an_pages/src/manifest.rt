@@ -1,17 +1,16 @@
-ghost use Rattle.std.specs.Prelude.{◌≡◌, IfOk, IsTrue, Ok};
+ghost use Rattle.std.specs.Prelude.{◌≡◌, IfOk};
 ghost use Rattle.serde_json.specs.Written.{compact_text};
 ghost use Rattle.an_base.specs.Outcome.{Gives};
 ghost use Rattle.an_policy.specs.Audience.{identity};
-ghost use Rattle.an_machine.specs.State.{manifests_are_distinct};
 ghost use Rattle.an_machine.specs.View.{view_of};
 ghost use Rattle.an_manifest.specs.Dress.{dressed};
 ghost use Rattle.an_pages.specs.Bodies.{manifest_body, manifest_of_view};
 
 use crate::error::PageError;
-use an_base::{Bytes, Name, tree_text};
+use an_base::{Bytes, Name};
 use an_keyed::Keyed;
 use an_machine::{Look, ManifestRow, shown_manifest};
-use an_manifest::{Sheet, dress_manifest};
+use an_manifest::{KeptSheet, push_manifest};
 use an_policy::Who;
 use an_search::Settings;
 use std::alloc::{AllocError, Global};
@@ -27,10 +26,7 @@ pub fn manifest_answer<T: Look>(
     name: &Name,
     settings: &Settings,
 ) -> Result<Bytes, PageError>
-    ensures body { IfOk result (λ body. manifest_of_view settings.now
-        (view_of (T.state look.now) (identity who.now)) name.now ≡ Ok body) }
-    ensures answer { IsTrue (manifests_are_distinct (T.state look.now))
-        → Gives (λ body. body) PageError.Memory result (manifest_of_view settings.now
+    ensures answer { Gives (λ body. body) PageError.Memory result (manifest_of_view settings.now
         (view_of (T.state look.now) (identity who.now)) name.now) }
 {
     match shown_manifest(look, who, name) {
@@ -61,12 +57,12 @@ fn row_body(
 
 fn sheet_body(
     alloc: Global,
-    sheet: &Sheet,
+    sheet: &KeptSheet,
     name: &Name,
     settings: &Settings,
 ) -> Result<Bytes, AllocError>
     ensures { IfOk result (λ body. body ≡ compact_text (dressed settings.now.base name.now sheet.now)) }
 {
-    let tree = dress_manifest(alloc, sheet, settings.base(), name)?;
-    tree_text(alloc, &tree)
+    let text = push_manifest(alloc, Vec::new(alloc), sheet, settings.base(), name)?;
+    Ok(Bytes::from_vec(text))
 }

@@ -1,23 +1,22 @@
-ghost use Rattle.std.specs.Prelude.{◌≡◌, false, codes, if◌then◌else◌, IfOk, IfSome, IsTrue, None, Some, Ok, option_and_then};
-ghost use Rattle.std.specs.Option.{option_copied};
-ghost use Rattle.serde_json.specs.Data.{string};
-ghost use Rattle.serde_json.specs.View.{view};
-ghost use Rattle.serde_json.specs.Written.{has_float, compact_text};
-ghost use Rattle.an_base.specs.Object.{with_member};
+ghost use Rattle.std.specs.Prelude.{◌≡◌, IfOk, option_and_then};
 ghost use Rattle.an_base.specs.Outcome.{Gives};
 ghost use Rattle.an_policy.specs.Audience.{identity};
 ghost use Rattle.an_policy.specs.Seen.{is_deletion};
-ghost use Rattle.an_machine.specs.State.{notes_are_distinct};
-ghost use Rattle.an_machine.specs.View.{note_in, view_of, is_change_of, last_change};
-ghost use Rattle.an_pages.specs.Bodies.{note_body, was_deleted, note_context, annotation_of_view};
+ghost use Rattle.an_machine.specs.Live.{lent_note};
+ghost use Rattle.an_machine.specs.View.{note_in, view_of};
+ghost use Rattle.an_pages.specs.Bodies.{shown_live, note_body, missing_note, annotation_of_view};
 
 use crate::error::PageError;
-use an_base::{Bytes, Name, tree_text, with_member};
-use an_machine::{Look, NoteRow, Object, Seen, shown_note};
+use an_base::{Bytes, Name};
+use an_keyed::Keyed;
+use an_machine::{LiveNote, Look, NoteRow, shown_note};
+use an_model::push_shown;
 use an_policy::{Kind, Who};
-use an_search::{Settings, listed_note};
-use serde_json::Value;
+use an_search::{Settings, note_iri};
 use std::alloc::{AllocError, Global};
+
+/// The context of annotations (Web Annotation Data Model).
+const NOTE_CONTEXT: &str = "http://www.w3.org/ns/anno.jsonld";
 
 /// An annotation as the caller is shown it on its own route (Web Annotation Protocol, section 3).
 /// One that the caller may not read is gone where the last change of it that the caller sees, by the
@@ -31,19 +30,13 @@ pub fn annotation<T: Look>(
     name: &Name,
     settings: &Settings,
 ) -> Result<Bytes, PageError>
-    ensures body { IfOk result (λ body. annotation_of_view settings.now
-        (view_of (T.state look.now) (identity who.now)) owner.now name.now ≡ Ok body) }
-    ensures answer { IsTrue (notes_are_distinct (T.state look.now))
-        → Gives (λ body. body) PageError.Memory result (annotation_of_view settings.now
+    ensures answer { Gives (λ body. body) PageError.Memory result (annotation_of_view settings.now
         (view_of (T.state look.now) (identity who.now)) owner.now name.now) }
 {
     match shown_body(alloc, look, who, owner, name, settings) {
         Ok(body) => match body {
             Some(body) => Ok(body),
-            None => match look.seen(alloc, who) {
-                Ok(seen) => Err(missing(seen.as_slice(), owner, name)),
-                Err(_) => Err(PageError::Memory),
-            },
+            None => Err(missing(look, who, owner, name)),
         },
         Err(_) => Err(PageError::Memory),
     }
@@ -58,10 +51,7 @@ fn shown_body<T: Look>(
     name: &Name,
     settings: &Settings,
 ) -> Result<Option<Bytes>, AllocError>
-    ensures some { IfOk result (λ body. IfSome body (λ text. option_and_then (note_body settings.now)
-        (note_in (view_of (T.state look.now) (identity who.now)) owner.now name.now) ≡ Some text)) }
-    ensures body { IsTrue (notes_are_distinct (T.state look.now))
-        → IfOk result (λ body. body ≡ option_and_then (note_body settings.now)
+    ensures body { IfOk result (λ body. body ≡ option_and_then (note_body settings.now)
         (note_in (view_of (T.state look.now) (identity who.now)) owner.now name.now)) }
 {
     match shown_note(look, who, owner, name) {
@@ -70,49 +60,17 @@ fn shown_body<T: Look>(
     }
 }
 
-/// Why the annotation isn't shown to a caller who saw these changes.
-fn missing(seen: &[Seen], owner: &Name, name: &Name) -> PageError
-    ensures { result ≡ (if was_deleted seen.now owner.now name.now then PageError.Gone else PageError.Absent) }
+/// Why the annotation isn't shown to the caller.
+fn missing<T: Look>(look: &T, who: &Who<'_>, owner: &Name, name: &Name) -> PageError
+    ensures { result ≡ missing_note (view_of (T.state look.now) (identity who.now)) owner.now name.now }
 {
-    if was_deleted(seen, owner, name) {
-        PageError::Gone
-    } else {
-        PageError::Absent
-    }
-}
-
-/// Whether the last of these changes of the annotation was its deletion.
-fn was_deleted(seen: &[Seen], owner: &Name, name: &Name) -> bool
-    ensures { result ≡ was_deleted seen.now owner.now name.now }
-{
-    match last_change(seen, owner, name) {
-        Some(change) => is_deletion(change.kind),
-        None => false,
-    }
-}
-
-fn last_change<'a>(seen: &'a [Seen], owner: &Name, name: &Name) -> Option<&'a Seen>
-    ensures { option_copied result ≡ last_change (record { owner = Some owner.now; name = name.now }) seen.now }
-{
-    let mut last = None;
-    for change in seen {
-        if is_change_of(change, owner, name) {
-            last = Some(change);
-        }
-    }
-    last
-}
-
-fn is_change_of(change: &Seen, owner: &Name, name: &Name) -> bool
-    ensures { result ≡ is_change_of (record { owner = Some owner.now; name = name.now }) change.now }
-{
-    match &change.object {
-        Object::Reader(_) => false,
-        Object::Manifest(_) => false,
-        Object::Note {
-            owner: its_owner,
-            name: its_name,
-        } => its_owner == owner && its_name == name,
+    match look.last_change(who, Some(owner), name) {
+        Some(kind) => if is_deletion(kind) {
+            PageError::Gone
+        } else {
+            PageError::Absent
+        },
+        None => PageError::Absent,
     }
 }
 
@@ -126,17 +84,31 @@ fn is_deletion(kind: Kind) -> bool
 fn note_body(alloc: Global, row: &NoteRow, settings: &Settings) -> Result<Option<Bytes>, AllocError>
     ensures { IfOk result (λ body. body ≡ note_body settings.now row.now) }
 {
-    match listed_note(alloc, settings.base(), row)? {
-        Some(tree) => Ok(Some(with_context(alloc, tree)?)),
+    match row.live() {
+        Some(live) => Ok(Some(shown_live(alloc, row, &live, settings)?)),
         None => Ok(None),
     }
 }
 
-fn with_context(alloc: Global, tree: Value) -> Result<Bytes, AllocError>
-    requires no_float { has_float (view tree) ≡ false }
-    ensures { IfOk result (λ body. body ≡ compact_text (with_member (codes "@context") (string note_context) (view tree))) }
+/// The text by which an annotation is shown: as lists give it, with the context of annotations.
+fn shown_live(
+    alloc: Global,
+    row: &NoteRow,
+    live: &LiveNote<'_>,
+    settings: &Settings,
+) -> Result<Bytes, AllocError>
+    ensures { IfOk result (λ body. body ≡ shown_live settings.now row.now (lent_note live.now)) }
 {
-    let context = Value::try_from_str(alloc, "http://www.w3.org/ns/anno.jsonld")?;
-    let tree = with_member(alloc, tree, "@context", context)?;
-    tree_text(alloc, &tree)
+    let iri = note_iri(alloc, settings.base(), row.owned_by(), row.name())?;
+    let creator = live.creator.as_str();
+    let text = push_shown(
+        Vec::new(alloc),
+        live.tree,
+        NOTE_CONTEXT,
+        iri.as_str(),
+        creator,
+        live.created,
+        live.modified,
+    )?;
+    Ok(Bytes::from_vec(text))
 }

@@ -1,1 +1,1 @@
-pub mod ItemsLemmas
+pub mod GroupLemmas

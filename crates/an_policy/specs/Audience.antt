@@ -46,10 +46,13 @@ abbrev pub is_owner : Identity → Option (List ℕ) → Bool
 is_owner who None = false
 is_owner who (Some owner) = is_named who owner
 
--- The caller may read what this audience may: it is in the outer group, and in the inner one or the owner.
+-- The caller may read what this audience may: it is in the outer group, and in the inner one or the
+-- owner.
 abbrev pub may : Identity → Audience → Bool
-may who audience = is_in who audience.outer && (is_in who audience.inner || is_owner who audience.owner)
+may who audience =
+    is_in who audience.outer && (is_in who audience.inner || is_owner who audience.owner)
 
 -- the name of a group of one's own: any name but those that everybody and nobody have
 abbrev pub is_group_name : List ℕ → Bool
-is_group_name name = is_name name && not (bytes_eq name (codes "public")) && not (bytes_eq name (codes "private"))
+is_group_name name =
+    is_name name && not (bytes_eq name (codes "public")) && not (bytes_eq name (codes "private"))

@@ -1,3 +1,4 @@
 pub mod Audience
+pub mod Group
 pub mod Reader
 pub mod Seen

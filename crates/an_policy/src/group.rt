@@ -1,5 +1,11 @@
-use an_base::{Name, TryCopy};
-use std::alloc::AllocError;
+ghost use Rattle.std.specs.Prelude.{◌≡◌, List, ℕ, Some, option_map, IfOk, IsTrue};
+ghost use Rattle.an_base.specs.Outcome.{only_if};
+ghost use Rattle.an_base.specs.Name.{is_name};
+ghost use Rattle.an_policy.specs.Group.{group_named, group_text, is_valid_group};
+ghost use Rattle.an_policy.specs.declared.group.Group.{Group};
+
+use an_base::{Name, NameError, TryCopy};
+use std::alloc::{AllocError, Global};
 
 /// Whom something is shown to.
 #[derive(Debug, Drop, PartialEq, Eq)]
@@ -39,5 +45,51 @@ impl TryCopy for Audience {
             inner: self.inner.copy()?,
             owner: self.owner.copy()?,
         })
+    }
+}
+
+/// The group that a text says, which is `public`, `private` or a name. Its only error is want of
+/// memory.
+pub fn group_named(alloc: Global, text: &str) -> Result<Option<Group>, AllocError>
+    ensures group { IfOk result (λ group. group ≡ group_named text.now) }
+{
+    match text {
+        "public" => Ok(Some(Group::Public)),
+        "private" => Ok(Some(Group::Private)),
+        _ => named(alloc, text),
+    }
+}
+
+/// The text that says a group. Takes no memory.
+pub fn group_text(group: &Group) -> &str
+    ensures text { result.now ≡ group_text group.now }
+{
+    match group {
+        Group::Public => "public",
+        Group::Private => "private",
+        Group::Named(name) => name.as_str(),
+    }
+}
+
+/// A law: the text of a group reads back as the group, and what a text says is a group whose text
+/// it is.
+#[tactic(auto, using(crate::proofs::GroupLemmas::group_texts))]
+pub fn groups_read_back()
+    ensures read_back { (g : Group) → IsTrue (is_valid_group g)
+        → group_named (group_text g) ≡ Some g }
+    ensures valid { (text : List ℕ) (g : Group) → group_named text ≡ Some g
+        → IsTrue (is_valid_group g) }
+    ensures own_text { (text : List ℕ) (g : Group) → group_named text ≡ Some g
+        → group_text g ≡ text }
+{}
+
+/// The group of this name.
+fn named(alloc: Global, text: &str) -> Result<Option<Group>, AllocError>
+    ensures { IfOk result (λ group. group ≡ option_map Group.Named (only_if is_name text.now)) }
+{
+    match Name::new(alloc, text) {
+        Ok(name) => Ok(Some(Group::Named(name))),
+        Err(NameError::Memory) => Err(AllocError),
+        Err(_) => Ok(None),
     }
 }

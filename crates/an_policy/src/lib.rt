@@ -1,7 +1,7 @@
 //! Who may read what: groups, audiences, readers, and how callers are known.
 #![tactic(auto)]
 
-pub use group::{Audience, Group};
+pub use group::{Audience, Group, group_named, group_text, groups_read_back};
 pub use kind::{Kind, as_seen};
 pub use permission::{is_member, is_named, may, may_read};
 pub use reader::{Reader, ReaderError, Role, read_reader};
@@ -11,6 +11,4 @@ mod group;
 mod kind;
 mod permission;
 mod reader;
-#[cfg(test)]
-mod tests;
 mod who;

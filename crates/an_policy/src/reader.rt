@@ -4,10 +4,10 @@ ghost use Rattle.std.specs.List.{list_all};
 ghost use Rattle.serde_json.specs.Data.{array};
 ghost use Rattle.serde_json.specs.View.{view, items_view};
 ghost use Rattle.an_base.specs.Outcome.{Gives};
-ghost use Rattle.an_policy.specs.Reader.{is_token, is_token_sign, is_user, is_user_sign, role_named, token_in, role_in, user_in, group_in, groups_in, groups_of_tree, groups_with, reader_of};
+ghost use Rattle.an_policy.specs.Reader.{is_user, is_user_sign, role_named, token_in, role_in, user_in, group_in, groups_in, groups_of_tree, groups_with, reader_of};
 
 use crate::permission::is_among;
-use an_base::{List, Name, NameError, Text, TryCopy, text_in};
+use an_base::{List, Name, NameError, Text, TryCopy, is_token, text_in};
 use serde_json::Value;
 use std::alloc::{AllocError, Global};
 
@@ -107,7 +107,11 @@ fn token_in(tree: &Value) -> Option<&str>
     ensures { option_map (λ s. s.now) result ≡ token_in (view tree.now) }
 {
     match text_in(tree, "token") {
-        Some(text) => if is_token(text) { Some(text) } else { None },
+        Some(text) => if is_token(text.as_bytes()) {
+            Some(text)
+        } else {
+            None
+        },
         None => None,
     }
 }
@@ -128,24 +132,6 @@ fn user_in(tree: &Value) -> Option<&str>
         Some(text) => if is_user(text) { Some(text) } else { None },
         None => None,
     }
-}
-
-fn is_token(text: &str) -> bool
-    ensures { result ≡ is_token text.now }
-{
-    8 <= text.len() && text.len() <= 64 && has_token_signs(text.as_bytes())
-}
-
-fn has_token_signs(bytes: &[u8]) -> bool
-    ensures { result ≡ list_all is_token_sign bytes.now }
-{
-    bytes.iter().all(|b| is_token_sign(*b))
-}
-
-fn is_token_sign(byte: u8) -> bool
-    ensures { result ≡ is_token_sign byte }
-{
-    matches!(byte, b'a'..=b'z' | b'A'..=b'Z' | b'0'..=b'9' | b'-' | b'_')
 }
 
 fn is_user(text: &str) -> bool

@@ -1,4 +1,5 @@
 pub mod FoundLemmas
-pub mod PageLemmas
+mod PageRows
 pub mod TermLemmas
 pub mod ViewLemmas
+pub mod WrittenLemmas

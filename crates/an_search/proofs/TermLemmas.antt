@@ -1,11 +1,13 @@
--- Terms, and the occurrences that have them.
-use Rattle.std.proofs.Common.{◌≡◌, ℕ, List, [], ◌∷◌, map, bytes_eq, ◌&&◌, ◌||◌, Some, refl, ap, ◌∙◌}
+-- Annotations that have terms.
+use Rattle.std.proofs.Common.{◌≡◌, ℕ, List, map, Some, sym, ap, ◌∙◌}
+use Rattle.std.proofs.lemmas.List.Folds.{list_all-map}
 use Rattle.std.specs.Prelude.{filter, slice_get}
-use Rattle.std.specs.List.{list_all, list_any, filter_map}
+use Rattle.std.specs.List.{list_all, filter_map}
+use Rattle.serde_json.specs.Data.{Data}
 use Rattle.an_base.specs.Outcome.{passes}
+use Rattle.an_base.specs.TextSet.{has_text}
 use Rattle.an_policy.specs.Audience.{Identity}
-use Rattle.an_model.specs.Bodies.{note_occurrences, note_terms}
-use Rattle.an_model.specs.declared.occurrence.NoteOccurrence.{NoteOccurrence}
+use Rattle.an_model.specs.Bodies.{note_terms}
 use Rattle.an_machine.specs.State.{State, KeptNote, LiveNote}
 use Rattle.an_machine.specs.View.{view_of, readable_places}
 use Rattle.an_terms.specs.Terms.{occurrences_of, terms_of}
@@ -13,23 +15,12 @@ use Rattle.an_search.proofs.ViewLemmas.{hits-places}
 use Rattle.an_terms.specs.declared.occurrence.Occurrence.{Occurrence}
 use Rattle.an_search.specs.Search.{has_terms, matches, hits}
 
-term_is_among : (term : List ℕ) (found : List NoteOccurrence) → list_any (λ o. bytes_eq o.term term) found ≡ list_any (λ other. bytes_eq other term) (map (λ o. o.term) found)
-term_is_among term [] = refl
-term_is_among term (o ∷ found) = ap (λ b. bytes_eq o.term term || b) (term_is_among term found)
-
-pub terms_of_occurrences : (wanted : List Occurrence) (found : List NoteOccurrence) → list_all (λ w. list_any (λ o. bytes_eq o.term w.term) found) wanted ≡ has_terms (map (λ o. o.term) wanted) (map (λ o. o.term) found)
-terms_of_occurrences [] found = refl
-terms_of_occurrences (w ∷ wanted) found =
-    ap (λ b. b && list_all (λ w. list_any (λ o. bytes_eq o.term w.term) found) wanted) (term_is_among w.term found)
-    ∙ ap (λ b. list_any (λ other. bytes_eq other w.term) (map (λ o. o.term) found) && b) (terms_of_occurrences wanted found)
-
--- the annotation matches where its words have each of the terms
-pub matches_by_occurrences : (wanted : List Occurrence) (found : List NoteOccurrence) (row : KeptNote) (live : LiveNote) → Some live ≡ row.live → found ≡ note_occurrences live.tree
-    → list_all (λ w. list_any (λ o. bytes_eq o.term w.term) found) wanted ≡ matches (map (λ o. o.term) wanted) row
-unfolding note_terms
-matches_by_occurrences wanted found row live is found_is =
-    terms_of_occurrences wanted found
-    ∙ ap (λ os. has_terms (map (λ o. o.term) wanted) (map (λ o. o.term) os)) found_is
+-- the annotation matches where its terms have each of those that are wanted
+pub matches_by_terms : (wanted : List Occurrence) (tree : Data) (row : KeptNote) (live : LiveNote) → Some live ≡ row.live → tree ≡ live.tree
+    → list_all (λ w. has_text w.term (note_terms tree)) wanted ≡ matches (map (λ o. o.term) wanted) row
+matches_by_terms wanted tree row live is tree_is =
+    sym (list_all-map (λ term. has_text term (note_terms tree)) (λ o. o.term) wanted)
+    ∙ ap (λ t. has_terms (map (λ o. o.term) wanted) (note_terms t)) tree_is
     ∙ ap (passes (λ l. has_terms (map (λ o. o.term) wanted) (note_terms l.tree))) is
 
 -- the annotations at the readable places that have the terms of a word are the hits of the view

@@ -10,7 +10,8 @@ note_iri base owner name = base ++ (codes "/annotations/" ++ (owner ++ (codes "/
 
 -- the tree that is kept, as it is served
 abbrev pub listed_live : List ℕ → KeptNote → LiveNote → Data
-listed_live base row live = dressed (note_iri base row.owner row.name) live.creator live.created live.modified live.tree
+listed_live base row live =
+    dressed (note_iri base row.owner row.name) live.creator live.created live.modified live.tree
 
 -- nothing of an annotation that was deleted
 abbrev pub listed_note : List ℕ → KeptNote → Option Data

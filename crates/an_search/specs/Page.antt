@@ -1,4 +1,5 @@
--- The pages of a list, and the page of a search (IIIF Content Search API 2.0; Web Annotation Data Model, section 5).
+-- The pages of a list, and the page of a search (IIIF Content Search API 2.0; Web Annotation Data
+-- Model, section 5).
 use Rattle.std.specs.Prelude.{ℕ, ◌+◌, ◌-◌, ◌*◌, max, nat_lt, List, ◌++◌, take, drop, codes, decimal, Option, Some, None, if◌then◌else◌}
 use Rattle.std.specs.Int.{div_ceil}
 use Rattle.serde_json.specs.Data.{Data, number, unsigned, string, array, object, Items, member, no_members}

@@ -30,7 +30,8 @@ hits view manifest wanted = filter (matches wanted) (filter (is_on manifest) vie
 
 -- the IRI of all that a search finds
 abbrev pub search_iri : List ℕ → List ℕ → List ℕ → List ℕ
-search_iri base manifest word = base ++ (codes "/search/" ++ (manifest ++ (codes "?" ++ append_pair [] (codes "q") word)))
+search_iri base manifest word =
+    base ++ (codes "/search/" ++ (manifest ++ (codes "?" ++ append_pair [] (codes "q") word)))
 
 -- a page of what a search finds
 unfoldable pub page_of_search : Site → List ℕ → List ℕ → ℕ → List KeptNote → Data
@@ -41,5 +42,6 @@ page_of_search site manifest word page found =
 -- the first page of a search for a word, as text
 abbrev pub search_of : Site → View → List ℕ → List ℕ → Result (List ℕ) AskError
 search_of site view manifest word =
-    if is_some (manifest_in view manifest) then Ok (compact_text (page_of_search site manifest word 1 (hits view manifest (terms_of word))))
+    if is_some (manifest_in view manifest) then Ok (compact_text
+    (page_of_search site manifest word 1 (hits view manifest (terms_of word))))
     else Err NoManifest

@@ -13,13 +13,16 @@ goes_on_from start text = starts_with nat_eq text start && nat_lt (length start)
 
 -- a letter, a digit, or one of `-._~:/`
 abbrev pub is_base_sign : ℕ → Bool
-is_base_sign b = is_ascii_alphanumeric b || b == 45 || b == 46 || b == 95 || b == 126 || b == 58 || b == 47
+is_base_sign b =
+    is_ascii_alphanumeric b || b == 45 || b == 46 || b == 95 || b == 126 || b == 58 || b == 47
 
--- the start of every IRI of the server: `http://` or `https://` and more, at most 200 such signs, of which the last isn't `/`
+-- the start of every IRI of the server: `http://` or `https://` and more, at most 200 such signs,
+-- of which the last isn't `/`
 unfoldable pub is_base : List ℕ → Bool
 is_base text =
     (goes_on_from (codes "http://") text || goes_on_from (codes "https://") text)
-    && nat_le (length text) 200 && list_all is_base_sign text && not (ends_with nat_eq text (codes "/"))
+    && nat_le (length text) 200 && list_all is_base_sign text && not (ends_with nat_eq text
+    (codes "/"))
 
 -- how many items a page has at most
 abbrev pub is_size : ℕ → Bool

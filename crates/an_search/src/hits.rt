@@ -1,25 +1,25 @@
-ghost use Rattle.std.specs.Prelude.{◌≡◌, ◌+◌, ◌<◌, ◌≤◌, ◌^◌, List, [], ◌∷◌, ◌++◌, false, bytes_eq, filter, map, slice_get, IfOk, OnOk, IsTrue, Ok, string_bytes};
-ghost use Rattle.std.specs.List.{filter_map, list_all, list_any};
-ghost use Rattle.serde_json.specs.View.{items_view};
-ghost use Rattle.serde_json.specs.Written.{items_have_float, compact_text};
+ghost use Rattle.std.specs.Prelude.{◌≡◌, ◌+◌, ◌<◌, ◌≤◌, ◌^◌, List, [], ◌∷◌, ◌++◌, filter, map, slice_get, IfOk, IsTrue, Ok, string_bytes};
+ghost use Rattle.std.specs.List.{filter_map, list_all};
+ghost use Rattle.serde_json.specs.Written.{compact_text};
 ghost use Rattle.an_base.specs.Outcome.{Gives};
+ghost use Rattle.an_base.specs.TextSet.{has_text};
 ghost use Rattle.an_terms.specs.Terms.{terms_of};
 ghost use Rattle.an_policy.specs.Audience.{identity};
-ghost use Rattle.an_machine.specs.State.{KeptNote, manifests_are_distinct};
+ghost use Rattle.an_model.specs.Bodies.{note_terms};
+ghost use Rattle.an_machine.specs.State.{KeptNote};
 ghost use Rattle.an_machine.specs.View.{view_of};
 ghost use Rattle.an_search.specs.Found.{HasFound};
 ghost use Rattle.an_search.specs.Search.{matches, hits, search_iri, page_of_search, search_of};
 
-use crate::listed::listed_note;
-use crate::page::{Place, page_text};
+use crate::listed::push_listed;
+use crate::page::{Paging, page_text};
 use crate::settings::Settings;
-use an_base::{Bytes, Name, Steps, Text};
+use an_base::{Bytes, Name, Steps};
 use an_machine::{Look, NoteRow, shown_manifest};
-use an_model::NoteOccurrence;
+use an_model as model;
 use an_policy::Who;
 use an_terms::{Occurrence, occurrences};
 use form_urlencoded::Serializer;
-use serde_json::Value;
 use std::alloc::{AllocError, Global};
 use std::sync::ledger::Ledger;
 
@@ -31,10 +31,11 @@ pub enum AskError {
     Memory,
 }
 
-/// The annotations that were found so far: the first of them, as lists give them, and their number.
+/// What was found so far: the first annotations as lists give them, each behind a comma, and the
+/// number of all.
 #[derive(Drop)]
 struct Found {
-    items: Vec<Value>,
+    items: Vec<u8>,
     total: usize,
 }
 
@@ -50,10 +51,7 @@ pub fn search<T: Look, L: Ledger>(
     settings: &Settings,
     steps: &mut Steps<L>,
 ) -> Result<Bytes, AskError>
-    ensures page { IfOk result (λ page. search_of settings.now
-        (view_of (T.state look.now) (identity who.now)) manifest.now word.now ≡ Ok page) }
-    ensures answer { IsTrue (manifests_are_distinct (T.state look.now))
-        → Gives (λ page. page) AskError.Memory result (search_of settings.now
+    ensures answer { Gives (λ page. page) AskError.Memory result (search_of settings.now
         (view_of (T.state look.now) (identity who.now)) manifest.now word.now) }
 {
     match shown_manifest(look, who, manifest) {
@@ -98,19 +96,18 @@ fn page_of_found(
     word: &str,
     found: Found,
 ) -> Result<Bytes, AllocError>
-    requires no_float { items_have_float (items_view found.items.items) ≡ false }
     ensures { IfOk result (λ page. (rows : List KeptNote)
         → HasFound settings.now.base settings.now.size rows found
         → page ≡ compact_text (page_of_search settings.now manifest.now word.now 1 rows)) }
 {
     let iri = search_iri(alloc, settings.base(), manifest, word)?;
-    let Found { items, total } = found;
-    let place = Place {
+    let paging = Paging {
         page: 1,
         size: settings.size(),
-        total,
+        total: found.total,
     };
-    page_text(alloc, iri.as_str(), place, items)
+    let text = page_text(alloc, iri.as_str(), paging, found.items.as_slice())?;
+    Ok(text)
 }
 
 /// The IRI of all that a search finds.
@@ -142,7 +139,7 @@ fn find<T: Look, L: Ledger>(
     };
     for place in places {
         match look.note_at(*place, steps) {
-            Some(row) => try_row(alloc, &mut found, row, wanted, settings)?,
+            Some(row) => found = try_row(alloc, found, row, wanted, settings)?,
             None => {}
         }
     }
@@ -152,45 +149,40 @@ fn find<T: Look, L: Ledger>(
 /// Adds the annotation if it has each of the terms.
 fn try_row(
     alloc: Global,
-    found: &mut Found,
+    found: Found,
     row: &NoteRow,
     wanted: &[Occurrence],
     settings: &Settings,
-) -> Result<(), AllocError>
-    requires room { found.old.total + 1 < 2 ^ 64 }
-    ensures row { OnOk result ((rows : List KeptNote)
-        → HasFound settings.now.base settings.now.size rows found.old
-        → HasFound settings.now.base settings.now.size (rows ++ filter (matches (map (λ o. o.term) wanted.now)) (row.now ∷ [])) found.new) }
-    ensures count { found.new.total ≤ found.old.total + 1 }
+) -> Result<Found, AllocError>
+    requires room { found.total + 1 < 2 ^ 64 }
+    ensures row { IfOk result (λ new. (rows : List KeptNote)
+        → HasFound settings.now.base settings.now.size rows found
+        → HasFound settings.now.base settings.now.size
+        (rows ++ filter (matches (map (λ o. o.term) wanted.now)) (row.now ∷ [])) new) }
+    ensures count { IfOk result (λ new. new.total ≤ found.total + 1) }
 {
     if matches(row, wanted) {
         add(alloc, found, row, settings)
     } else {
-        Ok(())
+        Ok(found)
     }
 }
 
 /// Counts the annotation, and lists it where the page has room.
-fn add(
-    alloc: Global,
-    found: &mut Found,
-    row: &NoteRow,
-    settings: &Settings,
-) -> Result<(), AllocError>
-    requires room { found.old.total + 1 < 2 ^ 64 }
-    ensures row { OnOk result ((rows : List KeptNote)
-        → HasFound settings.now.base settings.now.size rows found.old
-        → HasFound settings.now.base settings.now.size (rows ++ row.now ∷ []) found.new) }
-    ensures count { found.new.total ≤ found.old.total + 1 }
+fn add(alloc: Global, found: Found, row: &NoteRow, settings: &Settings) -> Result<Found, AllocError>
+    requires room { found.total + 1 < 2 ^ 64 }
+    ensures row { IfOk result (λ new. (rows : List KeptNote)
+        → HasFound settings.now.base settings.now.size rows found
+        → HasFound settings.now.base settings.now.size (rows ++ row.now ∷ []) new) }
+    ensures count { IfOk result (λ new. new.total ≤ found.total + 1) }
 {
-    found.total += 1;
-    if found.total > settings.size() as usize {
-        return Ok(());
+    let Found { items, total } = found;
+    let total = total + 1;
+    if total > settings.size() as usize {
+        return Ok(Found { items, total });
     }
-    match listed_note(alloc, settings.base(), row)? {
-        Some(note) => Ok(found.items.push(note)?),
-        None => Ok(()),
-    }
+    let items = push_listed(alloc, items, settings.base(), row)?;
+    Ok(Found { items, total })
 }
 
 /// Whether the annotation is live and its texts have each of the terms.
@@ -198,19 +190,15 @@ fn matches(row: &NoteRow, wanted: &[Occurrence]) -> bool
     ensures { result ≡ matches (map (λ o. o.term) wanted.now) row.now }
 {
     match row.live() {
-        Some(live) => has_terms(wanted, live.tree.occurrences()),
+        Some(live) => has_terms(wanted, live.tree),
         None => false,
     }
 }
 
-fn has_terms(wanted: &[Occurrence], found: &[NoteOccurrence]) -> bool
-    ensures { result ≡ list_all (λ w. list_any (λ o. bytes_eq o.term w.term) found.now) wanted.now }
+fn has_terms(wanted: &[Occurrence], note: &model::KeptNote) -> bool
+    ensures { result ≡ list_all (λ w. has_text w.term (note_terms note.now)) wanted.now }
 {
-    wanted.iter().all(|wanted| has_term(found, &wanted.term))
-}
-
-fn has_term(found: &[NoteOccurrence], term: &Text) -> bool
-    ensures { result ≡ list_any (λ o. bytes_eq o.term term.now) found.now }
-{
-    found.iter().any(|found| found.term == *term)
+    wanted
+        .iter()
+        .all(|wanted| note.has_term(wanted.term.as_str()))
 }

@@ -2,12 +2,10 @@
 #![tactic(auto)]
 
 pub use hits::{AskError, search};
-pub use listed::listed_note;
+pub use listed::note_iri;
 pub use settings::{Settings, SettingsError, read_settings};
 
 mod hits;
 mod listed;
 mod page;
 mod settings;
-#[cfg(test)]
-mod tests;

@@ -1,11 +1,13 @@
-ghost use Rattle.std.specs.Prelude.{◌≡◌, ◌≤◌, false, codes, IfOk, string_bytes};
-ghost use Rattle.serde_json.specs.View.{view, items_view};
-ghost use Rattle.serde_json.specs.Written.{items_have_float, compact_text};
-ghost use Rattle.an_base.specs.Object.{with_member_if};
-ghost use Rattle.an_search.specs.Page.{page_count, start_of, page_iri, page_link, whole_link, link_after, link_before, page_members, search_page};
+ghost use Rattle.std.specs.Prelude.{◌≡◌, ◌++◌, ◌≤◌, codes, IfOk, string_bytes};
+ghost use Rattle.serde_json.specs.Data.{Items, array, string};
+ghost use Rattle.serde_json.specs.Written.{compact_text};
+ghost use Rattle.an_base.specs.Write.{commas, item_commas, member_text};
+ghost use Rattle.an_search.specs.Page.{page_count, start_of, page_iri, page_link, whole_link, link_after, link_before, search_context, search_page};
+ghost use Rattle.an_search.specs.PageText.{content_text, text_if, place_members};
 
-use an_base::{Bytes, tree_text, with_member};
-use serde_json::{Value, json};
+use an_base::{
+    Bytes, close_members, push_array_member, push_name, push_number_member, push_text_member,
+};
 use std::alloc::{AllocError, Global};
 
 /// The context of searches (IIIF Content Search API 2.0).
@@ -13,13 +15,13 @@ const SEARCH_CONTEXT: &str = "http://iiif.io/api/search/2/context.json";
 
 /// Which page of a list, from 1, how many items a page has at most, and how many the list has.
 #[derive(Clone, Copy)]
-pub(crate) struct Place {
+pub(crate) struct Paging {
     pub page: u32,
     pub size: u32,
     pub total: usize,
 }
 
-impl Place {
+impl Paging {
     /// How many items stand on the pages before.
     fn start(self) -> u64
         requires page { 1 ≤ self.page }
@@ -38,112 +40,151 @@ impl Place {
     }
 }
 
-/// The text of a page of a search. `whole` is the IRI of the list, which has parameters.
+/// The text of a page of a search, its members in the order of their names. `whole` is the IRI of
+/// the list, which has parameters; `items` are the texts of the page's items, each behind a comma.
 pub(crate) fn page_text(
     alloc: Global,
     whole: &str,
-    place: Place,
-    items: Vec<Value>,
+    paging: Paging,
+    items: &[u8],
 ) -> Result<Bytes, AllocError>
-    requires page { 1 ≤ place.page }
-    requires size { 1 ≤ place.size }
-    requires no_float { items_have_float (items_view items.items) ≡ false }
-    ensures text { IfOk result (λ text. text ≡ compact_text
-        (search_page whole.now place.page place.size place.total (items_view items.items))) }
+    requires page { 1 ≤ paging.page }
+    requires size { 1 ≤ paging.size }
+    ensures text { (list : Items) → items.now ≡ item_commas list → IfOk result (λ text. text
+        ≡ compact_text (search_page whole.now paging.page paging.size paging.total list)) }
 {
-    let page = search_page(alloc, whole, place, items)?;
-    tree_text(alloc, &page)
+    let out = push_content(alloc, Vec::new(alloc), whole, paging, items)?;
+    let out = push_place(alloc, out, whole, paging)?;
+    let out = close_members(out, 0)?;
+    Ok(Bytes::from_vec(out))
 }
 
-#[tactic(auto, unfolding(crate::specs::Page::search_page))]
-fn search_page(
+/// Writes the context, the page's IRI, its items, and the link to the page after it.
+fn push_content(
     alloc: Global,
+    out: Vec<u8>,
     whole: &str,
-    place: Place,
-    items: Vec<Value>,
-) -> Result<Value, AllocError>
-    requires page { 1 ≤ place.page }
-    requires size { 1 ≤ place.size }
-    ensures page { IfOk result (λ page. view page
-        ≡ search_page whole.now place.page place.size place.total (items_view items.items)) }
+    paging: Paging,
+    items: &[u8],
+) -> Result<Vec<u8>, AllocError>
+    requires size { 1 ≤ paging.size }
+    ensures text { (list : Items) → items.now ≡ item_commas list → IfOk result (λ v. v.items
+        ≡ out.items ++ content_text whole.now paging.page paging.size paging.total list) }
 {
-    let page = page_members(alloc, whole, place, items)?;
-    let page = with_next(alloc, whole, place, page)?;
-    with_prev(alloc, whole, place, page)
+    let id = page_iri(alloc, whole, paging.page as usize)?;
+    let out = push_text_member(out, "@context", SEARCH_CONTEXT)?;
+    let out = push_text_member(out, "id", id.as_str())?;
+    let out = push_array_member(out, "items", items)?;
+    let out = push_next(alloc, out, whole, paging)?;
+    Ok(out)
 }
 
-fn with_next(alloc: Global, whole: &str, place: Place, page: Value) -> Result<Value, AllocError>
-    requires size { 1 ≤ place.size }
-    ensures { IfOk result (λ v. view v ≡ with_member_if (codes "next")
-        (link_after whole.now (page_count place.total place.size) place.page) (view page)) }
+/// Writes the link to the page after this one, where there is one.
+fn push_next(
+    alloc: Global,
+    out: Vec<u8>,
+    whole: &str,
+    paging: Paging,
+) -> Result<Vec<u8>, AllocError>
+    requires size { 1 ≤ paging.size }
+    ensures text { IfOk result (λ v. v.items ≡ out.items ++ text_if (codes "next")
+        (link_after whole.now (page_count paging.total paging.size) paging.page)) }
 {
-    let number = place.page as usize;
-    if number < place.pages() {
-        let next = page_link(alloc, whole, number + 1)?;
-        with_member(alloc, page, "next", next)
+    let number = paging.page as usize;
+    if number < paging.pages() {
+        push_link_member(alloc, out, "next", whole, number + 1)
     } else {
-        Ok(page)
+        Ok(out)
     }
 }
 
-fn with_prev(alloc: Global, whole: &str, place: Place, page: Value) -> Result<Value, AllocError>
-    ensures { IfOk result (λ v. view v ≡ with_member_if (codes "prev")
-        (link_before whole.now place.page) (view page)) }
+/// Writes the list that the page is part of, the link to the page before it, where it starts, and
+/// its type.
+fn push_place(
+    alloc: Global,
+    out: Vec<u8>,
+    whole: &str,
+    paging: Paging,
+) -> Result<Vec<u8>, AllocError>
+    requires page { 1 ≤ paging.page }
+    requires size { 1 ≤ paging.size }
+    ensures text { IfOk result (λ v. v.items ≡ out.items
+        ++ commas (place_members whole.now paging.page paging.size paging.total)) }
 {
-    let number = place.page as usize;
+    let out = push_name(out, "partOf")?;
+    let out = push_whole(alloc, out, whole, paging.pages(), paging.total)?;
+    let out = push_prev(alloc, out, whole, paging)?;
+    let out = push_number_member(out, "startIndex", paging.start())?;
+    let out = push_text_member(out, "type", "AnnotationPage")?;
+    Ok(out)
+}
+
+/// Writes the link to the page before this one, where there is one.
+fn push_prev(
+    alloc: Global,
+    out: Vec<u8>,
+    whole: &str,
+    paging: Paging,
+) -> Result<Vec<u8>, AllocError>
+    ensures text { IfOk result (λ v. v.items
+        ≡ out.items ++ text_if (codes "prev") (link_before whole.now paging.page)) }
+{
+    let number = paging.page as usize;
     if 1 < number {
-        let prev = page_link(alloc, whole, number - 1)?;
-        with_member(alloc, page, "prev", prev)
+        push_link_member(alloc, out, "prev", whole, number - 1)
     } else {
-        Ok(page)
+        Ok(out)
     }
 }
 
-/// The members that every page has.
-fn page_members(
+/// Writes the list, as a page of it names it.
+fn push_whole(
     alloc: Global,
+    out: Vec<u8>,
     whole: &str,
-    place: Place,
-    items: Vec<Value>,
-) -> Result<Value, AllocError>
-    requires page { 1 ≤ place.page }
-    requires size { 1 ≤ place.size }
-    ensures { IfOk result (λ page. view page
-        ≡ page_members whole.now place.page place.size place.total (items_view items.items)) }
+    pages: usize,
+    total: usize,
+) -> Result<Vec<u8>, AllocError>
+    ensures text { IfOk result
+        (λ v. v.items ≡ out.items ++ compact_text (whole_link whole.now pages total)) }
 {
-    let id = page_iri(alloc, whole, place.page as usize)?;
-    let part_of = whole_link(alloc, whole, place.pages(), place.total)?;
-    json!(in alloc; {
-        "@context": SEARCH_CONTEXT,
-        "id": id,
-        "items": items,
-        "partOf": part_of,
-        "startIndex": place.start(),
-        "type": "AnnotationPage"
-    })
+    let start = out.len();
+    let out = push_link_member(alloc, out, "first", whole, 1)?;
+    let out = push_text_member(out, "id", whole)?;
+    let out = push_link_member(alloc, out, "last", whole, pages)?;
+    let out = push_number_member(out, "total", total as u64)?;
+    let out = push_text_member(out, "type", "AnnotationCollection")?;
+    let out = close_members(out, start)?;
+    Ok(out)
 }
 
-/// The list, as a page of it names it.
-fn whole_link(alloc: Global, whole: &str, pages: usize, total: usize) -> Result<Value, AllocError>
-    ensures { IfOk result (λ v. view v ≡ whole_link whole.now pages total) }
+/// Writes a page, as another names it, as a member of this name.
+fn push_link_member(
+    alloc: Global,
+    out: Vec<u8>,
+    name: &str,
+    whole: &str,
+    number: usize,
+) -> Result<Vec<u8>, AllocError>
+    ensures text { IfOk result
+        (λ v. v.items ≡ out.items ++ member_text name.now (page_link whole.now number)) }
 {
-    let first = page_link(alloc, whole, 1)?;
-    let last = page_link(alloc, whole, pages)?;
-    json!(in alloc; {
-        "first": first,
-        "id": whole,
-        "last": last,
-        "total": total,
-        "type": "AnnotationCollection"
-    })
+    let out = push_name(out, name)?;
+    let out = push_link(alloc, out, whole, number)?;
+    Ok(out)
 }
 
-/// A page, as another names it.
-fn page_link(alloc: Global, whole: &str, number: usize) -> Result<Value, AllocError>
-    ensures { IfOk result (λ v. view v ≡ page_link whole.now number) }
+/// Writes a page, as another names it.
+fn push_link(alloc: Global, out: Vec<u8>, whole: &str, number: usize) -> Result<Vec<u8>, AllocError>
+    ensures text { IfOk result
+        (λ v. v.items ≡ out.items ++ compact_text (page_link whole.now number)) }
 {
-    let iri = page_iri(alloc, whole, number)?;
-    json!(in alloc; {"id": iri, "type": "AnnotationPage"})
+    let start = out.len();
+    let id = page_iri(alloc, whole, number)?;
+    let out = push_text_member(out, "id", id.as_str())?;
+    let out = push_text_member(out, "type", "AnnotationPage")?;
+    let out = close_members(out, start)?;
+    Ok(out)
 }
 
 fn page_iri(alloc: Global, whole: &str, number: usize) -> Result<String, AllocError>

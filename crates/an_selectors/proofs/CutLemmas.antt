@@ -1,20 +1,17 @@
 -- Texts and their code points, cut at points.
 use Rattle.std.proofs.Common.{◌≡◌, ℕ, ◌+◌, ◌-◌, ◌≤◌, List, [], ◌++◌, length, take, drop, sym, ap, ap₂, ◌∙◌, subst, length-append, arith}
 use Rattle.std.proofs.lemmas.List.{take-append-drop, take-take, drop-take, take_at, drop_at, drop-drop, length-take-le, length-drop, nil_from_length, drop_all, append_cancel_right}
-use Rattle.std.proofs.lemmas.Str.{chars-append, encodes-chars, encodes-append, length-le-encodes, IsCharBoundary-past_char, IsCharBoundary-start, IsUtf8-take, IsUtf8-drop, length-encode, drop_past_char, chars_past_char, chars-nil}
+use Rattle.std.proofs.lemmas.Str.{chars-append, encodes-chars, encodes-append, IsCharBoundary-past_char, IsCharBoundary-start, IsUtf8-take, IsUtf8-drop, length-encode, drop_past_char, chars_past_char, chars-nil}
 use Rattle.std.specs.Char.{len_utf8}
 use Rattle.std.specs.Prelude.{encode_utf8, encode_utf8_all}
 use Rattle.std.specs.Str.{chars, IsUtf8, IsCharBoundary}
+use Rattle.an_base.proofs.CharLemmas.{length-chars}
 use Rattle.an_selectors.specs.declared.cut.Point.{Point}
 use Rattle.an_selectors.specs.Walk.{IsPointOf, IsRestOf}
 
 pub take_add : {X : Type 0} (n m : ℕ) (xs : List X) → take (n + m) xs ≡ take n xs ++ take m (drop n xs)
 take_add n m xs =
     sym (take-append-drop n (take (n + m) xs)) ∙ ap₂ (λ front back. front ++ back) (take-take n (n + m) xs (omega arith)) (drop-take n m xs)
-
--- a text has no more code points than bytes
-pub length-chars : (text : List ℕ) → IsUtf8 text → length (chars text) ≤ length text
-length-chars text u = omega (arith, length-le-encodes (chars text), ap length (encodes-chars text u))
 
 -- ---- points
 

@@ -36,14 +36,6 @@ module _ (needle text : List ℕ) (point : Point) (v : IsUtf8 needle) (u : IsUtf
   pub stands_there : starts_with eqb (drop point.number (chars text)) (chars needle) ≡ true
   stands_there = starts_from _ (chars needle) _ points_there
 
-  -- the point behind it
-  pub IsPointOf-end : IsPointOf text (record { at = point.at + length needle; number = point.number + length (chars needle) })
-  IsPointOf-end =
-      let before = length-chars_cut text point.at u here.is.boundary in
-      let after = length-chars_cut text (point.at + length needle) u here.behind in
-      let parts = ap length (ap chars here.bytes ∙ chars-append needle _ v) ∙ length-append (chars needle) (chars (drop (point.at + length needle) text)) in
-      record { boundary = here.behind; counted = omega (arith, here.is.counted, before, after, parts) }
-
   pub needle_fits : point.number + length (chars needle) ≤ length (chars text)
   needle_fits =
       omega (

@@ -41,4 +41,6 @@ without_unit text = unwrap_or (behind (codes "pixel:") text) text
 
 -- the region that a fragment is: `xywh=x,y,w,h` or `xywh=pixel:x,y,w,h`
 abbrev pub region_of : List ℕ → Option Xywh
-region_of fragment = option_and_then (λ numbers. region_of_numbers (without_unit numbers)) (behind (codes "xywh=") fragment)
+region_of fragment =
+    option_and_then (λ numbers. region_of_numbers (without_unit numbers)) (behind
+    (codes "xywh=") fragment)

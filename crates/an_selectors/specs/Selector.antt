@@ -1,9 +1,10 @@
--- Selectors (Web Annotation Data Model, section 4.2): the one that a tree describes, or why it describes none.
-use Rattle.std.specs.Prelude.{ℕ, ◌^◌, List, [], Bool, false, ◌||◌, bytes_eq, codes, nat_lt, is_some, if◌then◌else◌, Option, Some, None, option_map, option_and_then, unwrap_or, Result, Ok, Err}
-use Rattle.serde_json.specs.Data.{Data, Items, no_items, item}
+-- Selectors (Web Annotation Data Model, section 4.2): the one that a tree describes, or why it
+-- describes none.
+use Rattle.std.specs.Prelude.{ℕ, ◌^◌, List, [], Bool, ◌||◌, codes, nat_lt, is_some, if◌then◌else◌, Option, Some, None, option_map, option_and_then, unwrap_or, Result, Ok, Err}
+use Rattle.serde_json.specs.Data.{Data, Items}
 use Rattle.serde_json.specs.Find.{get, as_str, as_number, as_u64, as_array}
-use Rattle.an_base.specs.Outcome.{only_if, or_refuse, passes}
-use Rattle.an_base.specs.Member.{text_in}
+use Rattle.an_base.specs.Outcome.{only_if, or_refuse}
+use Rattle.an_base.specs.Member.{text_in, has_item}
 use Rattle.an_base.specs.Tree.{one_or_many}
 use Rattle.an_selectors.specs.declared.selector.Selector.{Selector}
 use Rattle.an_selectors.specs.declared.selector.Selector.TheVariants.{Fragment, Quote, Position, Other}
@@ -18,12 +19,8 @@ says_type value = is_some (as_str value) || is_some (as_array value)
 
 -- the types that an object says, where its member `type` says any
 abbrev pub types_in : Data → Option Items
-types_in tree = option_map one_or_many (option_and_then (only_if says_type) (get (codes "type") tree))
-
--- one of the types is this
-abbrev pub has_type : List ℕ → Items → Bool
-has_type name no_items = false
-has_type name (item value types) = passes (λ type. bytes_eq type name) (as_str value) || has_type name types
+types_in tree =
+    option_map one_or_many (option_and_then (only_if says_type) (get (codes "type") tree))
 
 -- ---- the members of a selector
 
@@ -37,7 +34,9 @@ optional_text_in name tree = optional_text (get name tree)
 
 -- a whole number from 0 to 4,294,967,295
 abbrev pub number_in : List ℕ → Data → Option ℕ
-number_in name tree = option_and_then (only_if (λ n. nat_lt n (2 ^ 32))) (option_and_then as_u64 (option_and_then as_number (get name tree)))
+number_in name tree =
+    option_and_then (only_if (λ n. nat_lt n (2 ^ 32))) (option_and_then as_u64
+    (option_and_then as_number (get name tree)))
 
 -- ---- the kinds of selector
 
@@ -66,12 +65,13 @@ position_of tree =
 -- by the types of an object: of several that are known, the first of these three counts
 abbrev pub selector_of_types : Items → Data → Result Selector SelectorError
 selector_of_types types tree =
-    if has_type (codes "FragmentSelector") types then fragment_of tree
-    else (if has_type (codes "TextQuoteSelector") types then quote_of tree
-    else (if has_type (codes "TextPositionSelector") types then position_of tree
+    if has_item (codes "FragmentSelector") types then fragment_of tree
+    else (if has_item (codes "TextQuoteSelector") types then quote_of tree
+    else (if has_item (codes "TextPositionSelector") types then position_of tree
     else Ok Other))
 
--- The selector that a tree describes, or the refusal. A string is the IRI of a selector that stands elsewhere.
+-- The selector that a tree describes, or the refusal. A string is the IRI of a selector that stands
+-- elsewhere.
 abbrev pub selector_of : Data → Result Selector SelectorError
 selector_of tree =
     if is_some (as_str tree) then Ok Other

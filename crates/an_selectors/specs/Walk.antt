@@ -1,4 +1,5 @@
--- For private clauses: how the search for a text walks over another, from each place where it stands to the next.
+-- For private clauses: how the search for a text walks over another, from each place where it
+-- stands to the next.
 use Rattle.std.specs.Prelude.{◌≡◌, ℕ, ◌+◌, ◌-◌, ◌<◌, ◌≤◌, List, length, take, drop, map, filter, false, ◌++◌, nat_eq}
 use Rattle.std.specs.List.{starts_with, range_with_len}
 use Rattle.std.specs.Str.{chars, IsCharBoundary}
@@ -18,7 +19,8 @@ pub record StandsAt (needle text : List ℕ) (point : Point) : Type 0 where
 
 -- among the code points the needle stands at none from one number up to another
 abbrev pub StandsNowhere : (needle points : List ℕ) (from to : ℕ) → Type 0
-StandsNowhere needle points from to = (j : ℕ) → from ≤ j → j < to → starts_with nat_eq (drop j points) needle ≡ false
+StandsNowhere needle points from to =
+    (j : ℕ) → from ≤ j → j < to → starts_with nat_eq (drop j points) needle ≡ false
 
 -- the point is the first, from a number on, at which the needle stands
 pub record IsNext (needle text : List ℕ) (from : ℕ) (point : Point) : Type 0 where
@@ -44,4 +46,6 @@ span_behind before width number = record { start = number + before; end = number
 
 -- such a span for each number at which the needle stands among the code points
 unfoldable pub spans_of : (needle : List ℕ) (before width : ℕ) (points : List ℕ) → List Span
-spans_of needle before width points = map (span_behind before width) (filter (λ j. starts_with nat_eq (drop j points) needle) (range_with_len 0 (length points)))
+spans_of needle before width points =
+    map (span_behind before width) (filter (λ j. starts_with nat_eq (drop j points) needle)
+    (range_with_len 0 (length points)))

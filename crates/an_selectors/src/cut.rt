@@ -1,4 +1,4 @@
-ghost use Rattle.std.specs.Prelude.{◌≡◌, ◌+◌, ◌<◌, ◌≤◌, length, take, drop, chars, encode_utf8_all};
+ghost use Rattle.std.specs.Prelude.{◌≡◌, ◌+◌, ◌<◌, length, take, drop, chars, encode_utf8_all};
 ghost use Rattle.an_selectors.specs.Walk.{IsPointOf, IsRestOf};
 
 /// A point of a text: the byte at which the text may be cut, and how many code points stand before
@@ -7,14 +7,6 @@ ghost use Rattle.an_selectors.specs.Walk.{IsPointOf, IsRestOf};
 pub(crate) struct Point {
     pub at: usize,
     pub number: usize,
-}
-
-/// How many code points a text has.
-pub(crate) fn char_count(text: &str) -> usize
-    ensures count { result ≡ length (chars text.now) }
-    ensures bound { result ≤ length text.now }
-{
-    text.chars().count()
 }
 
 /// A text up to a number of code points, or to its end, and what follows them.

@@ -1,13 +1,11 @@
-ghost use Rattle.std.specs.Prelude.{◌≡◌, [], bytes_eq, unwrap_or, option_map};
+ghost use Rattle.std.specs.Prelude.{◌≡◌, [], unwrap_or, option_map};
 ghost use Rattle.std.specs.Result.{result_map_both};
-ghost use Rattle.serde_json.specs.Find.{as_str};
 ghost use Rattle.serde_json.specs.View.{view, items_view};
-ghost use Rattle.an_base.specs.Outcome.{passes};
-ghost use Rattle.an_selectors.specs.Selector.{has_type, types_in, optional_text_in, number_in, fragment_of, quote_of, position_of, selector_of_types, selector_of};
+ghost use Rattle.an_selectors.specs.Selector.{types_in, optional_text_in, number_in, fragment_of, quote_of, position_of, selector_of_types, selector_of};
 ghost use Rattle.an_selectors.specs.Lent.{owned};
 
 use crate::selector::SelectorError;
-use an_base::{one_or_many, text_in};
+use an_base::{has_item, one_or_many, text_in};
 use serde_json::Value;
 
 /// What a selector says, lent by its tree.
@@ -46,13 +44,13 @@ fn lent_of_types<'a>(types: &[Value], tree: &'a Value) -> Result<Lent<'a>, Selec
     ensures { result_map_both owned (λ e. e) result
         ≡ selector_of_types (items_view types.now) (view tree.now) }
 {
-    if has_type(types, "FragmentSelector") {
+    if has_item(types, "FragmentSelector") {
         return fragment_in(tree);
     }
-    if has_type(types, "TextQuoteSelector") {
+    if has_item(types, "TextQuoteSelector") {
         return quote_in(tree);
     }
-    if has_type(types, "TextPositionSelector") {
+    if has_item(types, "TextPositionSelector") {
         return position_in(tree);
     }
     Ok(Lent::Other)
@@ -101,26 +99,6 @@ fn types_in(tree: &Value) -> Option<&[Value]>
             None
         },
         None => None,
-    }
-}
-
-fn has_type(types: &[Value], name: &str) -> bool
-    ensures { result ≡ has_type name.now (items_view types.now) }
-{
-    for value in types {
-        if is_text(value, name) {
-            return true;
-        }
-    }
-    false
-}
-
-fn is_text(value: &Value, text: &str) -> bool
-    ensures { result ≡ passes (λ found. bytes_eq found text.now) (as_str (view value.now)) }
-{
-    match value.as_str() {
-        Some(found) => found == text,
-        None => false,
     }
 }
 

@@ -13,6 +13,4 @@ mod place;
 mod quote;
 mod region;
 mod selector;
-#[cfg(test)]
-mod tests;
 mod walk;

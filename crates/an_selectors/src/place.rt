@@ -2,10 +2,10 @@ ghost use Rattle.std.specs.Prelude.{◌≡◌, ◌+◌, ◌<◌, ◌≤◌, leng
 ghost use Rattle.an_selectors.specs.Places.{places_of, places_of_quote, places_of_position};
 ghost use Rattle.an_selectors.specs.Walk.{spans_of};
 
-use crate::cut::{Point, char_count};
+use crate::cut::Point;
 use crate::selector::Selector;
 use crate::walk::{next_point, point_after};
-use an_base::Span;
+use an_base::{Span, char_count};
 use std::alloc::{AllocError, Global};
 
 /// The places of a text that a selector selects, in Unicode code points (Web Annotation Data Model,

@@ -1,7 +1,8 @@
 ghost use Rattle.std.specs.Prelude.{◌+◌, ◌<◌, length, chars, IfSome, MatchOption};
 ghost use Rattle.an_selectors.specs.Walk.{IsPointOf, IsNext, IsAfter, StandsAt, StandsNowhere};
 
-use crate::cut::{Point, char_count, point_behind};
+use crate::cut::{Point, point_behind};
+use an_base::char_count;
 
 /// The first point, from another on, at which the needle stands.
 pub(crate) fn next_point(text: &str, from: Point, needle: &str) -> Option<Point>

@@ -2,7 +2,7 @@
 use Rattle.std.proofs.Common.{◌≡◌, ◌≢◌, ℕ, ◌+◌, ◌≤◌, true, List, [], ◌∷◌, ◌++◌, Bor, length, map, filter, Option, Some, None, sym, ap, ap₂, ◌∙◌, append_assoc, append-nil, length-append, arith, subst}
 use Rattle.std.proofs.lemmas.Bool.{cond-true, false_from_ne_true, cond-false}
 use Rattle.std.proofs.lemmas.List.Elements.{All-head, filter_passes}
-use Rattle.std.proofs.lemmas.Str.{chars_from_encodes, chars-IsAscii, encodes-chars, encodes-IsAscii, length-le-encodes}
+use Rattle.std.proofs.lemmas.Str.{chars_from_encodes, chars-IsAscii, encodes-IsAscii}
 use Rattle.std.proofs.lemmas.Str.Ascii.{All-from_ascii, IsAscii-map, lowercase_ascii}
 use Rattle.std.specs.Char.{to_ascii_lowercase}
 use Rattle.std.specs.List.{All, concat}
@@ -39,10 +39,6 @@ term_of-ascii word ascii =
     ∙ ap (λ cs. encode_utf8_all (nfc (default_case_fold cs))) (normalize-ascii Nfd word all)
     ∙ ap (λ cs. encode_utf8_all (nfc cs)) (default_case_fold-ascii word all)
     ∙ ap encode_utf8_all (normalize-ascii Nfc _ (All-from_ascii _ lowered)) ∙ encodes-IsAscii _ lowered
-
--- a text has no more code points than bytes
-pub length-chars : (text : List ℕ) → IsUtf8 text → length (chars text) ≤ length text
-length-chars text u = omega (arith, length-le-encodes (chars text), ap length (encodes-chars text u))
 
 -- the occurrences among pieces of which the first begins at a code point
 abbrev pub occurrences_from : ℕ → List (List ℕ) → List Occurrence

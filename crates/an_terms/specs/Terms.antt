@@ -19,17 +19,27 @@ placed start (piece ∷ pieces) = (start, piece) ∷ placed (start + length (cha
 -- a piece as an occurrence, from the code point at which it begins to the one behind it
 abbrev pub occurrence_of : ℕ × List ℕ → Occurrence
 occurrence_of (start, piece) =
-    record { term = term_of piece; span = record { start = start; end = start + length (chars piece) } }
+    record {
+      term = term_of piece;
+      span = record {
+        start = start;
+        end = start + length
+            (chars piece);
+      };
+    }
 
--- the words of a text in order: its pieces between word boundaries that have an alphanumeric character
+-- the words of a text in order: its pieces between word boundaries that have an alphanumeric
+-- character
 unfoldable pub occurrences_of : List ℕ → List Occurrence
-occurrences_of text = map occurrence_of (filter (λ p. has_alphanumeric p.1) (placed 0 (word_bounds text)))
+occurrences_of text =
+    map occurrence_of (filter (λ p. has_alphanumeric p.1) (placed 0 (word_bounds text)))
 
 -- the terms of a text, each as often as it occurs
 unfoldable pub terms_of : List ℕ → List (List ℕ)
 terms_of text = map (λ o. o.term) (occurrences_of text)
 
--- The occurrence is a word of the text: its span has a code point and lies in the text, and its term is that
+-- The occurrence is a word of the text: its span has a code point and lies in the text, and its
+-- term is that
 -- of what stands there.
 pub record IsWordOf (text : List ℕ) (o : Occurrence) : Type 0 where
   pub some : o.span.start < o.span.end

@@ -10,6 +10,4 @@ pub use words::occurrences;
 mod html;
 mod occurrence;
 mod term;
-#[cfg(test)]
-mod tests;
 mod words;

@@ -1,10 +1,10 @@
-ghost use Rattle.std.specs.Prelude.{◌≡◌, ◌↔◌, ◌≤◌, chars, length, All, AllPairs, IfOk, IsTrue, Some};
+ghost use Rattle.std.specs.Prelude.{◌≡◌, ◌↔◌, All, AllPairs, IfOk, IsTrue, Some};
 ghost use Rattle.std.specs.Option.{option_copied};
 ghost use Rattle.an_terms.specs.Terms.{occurrences_of, IsWordOf, StandsBefore};
 
 use crate::occurrence::Occurrence;
 use crate::term::term_of;
-use an_base::Span;
+use an_base::{Span, char_count};
 use std::alloc::{AllocError, Global};
 use unicode_segmentation::UnicodeSegmentation;
 
@@ -33,14 +33,6 @@ pub fn occurrences(alloc: Global, text: &str) -> Result<Vec<Occurrence>, AllocEr
         start = end;
     }
     Ok(found)
-}
-
-/// How many code points the text has.
-fn char_count(text: &str) -> usize
-    ensures count { result ≡ length (chars text.now) }
-    ensures bound { result ≤ length text.now }
-{
-    text.chars().count()
 }
 
 /// Whether the piece is the next word.

@@ -18,8 +18,14 @@ is_next_failing calls = list_any (λ number. number == next_count calls.made) ca
 
 -- one more call was made
 abbrev pub called : CallCounts → CallCounts
-called calls = record { made = next_count calls.made; faults = calls.faults; failing = calls.failing }
+called calls =
+    record { made = next_count calls.made; faults = calls.faults; failing = calls.failing }
 
 -- one more call was made, and it failed
 abbrev pub failed : CallCounts → CallCounts
-failed calls = record { made = next_count calls.made; faults = next_count calls.faults; failing = calls.failing }
+failed calls =
+    record {
+      made = next_count calls.made;
+      faults = next_count calls.faults;
+      failing = calls.failing;
+    }

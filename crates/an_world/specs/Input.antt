@@ -1,7 +1,8 @@
 -- The input of a link in memory, which is given piece by piece.
 use Rattle.std.specs.Prelude.{ℕ, ◌-◌, min, nat_lt, if◌then◌else◌, List, [], ◌∷◌, ◌++◌, length, take, drop, filter}
 
--- the bytes that were given, those that are left, and the lengths of the pieces to come; behind these pieces comes the rest
+-- the bytes that were given, those that are left, and the lengths of the pieces to come; behind
+-- these pieces comes the rest
 pub record Pieces : Type 0 where
   pub read : List ℕ
   pub left : List ℕ
@@ -16,7 +17,8 @@ abbrev pub piece_of : List ℕ → ℕ → ℕ
 piece_of [] left = left
 piece_of (first ∷ cut) left = min first left
 
--- how many bytes a read with room for `size` is given: what is longer than the room goes on in the next read
+-- how many bytes a read with room for `size` is given: what is longer than the room goes on in the
+-- next read
 abbrev pub count_for : ℕ → Pieces → ℕ
 count_for size input = min (piece_of input.cut (length input.left)) size
 
@@ -28,4 +30,9 @@ cut_behind count (first ∷ cut) = if nat_lt count first then (first - count) �
 -- the input behind the next so many bytes
 abbrev pub pieces_behind : ℕ → Pieces → Pieces
 pieces_behind count input =
-    record { read = input.read ++ take count input.left; left = drop count input.left; cut = cut_behind count input.cut }
+    record {
+      read = input.read ++ take count input.left;
+      left = drop count
+          input.left;
+      cut = cut_behind count input.cut;
+    }

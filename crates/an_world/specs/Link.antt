@@ -1,5 +1,5 @@
 -- What a link tells of its bytes, and how a call may change that and the counts of faults.
-use Rattle.std.specs.Prelude.{◌≡◌, ℕ, ◌-◌, ◌^◌, ◌<◌, ◌↔◌, List, [], ◌++◌, Option, Some, None}
+use Rattle.std.specs.Prelude.{◌≡◌, ℕ, ◌-◌, ◌^◌, ◌<◌, ◌↔◌, List, [], ◌++◌, length, take, ◌≤◌, Option, Some, None}
 
 -- the bytes that a link has read, those that it has left to read, and those that it has written
 pub record Traffic : Type 0 where
@@ -11,7 +11,8 @@ pub record Traffic : Type 0 where
 abbrev pub Rises : ℕ → ℕ → Type 0
 Rises old new = old < 2 ^ 64 - 1 → old < new
 
--- a link that told its bytes tells them still, and the change from old to new is this one; no other link begins to tell
+-- a link that told its bytes tells them still, and the change from old to new is this one; no other
+-- link begins to tell
 abbrev pub Tells : (Traffic → Traffic → Type 0) → Option Traffic → Option Traffic → Type 0
 Tells Change None None = Unit {0}
 Tells Change None (Some new) = ⊥
@@ -42,3 +43,23 @@ Writes bytes = Tells (AddsWritten bytes)
 abbrev pub IsZeroAtEnd : ℕ → Option Traffic → Type 0
 IsZeroAtEnd count None = Unit {0}
 IsZeroAtEnd count (Some traffic) = (count ≡ 0) ↔ (traffic.left ≡ [])
+
+-- where a link tells its bytes: none is left to read
+abbrev pub IsAtEnd : Option Traffic → Type 0
+IsAtEnd None = Unit {0}
+IsAtEnd (Some traffic) = traffic.left ≡ []
+
+-- so many bytes from the front of these were written, and nothing else moved
+pub record WritesFront (bytes : List ℕ) (old new : Option Traffic) : Type 0 where
+  pub count : ℕ
+  pub writes : Writes (take count bytes) old new
+
+-- the bytes that were read came behind those that were held, and nothing else moved
+pub record ReadsOn (old new : Option Traffic) (held held' : List ℕ) : Type 0 where
+  pub more : List ℕ
+  pub reads : Reads more old new
+  pub is : held' ≡ held ++ more
+
+-- bytes were read, at most so many, and nothing else moved
+abbrev pub ReadsAtMost : ℕ → Option Traffic → Option Traffic → Type 0
+ReadsAtMost most old new = (bytes : List ℕ) × Reads bytes old new × (length bytes ≤ most)

@@ -4,7 +4,8 @@ use Rattle.an_world.specs.Link.{Traffic}
 use Rattle.an_world.specs.Input.{Pieces, pieces_of, count_for, pieces_behind}
 use Rattle.an_world.specs.Calls.{CallCounts, is_next_failing, called, failed}
 
--- the input, the bytes that were written, how many bytes more may be written, and the calls that were made
+-- the input, the bytes that were written, how many bytes more may be written, and the calls that
+-- were made
 pub record Memory : Type 0 where
   pub input : Pieces
   pub written : List ℕ
@@ -30,7 +31,11 @@ traffic_of link = record { read = link.input.read; left = link.input.left; writt
 abbrev pub after_read : ℕ → Memory → Memory
 after_read size link = if is_next_failing link.reads
     then record link { reads = failed link.reads }
-    else record link { reads = called link.reads; input = pieces_behind (count_for size link.input) link.input }
+    else record link {
+      reads = called link.reads;
+      input = pieces_behind
+          (count_for size link.input) link.input;
+    }
 
 -- whether the next write fails: it is listed, or nothing is free
 abbrev pub is_write_failing : Memory → Bool

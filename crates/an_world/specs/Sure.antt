@@ -14,11 +14,13 @@ sure_of input cut = record { input = pieces_of input cut; written = [] }
 
 -- the bytes that went over it, and those left
 abbrev pub sure_traffic : Sure → Traffic
-sure_traffic link = record { read = link.input.read; left = link.input.left; written = link.written }
+sure_traffic link =
+    record { read = link.input.read; left = link.input.left; written = link.written }
 
 -- the link behind a read with room for `size` bytes
 abbrev pub sure_after_read : ℕ → Sure → Sure
-sure_after_read size link = record link { input = pieces_behind (count_for size link.input) link.input }
+sure_after_read size link =
+    record link { input = pieces_behind (count_for size link.input) link.input }
 
 -- the link behind a write of these bytes, all of which it takes
 abbrev pub sure_after_write : List ℕ → Sure → Sure

@@ -3,7 +3,7 @@
 
 mod link;
 
-use an_app::run;
+use an_app::{Status, run};
 use link::StdLink;
 use std::process::ExitCode;
 use std::rt::Env;
@@ -13,16 +13,16 @@ use std::{env, io};
 /// the status of `run`. A word that isn't UTF-8 is in no form.
 fn main(rt: HostRuntime) -> ExitCode {
     let alloc = rt.alloc();
-    let mut line = StdLink::new(rt.reader(), io::writer(&rt));
+    let mut link = StdLink::new(rt.reader(), io::writer(&rt));
     let status = match words_of(&rt) {
-        Ok(words) => run(alloc, words.as_slice(), &mut line),
+        Ok(words) => run(alloc, words.as_slice(), &mut link),
         Err(error) => if error.kind() == io::ErrorKind::OutOfMemory {
-            6
+            Status::Memory
         } else {
-            run(alloc, &[], &mut line)
+            run(alloc, &[], &mut link)
         },
     };
-    ExitCode::from(status)
+    ExitCode::from(status.code())
 }
 
 /// The words behind the program's name.

@@ -3,14 +3,12 @@ use Rattle.an_app.specs.Find.{play, turn_of}
 use Rattle.an_app.specs.Split.{lines_of}
 use Rattle.an_app.specs.Turned.{Takes}
 use Rattle.an_app.proofs.FollowLemmas.{follows}
-use Rattle.an_machine.proofs.DistinctLemmas.{distinct-empty}
 use Rattle.an_app.proofs.lines.play.Goals as goal
 
 pub lines-init : goal.lines-init
 lines-init c = record {
   output = search rules;
   stop = search rules;
-  distinct = rw c.new-book.ensures.empty distinct-empty;
   few = search rules;
   within = search rules;
 }
@@ -24,11 +22,10 @@ lines-preserved c =
     let behind = lines_of c.in-Some.rest.now in
     let first = c.in-Some.ensures.first in
     let taken = follows (turn_of site old c.in-Some.line.now) number (play site behind) old new c.lines.output.items c.turn.new.output.items
-    (subst (λ stop. Takes (turn_of site old c.in-Some.line.now) old new c.lines.output.items c.turn.new.output.items stop) c.in-None.is c.in_ok-code.ensures.takes) in
+    (subst (λ stop. Takes (turn_of site old c.in-Some.line.now) old new c.lines.output.items c.turn.new.output.items stop) c.in-None.is c.in_ok-code.ensures) in
     record {
       output = taken.0 ∙ sym (ap (λ lines. c.lines.output.items ++ (play site lines number old).output) first) ∙ c.lines.invariant.output;
       stop = taken.1 ∙ sym (ap (λ lines. (play site lines number old).stop) first) ∙ c.lines.invariant.stop;
-      distinct = c.in_ok-code.ensures.distinct;
       few = omega (arith, c.lines.invariant.few, c.in-Some.ensures.shorter);
       within = c.lines.invariant.within;
     }

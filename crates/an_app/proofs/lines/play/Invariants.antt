@@ -1,6 +1,5 @@
-use Rattle.std.proofs.Common.{◌≡◌, ◌+◌, ◌^◌, ◌<◌, ◌≤◌, ◌++◌, IsTrue, length}
+use Rattle.std.proofs.Common.{◌≡◌, ◌+◌, ◌^◌, ◌<◌, ◌≤◌, ◌++◌, length}
 use Rattle.an_machine.specs.State.{empty}
-use Rattle.an_machine.specs.State.{is_distinct}
 use Rattle.an_app.specs.Find.{play}
 use Rattle.an_app.specs.Split.{lines_of}
 use Rattle.an_app.proofs.lines.play.Given as goal
@@ -10,7 +9,6 @@ abbrev pub invariant-lines : goal.invariant-lines
 invariant-lines l = record {
   output : l.output.items ++ (play l.settings (lines_of l.left) l.number l.book.state).output ≡ (play l.settings (lines_of l.input) 1 empty).output;
   stop : (play l.settings (lines_of l.left) l.number l.book.state).stop ≡ (play l.settings (lines_of l.input) 1 empty).stop;
-  distinct : IsTrue (is_distinct l.book.state);
   few : l.number + length l.left ≤ length l.input + 1;
   within : length l.input < 2 ^ 63;
 }

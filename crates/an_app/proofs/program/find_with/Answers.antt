@@ -1,5 +1,11 @@
-use Rattle.an_app.proofs.StatusLemmas.{Finds-nothing_read}
+use Rattle.an_app.proofs.StatusLemmas.{Finds-nothing_read, Misunderstands-nothing_read, reads_little-nothing}
 use Rattle.an_app.proofs.program.find_with.Goals as goal
 
 pub returns-then-matches-clause-understood : goal.returns-then-matches-clause-understood
-returns-then-matches-clause-understood g c = Finds-nothing_read _ _ (g.L.Link.traffic c.args.line.now) _
+returns-then-matches-clause-understood g c = Finds-nothing_read _ _ (g.L.Link.traffic c.args.link.now) _
+
+pub returns-then-matches-clause-bounded : goal.returns-then-matches-clause-bounded
+returns-then-matches-clause-bounded g c = reads_little-nothing (g.L.Link.traffic c.args.link.now)
+
+pub returns-then-matches-clause-misunderstood : goal.returns-then-matches-clause-misunderstood
+returns-then-matches-clause-misunderstood g c = Misunderstands-nothing_read _ (g.L.Link.traffic c.args.link.now) _

@@ -1,4 +1,4 @@
 use Rattle.an_app.proofs.turn.write.Goals as goal
 
-pub returns-in-Ok-clause-takes : goal.returns-in-Ok-clause-takes
-returns-in-Ok-clause-takes c = rw (← c.writer-caller.ensures, c.in-Ok.ensures.decided) c.apply.ensures.takes
+pub returns-in-Ok : goal.returns-in-Ok
+returns-in-Ok c = rw (← c.writer-caller.ensures, c.in-Ok.ensures.decided) c.apply.ensures

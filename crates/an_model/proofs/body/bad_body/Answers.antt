@@ -3,7 +3,7 @@ use Rattle.serde_json.specs.Find.{get}
 use Rattle.serde_json.specs.View.{view}
 use Rattle.an_base.specs.Items.{first_bad}
 use Rattle.an_model.specs.Bodies.{body_trees, is_body, bad_body_from, bad_body}
-use Rattle.an_model.proofs.WalkLemmas.{first_bad-items_view}
+use Rattle.an_base.proofs.ItemLemmas.{first_bad-items_view}
 use Rattle.an_model.proofs.body.bad_body.Goals as goal
 
 pub returns-in-None : goal.returns-in-None

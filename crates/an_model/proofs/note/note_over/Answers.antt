@@ -11,7 +11,8 @@ invariant_of-result c =
     let texts = c.in_ok-texts.ensures ∙ ap texts_of seen in
     record {
       tree = c.as_value-value.ensures.tree;
-      shape = c.requires;
+      shape = c.requires.note;
+      bare = c.requires.bare;
       motivations = c.in_ok-motivations.ensures ∙ ap motivations_of seen;
       texts = texts;
       iris = c.in_ok-iris.ensures ∙ ap iris_of seen;

@@ -1,7 +1,7 @@
 use Rattle.std.proofs.Common.{ap, sym, ◌∙◌}
 use Rattle.an_base.specs.Items.{first_bad}
 use Rattle.an_model.specs.Targets.{has_good_selectors, bad_selector}
-use Rattle.an_model.proofs.WalkLemmas.{first_bad-items_view}
+use Rattle.an_base.proofs.ItemLemmas.{first_bad-items_view}
 use Rattle.an_model.proofs.target.bad_selector.Goals as goal
 
 pub returns : goal.returns

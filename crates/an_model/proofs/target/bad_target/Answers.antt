@@ -4,7 +4,7 @@ use Rattle.serde_json.specs.View.{view}
 use Rattle.an_base.specs.Items.{first_bad}
 use Rattle.an_model.specs.Targets.{is_empty, target_trees, is_target, bad_target}
 use Rattle.an_model.proofs.TargetLemmas.{is_empty-items_view}
-use Rattle.an_model.proofs.WalkLemmas.{first_bad-items_view}
+use Rattle.an_base.proofs.ItemLemmas.{first_bad-items_view}
 use Rattle.an_model.proofs.target.bad_target.Goals as goal
 
 pub returns : goal.returns

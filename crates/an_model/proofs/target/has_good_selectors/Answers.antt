@@ -2,7 +2,7 @@ use Rattle.std.proofs.Common.{is_none, ap, sym, ◌∙◌}
 use Rattle.an_base.specs.Items.{first_bad}
 use Rattle.an_model.specs.Targets.{is_selector}
 use Rattle.an_model.proofs.TargetLemmas.{is_none-from_not}
-use Rattle.an_model.proofs.WalkLemmas.{first_bad-items_view}
+use Rattle.an_base.proofs.ItemLemmas.{first_bad-items_view}
 use Rattle.an_model.proofs.target.has_good_selectors.Goals as goal
 
 pub returns : goal.returns

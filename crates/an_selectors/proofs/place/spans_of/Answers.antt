@@ -1,5 +1,6 @@
 use Rattle.std.proofs.Common.{arith}
-use Rattle.an_selectors.proofs.CutLemmas.{IsPointOf-zero, length-chars}
+use Rattle.an_base.proofs.CharLemmas.{length-chars}
+use Rattle.an_selectors.proofs.CutLemmas.{IsPointOf-zero}
 use Rattle.an_selectors.proofs.WalkLemmas.{needle_fits}
 use Rattle.an_selectors.proofs.PlaceLemmas.{spans_none, HasCome-first, HasCome-next, HasCome-end}
 use Rattle.an_selectors.proofs.place.spans_of.Goals as goal

@@ -1,0 +1,35 @@
+ghost use Rattle.std.specs.Prelude.{◌≡◌};
+ghost use Rattle.an_app.specs.StatusCode.{status_code};
+
+/// How a run ends.
+#[derive(Clone, Copy, Debug, PartialEq, Eq)]
+pub enum Status {
+    /// The whole input was played.
+    Played,
+    /// A write failed.
+    WriteFault,
+    /// The words are those of no form.
+    Misunderstood,
+    /// A line was refused, or the input is too large.
+    Refused,
+    /// A read failed.
+    ReadFault,
+    /// Memory ran out, and nothing was printed.
+    Memory,
+}
+
+impl Status {
+    /// The number with which the program ends.
+    pub fn code(self) -> u8
+        ensures code { result ≡ status_code self }
+    {
+        match self {
+            Status::Played => 0,
+            Status::WriteFault => 1,
+            Status::Misunderstood => 2,
+            Status::Refused => 3,
+            Status::ReadFault => 5,
+            Status::Memory => 6,
+        }
+    }
+}

@@ -1,0 +1,30 @@
+-- Which writes may be sent to the machine.
+use Rattle.std.specs.Prelude.{ℕ, ◌^◌, ℤ, Bool, ◌&&◌, nat_le, nat_lt}
+use Rattle.an_base.specs.Moment.{is_moment}
+use Rattle.an_base.specs.Name.{is_name}
+use Rattle.an_base.specs.Tree.{is_tree}
+use Rattle.an_policy.specs.Group.{is_valid_group}
+use Rattle.an_machine.specs.declared.command.Command.{Command}
+use Rattle.an_machine.specs.declared.command.Command.TheVariants.{PutReader, DropReader}
+use Rattle.an_machine.specs.declared.command.Command.TheVariants.{PutManifest, DropManifest}
+use Rattle.an_machine.specs.declared.command.Command.TheVariants.{PutNote, DropNote}
+
+-- a number from 1 to 999,999,999
+unfoldable pub is_number : ℕ → Bool
+is_number version = nat_le 1 version && nat_lt version (10 ^ 9)
+
+-- its names are names, its number is one, its group is a group, and its tree is a tree
+abbrev pub is_command : Command → Bool
+is_command (PutReader name version tree) = is_name name && is_number version && is_tree tree
+is_command (DropReader name version) = is_name name && is_number version
+is_command (PutManifest name version group tree) =
+    is_name name && is_number version && is_valid_group group && is_tree tree
+is_command (DropManifest name version) = is_name name && is_number version
+is_command (PutNote owner name version manifest group tree) =
+    is_name owner && is_name name && is_number version
+    && is_name manifest && is_valid_group group && is_tree tree
+is_command (DropNote owner name version) = is_name owner && is_name name && is_number version
+
+-- such a command at a moment
+abbrev pub is_write : ℤ → Command → Bool
+is_write moment command = is_moment moment && is_command command

@@ -1,0 +1,123 @@
+ghost use Rattle.std.specs.Prelude.{◌≡◌, codes, false, length, true, IfOk};
+ghost use Rattle.serde_json.specs.View.{view, members_view};
+ghost use Rattle.serde_json.specs.Written.{has_float, members_have_float, compact_text};
+ghost use Rattle.serde_json.specs.Data.{object};
+ghost use Rattle.an_base.specs.Cut.{below, cut, is_object, members_in};
+ghost use Rattle.an_base.specs.Tree.{ascend, names};
+ghost use Rattle.an_base.specs.Write.{commas};
+ghost use Rattle.an_model.specs.Served.{HasCuts};
+
+use an_base::{close_members, push_members, push_members_above};
+use serde_json::{Map, Value};
+use std::alloc::{AllocError, Global};
+
+/// How many bytes of an annotation's members stand before the place of each member that the
+/// server writes.
+#[derive(Clone, Copy, Debug)]
+pub(crate) struct Cuts {
+    pub(crate) context: usize,
+    pub(crate) created: usize,
+    pub(crate) creator: usize,
+    pub(crate) id: usize,
+    pub(crate) modified: usize,
+}
+
+/// The text of an annotation, with its cuts.
+#[derive(Drop)]
+pub(crate) struct CutText {
+    pub(crate) text: Vec<u8>,
+    pub(crate) cuts: Cuts,
+}
+
+/// The first members, each behind a comma, with the first cuts.
+#[derive(Drop)]
+struct Front {
+    text: Vec<u8>,
+    context: usize,
+    created: usize,
+    creator: usize,
+}
+
+/// The compact text of an object, with its cuts.
+pub(crate) fn cut_text(alloc: Global, tree: &Value) -> Result<CutText, AllocError>
+    requires object { is_object (view tree.now) ≡ true }
+    requires whole { has_float (view tree.now) ≡ false }
+    requires order { ascend (names (members_in (view tree.now))) ≡ true }
+    ensures text { IfOk result (λ t. t.text.items ≡ compact_text (view tree.now)) }
+    ensures cuts { IfOk result (λ t. HasCuts t.cuts (members_in (view tree.now))) }
+{
+    match tree {
+        Value::Object(members) => {
+            let front = write_front(alloc, members)?;
+            let text = write_rest(alloc, front, members)?;
+            Ok(text)
+        }
+        _ => unreachable!(),
+    }
+}
+
+fn write_front(alloc: Global, members: &Map<String, Value>) -> Result<Front, AllocError>
+    requires whole { members_have_float (members_view members.now.entries) ≡ false }
+    requires order { ascend (names (members_view members.now.entries)) ≡ true }
+    ensures text { IfOk result (λ f. f.text.items
+        ≡ commas (below (codes "creator") (members_view members.now.entries))) }
+    ensures context { IfOk result (λ f. f.context
+        ≡ cut (codes "@context") (members_view members.now.entries)) }
+    ensures created { IfOk result (λ f. f.created
+        ≡ cut (codes "created") (members_view members.now.entries)) }
+    ensures creator { IfOk result (λ f. f.creator
+        ≡ cut (codes "creator") (members_view members.now.entries)) }
+{
+    let text = push_members(alloc, Vec::new(alloc), members, "", "@context")?;
+    let context = text.len();
+    let text = push_members(alloc, text, members, "@context", "created")?;
+    let created = text.len();
+    let text = push_members(alloc, text, members, "created", "creator")?;
+    let creator = text.len();
+    Ok(Front {
+        text,
+        context,
+        created,
+        creator,
+    })
+}
+
+fn write_rest(
+    alloc: Global,
+    front: Front,
+    members: &Map<String, Value>,
+) -> Result<CutText, AllocError>
+    requires whole { members_have_float (members_view members.now.entries) ≡ false }
+    requires order { ascend (names (members_view members.now.entries)) ≡ true }
+    requires text { front.text.items
+        ≡ commas (below (codes "creator") (members_view members.now.entries)) }
+    requires context { front.context ≡ cut (codes "@context") (members_view members.now.entries) }
+    requires created { front.created ≡ cut (codes "created") (members_view members.now.entries) }
+    requires creator { front.creator ≡ cut (codes "creator") (members_view members.now.entries) }
+    ensures text { IfOk result (λ t. t.text.items
+        ≡ compact_text (object (members_view members.now.entries))) }
+    ensures cuts { IfOk result (λ t. HasCuts t.cuts (members_view members.now.entries)) }
+{
+    let Front {
+        text,
+        context,
+        created,
+        creator,
+    } = front;
+    let text = push_members(alloc, text, members, "creator", "id")?;
+    let id = text.len();
+    let text = push_members(alloc, text, members, "id", "modified")?;
+    let modified = text.len();
+    let text = push_members_above(alloc, text, members, "modified")?;
+    let text = close_members(text, 0)?;
+    Ok(CutText {
+        text,
+        cuts: Cuts {
+            context,
+            created,
+            creator,
+            id,
+            modified,
+        },
+    })
+}

@@ -1,0 +1,205 @@
+ghost use Rattle.std.specs.Prelude.{◌≡◌, map, IfOk, IsTrue, None, true};
+ghost use Rattle.serde_json.specs.View.{view};
+ghost use Rattle.serde_json.specs.Written.{compact_text};
+ghost use Rattle.an_base.specs.Cut.{members_in};
+ghost use Rattle.an_base.specs.TextSet.{distinct, has_text};
+ghost use Rattle.an_base.specs.Tree.{is_tree};
+ghost use Rattle.an_model.specs.Bodies.{iris_of, note_terms};
+ghost use Rattle.an_model.specs.Note.{is_bare, motivations_of, note_refusal};
+ghost use Rattle.an_model.specs.Served.{HasCuts};
+ghost use Rattle.an_model.specs.Targets.{sources_of};
+
+use crate::cuts::{CutText, Cuts, cut_text};
+use crate::note::{Note, note_over};
+use crate::occurrence::NoteOccurrence;
+use crate::target::Target;
+use an_base::{KeptTree, TextSet, Tree, TryCopy};
+use serde_json::Value;
+use std::alloc::{AllocError, Global};
+use std::marker::Model;
+use std::sync::Arc;
+
+/// An annotation as a row keeps it: the text of its tree, and what searches ask of it. Its copies
+/// share both. Contracts see the tree.
+#[derive(Debug, Drop)]
+pub struct KeptNote {
+    tree: KeptTree,
+    parts: Arc<NoteParts>,
+}
+
+/// What is kept of an annotation beside its text.
+#[derive(Debug, Drop)]
+pub(crate) struct NoteParts {
+    pub(crate) cuts: Cuts,
+    pub(crate) terms: TextSet,
+    pub(crate) motivations: TextSet,
+    pub(crate) iris: TextSet,
+    pub(crate) sources: TextSet,
+}
+
+impl Model for KeptNote {
+    ghost use Rattle.serde_json.specs.Data.{Data};
+    ghost use Rattle.an_base.specs.TreeCode.{tree_code};
+    ghost use Rattle.an_model.specs.KeptParts.{KeepsTexts};
+
+    ghost Value = { Data };
+
+    ghost coded = { tree_code };
+
+    ghost view = { λ k. k.tree };
+
+    ghost invariant = { λ k. KeepsTexts k };
+}
+
+impl KeptNote {
+    /// Keeps an annotation.
+    pub fn keep(alloc: Global, note: &Note) -> Result<KeptNote, AllocError>
+        ensures value { IfOk result (λ k. k ≡ note.now) }
+    {
+        let written = cut_text(alloc, note.tree())?;
+        let CutText { text, cuts } = written;
+        let parts = note_parts(alloc, note, cuts)?;
+        let tree = KeptTree::from_text(text)?;
+        let parts = Arc::new(alloc, parts)?;
+        Ok(KeptNote { tree, parts })
+    }
+
+    /// The whole annotation, read back.
+    pub fn note(&self, alloc: Global) -> Result<Note, AllocError>
+        ensures value { IfOk result (λ note. note ≡ self.now) }
+    {
+        let tree = self.tree.to_value(alloc)?;
+        let note = note_over(alloc, Tree::new(tree))?;
+        Ok(note)
+    }
+
+    /// The tree, read back.
+    pub fn tree(&self, alloc: Global) -> Result<Value, AllocError>
+        ensures value { IfOk result (λ v. view v ≡ self.now) }
+        ensures tree { IfOk result (λ v. IsTrue (is_tree (view v))) }
+    {
+        let tree = self.tree.to_value(alloc)?;
+        Ok(tree)
+    }
+
+    /// The tree's compact text.
+    pub fn text(&self) -> &[u8]
+        ensures text { result.now ≡ compact_text self.now }
+    {
+        self.tree.text()
+    }
+
+    /// Whether a word of its texts has this term.
+    pub fn has_term(&self, term: &str) -> bool
+        ensures found { result ≡ has_text term.now (note_terms self.now) }
+    {
+        self.parts.terms.has(term)
+    }
+
+    /// Whether this is one of its motivations.
+    pub fn has_motivation(&self, motivation: &str) -> bool
+        ensures found { result ≡ has_text motivation.now (motivations_of self.now) }
+    {
+        self.parts.motivations.has(motivation)
+    }
+
+    /// Whether this is the IRI of one of its bodies.
+    pub fn has_iri(&self, iri: &str) -> bool
+        ensures found { result ≡ has_text iri.now (iris_of self.now) }
+    {
+        self.parts.iris.has(iri)
+    }
+
+    /// Whether this is the IRI of the source of one of its targets.
+    pub fn has_source(&self, source: &str) -> bool
+        ensures found { result ≡ has_text source.now (sources_of self.now) }
+    {
+        self.parts.sources.has(source)
+    }
+
+    pub(crate) fn kept_tree(&self) -> &KeptTree
+        ensures value { result.now ≡ self.now }
+        ensures tree { IsTrue (is_tree self.now) }
+        ensures note { note_refusal self.now ≡ None }
+        ensures bare { is_bare self.now ≡ true }
+    {
+        &self.tree
+    }
+
+    pub(crate) fn cuts(&self) -> Cuts
+        ensures cuts { HasCuts result (members_in self.now) }
+    {
+        self.parts.cuts
+    }
+}
+
+impl TryCopy for KeptNote {
+    fn copy(&self) -> Result<KeptNote, AllocError> {
+        Ok(KeptNote {
+            tree: self.tree.copy()?,
+            parts: self.parts.clone()?,
+        })
+    }
+}
+
+impl PartialEq for KeptNote {
+    ghost use Rattle.serde_json.specs.Written.{compact_text};
+    ghost use Rattle.std.specs.Cmp.Lexicographic.{on_texts_equal};
+    ghost use Rattle.std.specs.Cmp as Cmp;
+    ghost use Rattle.an_base.specs.Tree.{same_text};
+
+    ghost eq = { same_text };
+
+    ghost laws = { Cmp.partial_equiv_from_equiv (on_texts_equal compact_text) };
+
+    fn eq(&self, other: &KeptNote) -> bool {
+        self.tree == other.tree
+    }
+}
+
+impl Eq for KeptNote {
+    ghost use Rattle.serde_json.specs.Written.{compact_text};
+    ghost use Rattle.std.specs.Cmp.Lexicographic.{on_texts_equal};
+
+    ghost laws = { on_texts_equal compact_text };
+}
+
+fn note_parts(alloc: Global, note: &Note, cuts: Cuts) -> Result<NoteParts, AllocError>
+    ensures cuts { IfOk result (λ p. p.cuts ≡ cuts) }
+    ensures terms { IfOk result (λ p. p.terms ≡ distinct (note_terms note.now)) }
+    ensures motivations { IfOk result (λ p. p.motivations ≡ distinct (motivations_of note.now)) }
+    ensures iris { IfOk result (λ p. p.iris ≡ distinct (iris_of note.now)) }
+    ensures sources { IfOk result (λ p. p.sources ≡ distinct (sources_of note.now)) }
+{
+    let terms = terms_among(alloc, note.occurrences())?;
+    let motivations = TextSet::of(alloc, note.motivations())?;
+    let iris = TextSet::of(alloc, note.iris())?;
+    let sources = sources_among(alloc, note.targets())?;
+    Ok(NoteParts {
+        cuts,
+        terms,
+        motivations,
+        iris,
+        sources,
+    })
+}
+
+fn terms_among(alloc: Global, occurrences: &[NoteOccurrence]) -> Result<TextSet, AllocError>
+    ensures { IfOk result (λ terms. terms ≡ distinct (map (λ o. o.term) occurrences.now)) }
+{
+    let mut terms = TextSet::new(alloc);
+    for occurrence in occurrences {
+        terms = terms.with(occurrence.term.as_str())?;
+    }
+    Ok(terms.shrunk())
+}
+
+fn sources_among(alloc: Global, targets: &[Target]) -> Result<TextSet, AllocError>
+    ensures { IfOk result (λ sources. sources ≡ distinct (map (λ t. t.source) targets.now)) }
+{
+    let mut sources = TextSet::new(alloc);
+    for target in targets {
+        sources = sources.with(target.source.as_str())?;
+    }
+    Ok(sources.shrunk())
+}

@@ -1,0 +1,25 @@
+-- A group as its text says it.
+use Rattle.std.specs.Prelude.{ℕ, List, Bool, true, if◌then◌else◌, bytes_eq, codes, Option, Some, option_map}
+use Rattle.an_base.specs.Name.{is_name}
+use Rattle.an_base.specs.Outcome.{only_if}
+use Rattle.an_policy.specs.Audience.{is_group_name}
+use Rattle.an_policy.specs.declared.group.Group.{Group}
+use Rattle.an_policy.specs.declared.group.Group.TheVariants.{Public, Private, Named}
+
+-- the group that a text says: that of everybody, that of nobody, or the one of this name
+abbrev pub group_named : List ℕ → Option Group
+group_named text =
+    if bytes_eq text (codes "public") then Some Public
+    else (if bytes_eq text (codes "private") then Some Private
+    else option_map Named (only_if is_name text))
+
+abbrev pub group_text : Group → List ℕ
+group_text Public = codes "public"
+group_text Private = codes "private"
+group_text (Named name) = name
+
+-- a group of one's own has no other group's text
+abbrev pub is_valid_group : Group → Bool
+is_valid_group Public = true
+is_valid_group Private = true
+is_valid_group (Named name) = is_group_name name
