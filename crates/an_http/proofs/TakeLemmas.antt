@@ -1,0 +1,28 @@
+-- How a request is taken out of the bytes that are held.
+use Rattle.std.proofs.Common.{◌≡◌, ℕ, ◌+◌, ◌-◌, ◌≤◌, List, ◌++◌, length, take, drop, Bool, true, false, nat_le, if◌then◌else◌, refl, sym, ◌∙◌, arith}
+use Rattle.std.proofs.lemmas.Bool.Decides.{nat_tests}
+use Rattle.std.proofs.lemmas.List.{drop-drop, length-drop, take-append-le, take_rest}
+use Rattle.std.proofs.Math.Seq.{take-length}
+use Rattle.an_http.specs.declared.plan.Plan.{Plan}
+use Rattle.an_http.specs.declared.request.Request.{Request}
+use Rattle.an_http.specs.Requests.{Whole, Front, with_body, request_of}
+use Rattle.an_base.specs.declared.code.Code.TheVariants as code
+
+-- the front goes to the end, and is cut off there
+pub rotated : (bytes : List ℕ) (count : ℕ) → count ≤ length bytes → take (length bytes - count) (drop count bytes ++ take count bytes) ≡ drop count bytes
+rotated bytes count within =
+    let long : length (drop count bytes) ≡ length bytes - count = length-drop count bytes in
+    take-append-le (length bytes - count) (drop count bytes) (take count bytes) (omega arith) ∙ rw (sym long) (take-length (drop count bytes))
+
+-- the body and what stands behind it
+pub taking : (held held' : List ℕ) (end total : ℕ) (plan : Plan) (request : Request) → total ≡ end + plan.length → total ≤ length held
+    → request ≡ request_of plan (take plan.length (take (length held - end) (drop end held))) → held' ≡ drop total held
+    → with_body plan (drop end held) ≡ Whole request held'
+taking held held' end total plan request is within body behind =
+    rw (body, behind, is, take_rest held end) (by (nat_le plan.length (length (drop end held))) (grind (arith, nat_tests, length-drop end held)))
+  where
+    by : (test : Bool) → test ≡ true
+        → (if test then Whole (request_of plan (take plan.length (drop end held))) (drop plan.length (drop end held)) else Front code.Body)
+        ≡ Whole (request_of plan (take plan.length (drop end held))) (drop (end + plan.length) held)
+    by true h = rw drop-drop refl
+    by false h = cc

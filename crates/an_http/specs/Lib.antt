@@ -1,0 +1,7 @@
+pub mod Head
+pub mod Fields
+pub mod Status
+pub mod Requests
+pub mod Next
+pub mod Fill
+pub mod Replies

@@ -1,0 +1,25 @@
+//! Requests in, replies out: HTTP/1.1 over one link (RFC 9110 and RFC 9112).
+#![tactic(auto)]
+
+pub use an_world::LinkError;
+pub use buffer::Buffer;
+pub use laws::{cuts_are_unique, cuts_go_on};
+pub use next::{Next, next_request};
+pub use put::{PutError, put_memory_reply, put_reply};
+pub use reply::{Allow, Extra, Media, Reply};
+pub use request::{Auth, Request};
+pub use status::{Status, status_of};
+
+mod buffer;
+mod fields;
+mod fill;
+mod head;
+mod laws;
+mod next;
+mod plan;
+mod put;
+mod reply;
+mod request;
+mod status;
+#[cfg(test)]
+mod tests;

@@ -1,0 +1,89 @@
+ghost use Rattle.std.specs.Prelude.{◌≡◌, ◌≤◌, IsTrue, IsOk, Err, OnOk, OnErr, IfOk};
+ghost use Rattle.an_world.specs.Link.{Rises, Writes, WritesFront};
+ghost use Rattle.an_http.specs.Replies.{content_of, reply_bytes, memory_reply};
+
+use crate::reply::{Reply, first_lines, is_empty, last_lines};
+use an_world::{Link, LinkFault, write_all};
+use std::alloc::{AllocError, Global};
+
+/// Why a reply could not be written.
+#[derive(Clone, Copy, Debug, PartialEq, Eq)]
+pub enum PutError {
+    /// The link failed a write, and has counted it. A front of the reply was written.
+    WriteFault,
+    /// Memory ran out. Nothing was written.
+    Memory,
+}
+
+/// Writes a reply; of a reply to HEAD the head alone. `close` tells that the connection closes behind
+/// it.
+pub fn put_reply<L: Link>(
+    alloc: Global,
+    link: &mut L,
+    reply: &Reply,
+    head_only: bool,
+    close: bool,
+) -> Result<(), PutError>
+    ensures whole { OnOk result (Writes (reply_bytes reply.now head_only close)
+        (L.traffic link.old) (L.traffic link.new)) }
+    ensures front { result ≡ Err PutError.WriteFault
+        → WritesFront (reply_bytes reply.now head_only close)
+        (L.traffic link.old) (L.traffic link.new) }
+    ensures fault { result ≡ Err PutError.WriteFault
+        → Rises (L.write_faults link.old) (L.write_faults link.new) }
+    ensures memory { result ≡ Err PutError.Memory → link.new ≡ link.old }
+    ensures read_faults_kept { L.read_faults link.old ≤ L.read_faults link.new }
+    ensures write_faults_kept { L.write_faults link.old ≤ L.write_faults link.new }
+{
+    match reply_bytes(alloc, reply, head_only, close) {
+        Ok(bytes) => match write_all(link, bytes.as_slice()) {
+            Ok(()) => Ok(()),
+            Err(_) => Err(PutError::WriteFault),
+        },
+        Err(_) => Err(PutError::Memory),
+    }
+}
+
+/// Writes the reply for want of memory, `503` with the code `memory`, behind which the connection
+/// closes. Takes no memory.
+pub fn put_memory_reply<L: Link>(link: &mut L) -> Result<(), LinkFault>
+    ensures whole { OnOk result
+        (Writes memory_reply (L.traffic link.old) (L.traffic link.new)) }
+    ensures front { WritesFront memory_reply (L.traffic link.old) (L.traffic link.new) }
+    ensures fault { OnErr result (Rises (L.write_faults link.old) (L.write_faults link.new)) }
+    ensures sure { IsTrue L.is_sure → IsOk result }
+    ensures read_faults_kept { L.read_faults link.old ≤ L.read_faults link.new }
+    ensures write_faults_kept { L.write_faults link.old ≤ L.write_faults link.new }
+{
+    write_all(
+        link,
+        b"HTTP/1.1 503 Service Unavailable\r\nAccess-Control-Allow-Origin: *\r\nConnection: close\r\nContent-Length: 18\r\nContent-Type: application/json\r\n\r\n{\"error\":\"memory\"}",
+    )
+}
+
+/// The bytes of a reply.
+fn reply_bytes(
+    alloc: Global,
+    reply: &Reply,
+    head_only: bool,
+    close: bool,
+) -> Result<Vec<u8>, AllocError>
+    ensures bytes { IfOk result (λ v. v.items ≡ reply_bytes reply.now head_only close) }
+{
+    let first = first_lines(alloc, reply)?;
+    let last = last_lines(alloc, reply, close)?;
+    let content = content_of(reply, head_only);
+    let mut bytes = first.into_bytes();
+    bytes.extend_from_slice(last.as_bytes())?;
+    bytes.extend_from_slice(content)?;
+    Ok(bytes)
+}
+
+fn content_of(reply: &Reply, head_only: bool) -> &[u8]
+    ensures { result.now ≡ content_of reply.now head_only }
+{
+    if head_only || is_empty(reply.status) {
+        return &[];
+    }
+    reply.body.as_slice()
+}
