@@ -1,7 +1,17 @@
 -- The codes of refusals, as they are printed.
 use Rattle.std.specs.Prelude.{ℕ, List, codes}
 use Rattle.an_base.specs.declared.code.Code.{Code}
-use Rattle.an_base.specs.declared.code.Code.TheVariants.{Line, Input, Unbuilt, Absent, Group, ReaderToken, ReaderRole, ReaderUser, ReaderGroups, Json, NotWhole, Deep, NoteType, NoteTarget, NoteBody, NoteMotivation, NoteSelector, ManifestVersion2, ManifestType, ManifestLabel, ManifestItems, ManifestCanvas, NotSigned, NotWriter, NotOwn, NotMember, GroupFixed, TokenTaken, Version, Gone, Head, Transfer, Length, Large, LengthRequired, Body}
+use Rattle.an_base.specs.declared.code.Code.TheVariants.{Line, Input, Unbuilt, Absent, Group}
+use Rattle.an_base.specs.declared.code.Code.TheVariants.{ReaderToken, ReaderRole, ReaderUser}
+use Rattle.an_base.specs.declared.code.Code.TheVariants.{ReaderGroups, Json, NotWhole, Deep}
+use Rattle.an_base.specs.declared.code.Code.TheVariants.{NoteType, NoteTarget, NoteBody}
+use Rattle.an_base.specs.declared.code.Code.TheVariants.{NoteMotivation, NoteSelector}
+use Rattle.an_base.specs.declared.code.Code.TheVariants.{ManifestVersion2, ManifestType}
+use Rattle.an_base.specs.declared.code.Code.TheVariants.{ManifestLabel, ManifestItems}
+use Rattle.an_base.specs.declared.code.Code.TheVariants.{ManifestCanvas, NotSigned, NotWriter}
+use Rattle.an_base.specs.declared.code.Code.TheVariants.{NotOwn, NotMember, GroupFixed, TokenTaken}
+use Rattle.an_base.specs.declared.code.Code.TheVariants.{Version, Gone, Head, Transfer, Length}
+use Rattle.an_base.specs.declared.code.Code.TheVariants.{Large, LengthRequired, Body}
 
 abbrev pub code_text : Code → List ℕ
 code_text Line = codes "line"

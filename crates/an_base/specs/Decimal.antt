@@ -1,5 +1,6 @@
 -- Whole numbers in decimal, as words and queries give them.
-use Rattle.std.specs.Prelude.{ℕ, List, length, slice_index, Bool, not, ◌&&◌, ◌||◌, ◌==◌, nat_lt, nat_le, if◌then◌else◌, Option, None}
+use Rattle.std.specs.Prelude.{ℕ, List, length, slice_index, Bool, not, ◌&&◌, ◌||◌, ◌==◌, nat_lt}
+use Rattle.std.specs.Prelude.{nat_le, if◌then◌else◌, Option, None}
 use Rattle.std.specs.Char.{is_ascii_digit}
 use Rattle.std.specs.List.{list_all}
 use Rattle.std.specs.Str.Parse.{digits_value}

@@ -1,5 +1,6 @@
 -- The members of a JSON object.
-use Rattle.std.specs.Prelude.{ℕ, List, Bool, false, ◌||◌, bytes_eq, codes, Option, option_map, option_and_then, unwrap_or}
+use Rattle.std.specs.Prelude.{ℕ, List, Bool, false, ◌||◌, bytes_eq, codes, Option, option_map}
+use Rattle.std.specs.Prelude.{option_and_then, unwrap_or}
 use Rattle.serde_json.specs.Data.{Data, Items, no_items, item}
 use Rattle.serde_json.specs.Find.{get, as_str, as_object}
 use Rattle.serde_json.specs.Events.{members_len}

@@ -1,5 +1,7 @@
 -- Names of readers, manifests, annotations and groups.
-use Rattle.std.specs.Prelude.{ℕ, List, [], ◌∷◌, length, position, Bool, not, ◌==◌, ◌&&◌, ◌||◌, nat_lt, nat_le, option_map, is_none, Result, bytes_eq, if◌then◌else◌, Option, Some}
+use Rattle.std.specs.Prelude.{ℕ, List, [], ◌∷◌, length, position, Bool, not, ◌==◌, ◌&&◌, ◌||◌}
+use Rattle.std.specs.Prelude.{nat_lt, nat_le, option_map, is_none, Result, bytes_eq, if◌then◌else◌}
+use Rattle.std.specs.Prelude.{Option, Some}
 use Rattle.an_base.specs.declared.name.NameError.{NameError}
 use Rattle.an_base.specs.declared.name.NameError.TheVariants.{Empty, Long, Sign}
 use Rattle.an_base.specs.Outcome.{when, first_of, unless}

@@ -1,6 +1,7 @@
 -- JSON objects with members put into them, and taken out.
 use Rattle.std.specs.Prelude.{ℕ, List, Option, Some, None, bytes_eq, if◌then◌else◌}
-use Rattle.serde_json.specs.Data.{Data, null, boolean, number, string, array, object, Members, no_members, member, put}
+use Rattle.serde_json.specs.Data.{Data, null, boolean, number, string, array, object, Members}
+use Rattle.serde_json.specs.Data.{no_members, member, put}
 
 -- the object with this member, in place of one of its name; what is no object stays as it is
 abbrev pub with_member : List ℕ → Data → Data → Data

@@ -1,6 +1,7 @@
 -- How a definition says which of several refusals comes, and how a contract ties a call to a
 -- definition.
-use Rattle.std.specs.Prelude.{◌≡◌, Bool, false, List, [], ◌∷◌, if◌then◌else◌, Option, Some, None, Result, Ok, Err, MatchResult}
+use Rattle.std.specs.Prelude.{◌≡◌, Bool, false, List, [], ◌∷◌, if◌then◌else◌, Option, Some, None}
+use Rattle.std.specs.Prelude.{Result, Ok, Err, MatchResult}
 
 -- the refusal, where its cause holds
 abbrev pub when : {E : Type 0} → Bool → E → Option E

@@ -1,5 +1,6 @@
 -- Texts of which each counts once.
-use Rattle.std.specs.Prelude.{ℕ, List, [], ◌∷◌, ◌++◌, Bool, ◌&&◌, ◌==◌, bytes_eq, fold, if◌then◌else◌, nat_le, slice_range}
+use Rattle.std.specs.Prelude.{ℕ, List, [], ◌∷◌, ◌++◌, Bool, ◌&&◌, ◌==◌, bytes_eq, fold}
+use Rattle.std.specs.Prelude.{if◌then◌else◌, nat_le, slice_range}
 use Rattle.std.specs.List.{list_any}
 
 -- the text is one of these

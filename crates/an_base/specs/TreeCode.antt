@@ -1,11 +1,14 @@
 -- How the logic stores a JSON value, which holds itself: as a list of marks, each before the marks
 -- of its parts.
-use Rattle.std.specs.Prelude.{◌≡◌, ℕ, ℤ, pos, Bool, true, false, cond, ◌==◌, Float, List, [], ◌∷◌, refl}
+use Rattle.std.specs.Prelude.{◌≡◌, ℕ, ℤ, pos, Bool, true, false, cond, ◌==◌, Float, List, [], ◌∷◌}
+use Rattle.std.specs.Prelude.{refl}
 use Rattle.std.specs.Float.{nan}
 use Rattle.std.specs.Coded.{Coded, code_by, coded×, coded_ℕ, coded_ℤ, coded_list}
 use base.Stored.{coded_float}
 use mathlib.Core.Path.{ap, ◌∙◌}
-use Rattle.serde_json.specs.Data.{Num, unsigned, negative, float, Data, null, boolean, number, string, array, object, Items, no_items, item, Members, no_members, member}
+use Rattle.serde_json.specs.Data.{Num, unsigned, negative, float, Data, null, boolean, number}
+use Rattle.serde_json.specs.Data.{string, array, object, Items, no_items, item, Members, no_members}
+use Rattle.serde_json.specs.Data.{member}
 
 pub data Mark : Type 0 where
   null_mark : Mark

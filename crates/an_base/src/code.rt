@@ -1,8 +1,8 @@
 ghost use Rattle.std.specs.Prelude.{◌≡◌};
 ghost use Rattle.an_base.specs.Code.{code_text};
 
-/// Why a request or a line was refused, for whoever sent it. `at` is the place of what is malformed,
-/// from 0; `current` is the number that the object has, 0 where it never was.
+/// Why a request or a line was refused, for whoever sent it. `at` is the place of what is
+/// malformed, from 0; `current` is the number that the object has, 0 where it never was.
 #[derive(Clone, Copy, Debug, PartialEq, Eq)]
 pub enum Code {
     /// The line isn't UTF-8, or hasn't the words of a line.
@@ -61,7 +61,8 @@ pub enum Code {
     GroupFixed,
     /// Another live reader has the token.
     TokenTaken,
-    /// The write is neither the next of its object nor done already; the object's number is `current`.
+    /// The write is neither the next of its object nor done already; the object's number is
+    /// `current`.
     Version { current: u32 },
     /// The annotation was there for the caller, and isn't any more.
     Gone,

@@ -1,7 +1,11 @@
-ghost use Rattle.std.specs.Prelude.{◌≡◌, ◌↔◌, ◌+◌, ◌-◌, ◌<◌, ◌≤◌, ◌&&◌, if◌then◌else◌, length, IsTrue, List, ℕ, ℤ, Ok, IfOk, IfSome, IsSome};
+ghost use Rattle.std.specs.Prelude.{◌≡◌, ◌↔◌, ◌+◌, ◌-◌, ◌<◌, ◌≤◌, ◌&&◌, if◌then◌else◌, length};
+ghost use Rattle.std.specs.Prelude.{IsTrue, List, ℕ, ℤ, Ok, IfOk, IfSome, IsSome};
 ghost use Rattle.std.specs.Str.{IsAscii};
 ghost use Rattle.std.specs.Char.{is_ascii_digit};
-ghost use Rattle.an_base.specs.Moment.{has_form, has_digits, fits, number_at, date_time_in, is_date, is_time, days_before, moment_at, moment_of, date_time_text, date_time_after, moment_text, IsMoment, is_moment};
+ghost use Rattle.an_base.specs.Moment.{has_form, has_digits, fits, number_at, date_time_in};
+ghost use Rattle.an_base.specs.Moment.{is_date, is_time, days_before, moment_at, moment_of};
+ghost use Rattle.an_base.specs.Moment.{date_time_text, date_time_after, moment_text, IsMoment};
+ghost use Rattle.an_base.specs.Moment.{is_moment};
 
 use crate::text::Text;
 use jiff_core::civil::Date;

@@ -1,4 +1,5 @@
-ghost use Rattle.std.specs.Prelude.{◌≡◌, ◌≤◌, ◌++◌, ◌∷◌, [], bytes_eq, length, slice_range, true, IfOk};
+ghost use Rattle.std.specs.Prelude.{◌≡◌, ◌≤◌, ◌++◌, ◌∷◌, [], bytes_eq, length, slice_range, true};
+ghost use Rattle.std.specs.Prelude.{IfOk};
 ghost use Rattle.an_base.specs.TextSet.{has_text, with_text, distinct, pieces, are_ends};
 
 use crate::copy::TryCopy;

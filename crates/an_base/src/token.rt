@@ -2,8 +2,8 @@ ghost use Rattle.std.specs.Prelude.{◌≡◌};
 ghost use Rattle.std.specs.List.{list_all};
 ghost use Rattle.an_base.specs.Token.{is_token, is_token_sign};
 
-/// Whether these bytes are a reader's token: 8 to 64 letters and digits of ASCII, `-` and `_`. Takes
-/// no memory.
+/// Whether these bytes are a reader's token: 8 to 64 letters and digits of ASCII, `-` and `_`.
+/// Takes no memory.
 pub fn is_token(text: &[u8]) -> bool
     ensures { result ≡ is_token text.now }
 {

@@ -2,9 +2,11 @@ ghost use Rattle.std.specs.Prelude.{◌≡◌, ◌-◌, false, not, Ok, ok_or, I
 ghost use Rattle.serde_json.specs.Data.{Data, object, depth, items_depth, members_depth};
 ghost use Rattle.serde_json.specs.Find.{is_float};
 ghost use Rattle.serde_json.specs.View.{view, number_view, items_view, members_view};
-ghost use Rattle.serde_json.specs.Written.{has_float, items_have_float, members_have_float, compact_text};
+ghost use Rattle.serde_json.specs.Written.{has_float, items_have_float, members_have_float};
+ghost use Rattle.serde_json.specs.Written.{compact_text};
 ghost use Rattle.an_base.specs.Outcome.{Gives};
-ghost use Rattle.an_base.specs.Tree.{is_whole_number, is_whole, items_are_whole, members_are_whole, is_tree, json_of, tree_of, one_or_many};
+ghost use Rattle.an_base.specs.Tree.{is_whole_number, is_whole, items_are_whole, members_are_whole};
+ghost use Rattle.an_base.specs.Tree.{is_tree, json_of, tree_of, one_or_many};
 ghost use Rattle.an_base.specs.TreeSame.{same, same_number, same_items, same_members};
 
 use crate::bytes::Bytes;

@@ -1,9 +1,12 @@
-ghost use Rattle.std.specs.Prelude.{◌≡◌, ◌≤◌, List, ℕ, ◌++◌, false, drop, length, take, vec_len, IfOk};
-ghost use Rattle.serde_json.specs.Data.{Data, Items, Members, array, number, object, string, unsigned};
+ghost use Rattle.std.specs.Prelude.{◌≡◌, ◌≤◌, List, ℕ, ◌++◌, false, drop, length, take, vec_len};
+ghost use Rattle.std.specs.Prelude.{IfOk};
+ghost use Rattle.serde_json.specs.Data.{Data, Items, Members, array, number, object, string};
+ghost use Rattle.serde_json.specs.Data.{unsigned};
 ghost use Rattle.serde_json.specs.View.{view, members_view};
 ghost use Rattle.serde_json.specs.Written.{has_float, members_have_float, compact_text};
 ghost use Rattle.an_base.specs.Cut.{below, above};
-ghost use Rattle.an_base.specs.Write.{name_text, member_text, commas, item_text, item_commas, behind, in_brackets};
+ghost use Rattle.an_base.specs.Write.{name_text, member_text, commas, item_text, item_commas};
+ghost use Rattle.an_base.specs.Write.{behind, in_brackets};
 
 use json::Writer;
 use serde_json::{Map, Value};

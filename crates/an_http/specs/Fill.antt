@@ -1,5 +1,6 @@
 -- What came of waiting for a head or for a body: for the calls inside this crate.
-use Rattle.std.specs.Prelude.{◌≡◌, ℕ, ◌<◌, ◌≤◌, List, length, nat_lt, if◌then◌else◌, Option, Some, None, Bool, true, false, Result, Ok, Err}
+use Rattle.std.specs.Prelude.{◌≡◌, ℕ, ◌<◌, ◌≤◌, List, length, nat_lt, if◌then◌else◌, Option, Some}
+use Rattle.std.specs.Prelude.{None, Bool, true, false, Result, Ok, Err}
 use Rattle.an_world.specs.Link.{Traffic, IsAtEnd}
 use Rattle.an_world.specs.declared.read.LinkError.{LinkError}
 use Rattle.an_world.specs.declared.read.LinkError.TheVariants.{ReadFault, Memory}

@@ -1,6 +1,7 @@
 -- The bytes of a reply (RFC 9112, section 4; RFC 9110, sections 8, 10 and 11; and the headers of
 -- the Fetch standard).
-use Rattle.std.specs.Prelude.{ℕ, List, [], ◌++◌, length, codes, decimal, Bool, true, false, ◌||◌, if◌then◌else◌}
+use Rattle.std.specs.Prelude.{ℕ, List, [], ◌++◌, length, codes, decimal}
+use Rattle.std.specs.Prelude.{Bool, true, false, ◌||◌, if◌then◌else◌}
 use Rattle.an_http.specs.declared.status.Status.{Status}
 use Rattle.an_http.specs.declared.status.Status.TheVariants as status
 use Rattle.an_http.specs.declared.reply.Allow.{Allow}
@@ -25,11 +26,13 @@ status_line status =
     ++ (decimal (number_of status) ++ (codes " " ++ (phrase_of status ++ codes "\r\n")))
 
 -- what a browser asks before it sends a request to another origin
+abbrev pub preflight_of : List ℕ → List ℕ
+preflight_of methods =
+    codes "Access-Control-Allow-Headers: Authorization, Content-Type, Prefer\r\n"
+    ++ (codes "Access-Control-Allow-Methods: " ++ (methods ++ codes "\r\n"))
+
 abbrev pub preflight_lines : Extra → Allow → List ℕ
-preflight_lines extra.Preflight methods =
-    codes
-    "Access-Control-Allow-Headers: Authorization, Content-Type, Prefer\r\nAccess-Control-Allow-Methods: "
-    ++ (methods_of methods ++ codes "\r\n")
+preflight_lines extra.Preflight methods = preflight_of (methods_of methods)
 preflight_lines extra.Absent methods = []
 preflight_lines extra.Resource methods = []
 preflight_lines extra.Container methods = []
@@ -58,14 +61,14 @@ abbrev pub type_line : Media → List ℕ
 type_line media.Annotation =
     codes "Content-Type: application/ld+json; profile=\"http://www.w3.org/ns/anno.jsonld\"\r\n"
 type_line media.Manifest =
-    codes
-    "Content-Type: application/ld+json; profile=\"http://iiif.io/api/presentation/3/context.json\"\r\n"
+    codes "Content-Type: application/ld+json; "
+    ++ codes "profile=\"http://iiif.io/api/presentation/3/context.json\"\r\n"
 type_line media.Search =
-    codes
-    "Content-Type: application/ld+json; profile=\"http://iiif.io/api/search/2/context.json\"\r\n"
+    codes "Content-Type: application/ld+json; "
+    ++ codes "profile=\"http://iiif.io/api/search/2/context.json\"\r\n"
 type_line media.Changes =
-    codes
-    "Content-Type: application/ld+json; profile=\"http://iiif.io/api/discovery/1/context.json\"\r\n"
+    codes "Content-Type: application/ld+json; "
+    ++ codes "profile=\"http://iiif.io/api/discovery/1/context.json\"\r\n"
 type_line media.Json = codes "Content-Type: application/json\r\n"
 type_line media.Absent = []
 
@@ -74,8 +77,9 @@ type_line media.Absent = []
 abbrev pub extra_lines : Extra → List ℕ
 extra_lines extra.Resource = codes "Link: <http://www.w3.org/ns/ldp#Resource>; rel=\"type\"\r\n"
 extra_lines extra.Container =
-    codes
-    "Link: <http://www.w3.org/ns/ldp#BasicContainer>; rel=\"type\"\r\nLink: <http://www.w3.org/TR/annotation-protocol/>; rel=\"http://www.w3.org/ns/ldp#constrainedBy\"\r\n"
+    codes "Link: <http://www.w3.org/ns/ldp#BasicContainer>; rel=\"type\"\r\n"
+    ++ (codes "Link: <http://www.w3.org/TR/annotation-protocol/>; "
+    ++ codes "rel=\"http://www.w3.org/ns/ldp#constrainedBy\"\r\n")
 extra_lines extra.Bearer = codes "WWW-Authenticate: Bearer\r\n"
 extra_lines extra.Preflight = []
 extra_lines extra.Absent = []
@@ -104,5 +108,6 @@ reply_bytes reply head_only close =
 -- the reply for want of memory
 abbrev pub memory_reply : List ℕ
 memory_reply =
-    codes
-    "HTTP/1.1 503 Service Unavailable\r\nAccess-Control-Allow-Origin: *\r\nConnection: close\r\nContent-Length: 18\r\nContent-Type: application/json\r\n\r\n{\"error\":\"memory\"}"
+    codes "HTTP/1.1 503 Service Unavailable\r\nAccess-Control-Allow-Origin: *\r\n"
+    ++ (codes "Connection: close\r\nContent-Length: 18\r\n"
+    ++ codes "Content-Type: application/json\r\n\r\n{\"error\":\"memory\"}")

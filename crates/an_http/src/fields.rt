@@ -1,10 +1,12 @@
-//! What the fields of a head say of its request. Each function takes the values of the fields of one
-//! name, in their order.
+//! What the fields of a head say of its request. Each function takes the values of the fields of
+//! one name, in their order.
 ghost use Rattle.std.specs.Prelude.{◌≡◌, ◌≤◌, map, length, IsTrue, IfOk, option_map, codes};
 ghost use Rattle.std.specs.Char.{is_ascii_digit};
 ghost use Rattle.std.specs.List.{list_all};
 ghost use Rattle.std.specs.Str.Parse.{digits_value};
-ghost use Rattle.an_http.specs.Fields.{body_limit, is_length, length_in, body_length, token_of, signed_by, auth_of, begins, says, any_says, prefer_of, closes};
+ghost use Rattle.an_http.specs.Fields.{body_limit, is_length, length_in, body_length, token_of};
+ghost use Rattle.an_http.specs.Fields.{signed_by, auth_of, begins, says, any_says, prefer_of};
+ghost use Rattle.an_http.specs.Fields.{closes};
 
 use crate::head::{is_same_name, text_of};
 use crate::request::Auth;

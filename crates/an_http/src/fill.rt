@@ -27,7 +27,8 @@ pub(crate) enum HeadFill {
 /// Reads until a head ends in what is held, or none can.
 pub(crate) fn fill_head<L: Link>(link: &mut L, held: &mut Vec<u8>) -> Result<HeadFill, LinkError>
     ensures filled { IsFilled (L.traffic link.new) held.new.items result }
-    ensures reads { ReadsOn (L.traffic link.old) (L.traffic link.new) held.old.items held.new.items }
+    ensures reads { ReadsOn (L.traffic link.old) (L.traffic link.new)
+        held.old.items held.new.items }
     ensures most { length held.new.items ≤ max (length held.old.items) head_limit }
     ensures fault { result ≡ Err LinkError.ReadFault
         → Rises (L.read_faults link.old) (L.read_faults link.new) }
@@ -73,7 +74,8 @@ pub(crate) fn fill_to<L: Link>(
     total: usize,
 ) -> Result<bool, LinkError>
     ensures full { IsFull (L.traffic link.new) total held.new.items result }
-    ensures reads { ReadsOn (L.traffic link.old) (L.traffic link.new) held.old.items held.new.items }
+    ensures reads { ReadsOn (L.traffic link.old) (L.traffic link.new)
+        held.old.items held.new.items }
     ensures most { length held.new.items ≤ max (length held.old.items) total }
     ensures fault { result ≡ Err LinkError.ReadFault
         → Rises (L.read_faults link.old) (L.read_faults link.new) }
@@ -98,7 +100,8 @@ fn read_piece<L: Link>(link: &mut L, held: &mut Vec<u8>, most: usize) -> Result<
     ensures err { OnErr result (held.new.items ≡ held.old.items) }
     ensures adds { IfOk result (λ n. length held.new.items ≡ length held.old.items + n) }
     ensures end { IfOk result (λ count. count ≡ 0 → IsAtEnd (L.traffic link.new)) }
-    ensures reads { ReadsOn (L.traffic link.old) (L.traffic link.new) held.old.items held.new.items }
+    ensures reads { ReadsOn (L.traffic link.old) (L.traffic link.new)
+        held.old.items held.new.items }
     ensures within { length held.new.items ≤ length held.old.items + most }
     ensures fault { result ≡ Err LinkError.ReadFault
         → Rises (L.read_faults link.old) (L.read_faults link.new) }

@@ -2,7 +2,8 @@ ghost use Rattle.std.specs.Prelude.{◌≡◌, ◌+◌, ◌≤◌, map, drop, le
 ghost use Rattle.std.specs.List.{All};
 ghost use Rattle.std.specs.Str.{is_utf8};
 ghost use Rattle.httparse.specs.Spans.{IsHeaderWithin, header_bytes};
-ghost use Rattle.an_http.specs.Head.{begins_with_end, head_length, is_same_name, values_of, ReadsHead};
+ghost use Rattle.an_http.specs.Head.{begins_with_end, head_length, is_same_name, values_of};
+ghost use Rattle.an_http.specs.Head.{ReadsHead};
 
 use httparse::Status;
 use httparse::spans::{EMPTY_HEADER_SPAN, HeaderSpan, RequestSpans, parse_request};

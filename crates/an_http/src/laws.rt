@@ -7,8 +7,10 @@ ghost use Rattle.an_http.specs.declared.request.Request.{Request};
 /// A law: bytes begin with one piece alone, and are cut into requests in one way alone.
 #[tactic(auto, using(crate::proofs::CutLemmas::one_cut))]
 pub fn cuts_are_unique()
-    ensures piece { (bytes : List ℕ) (one other : Piece) → Begins bytes one → Begins bytes other → one ≡ other }
-    ensures requests { (bytes : List ℕ) (one other : List Request) (rest left : List ℕ) (piece end : Piece)
+    ensures piece { (bytes : List ℕ) (one other : Piece)
+        → Begins bytes one → Begins bytes other → one ≡ other }
+    ensures requests { (bytes : List ℕ)
+        (one other : List Request) (rest left : List ℕ) (piece end : Piece)
         → Requests bytes one rest piece → Requests bytes other left end
         → (one ≡ other) × (rest ≡ left) × (piece ≡ end) }
 {}
@@ -18,7 +20,8 @@ pub fn cuts_are_unique()
 pub fn cuts_go_on()
     ensures more { (bytes more : List ℕ) (requests : List Request) (rest : List ℕ)
         → Cuts bytes requests rest → Cuts (bytes ++ more) requests (rest ++ more) }
-    ensures next { (bytes : List ℕ) (requests : List Request) (held : List ℕ) (request : Request) (rest : List ℕ)
+    ensures next { (bytes : List ℕ)
+        (requests : List Request) (held : List ℕ) (request : Request) (rest : List ℕ)
         → Cuts bytes requests held → Begins held (Whole request rest)
         → Cuts bytes (requests ++ request ∷ []) rest }
 {}

@@ -1,4 +1,5 @@
-ghost use Rattle.std.specs.Prelude.{◌≡◌, ◌+◌, ◌≤◌, drop, take, length, max, Some, Ok, Err, IfOk, OnErr};
+ghost use Rattle.std.specs.Prelude.{◌≡◌, ◌+◌, ◌≤◌, drop, take, length, max, Some, Ok, Err, IfOk};
+ghost use Rattle.std.specs.Prelude.{OnErr};
 ghost use Rattle.an_world.specs.Link.{Rises};
 ghost use Rattle.an_http.specs.Head.{head_limit, head_length};
 ghost use Rattle.an_http.specs.Fields.{body_limit};
@@ -30,13 +31,13 @@ pub enum Next {
 /// Takes the next request from the bytes that the buffer holds, behind which more are read as they
 /// are needed. How the input is cut into pieces doesn't matter.
 ///
-/// A head ends at the first CR LF CR LF, has at most 16,384 bytes and 64 fields, and is of RFC 9112's
-/// grammar to its last byte, where lines may end in LF alone and an empty line may stand first. The
-/// body is as long as Content-Length says, at most 1,048,576 bytes.
+/// A head ends at the first CR LF CR LF, has at most 16,384 bytes and 64 fields, and is of the
+/// grammar of RFC 9112 to its last byte, where lines may end in LF alone and an empty line may
+/// stand first. The body is as long as Content-Length says, at most 1,048,576 bytes.
 ///
 /// What is bad is refused by the first of these codes that fits: `head`, also where the input ends
-/// inside a head; `transfer`; `length`; `large`; `length_required`; `body`, where the input ends inside
-/// the body. It stays in the buffer.
+/// inside a head; `transfer`; `length`; `large`; `length_required`; `body`, where the input ends
+/// inside the body. It stays in the buffer.
 pub fn next_request<L: Link>(
     alloc: Global,
     link: &mut L,
@@ -90,9 +91,8 @@ fn at_end(count: usize) -> Next
     }
 }
 
-#[tactic(auto, using(crate::proofs::NextLemmas::planning))]
 /// The next request, whose head ends there.
-
+#[tactic(auto, using(crate::proofs::NextLemmas::planning))]
 fn behind_head<L: Link>(
     alloc: Global,
     link: &mut L,
@@ -117,9 +117,8 @@ fn behind_head<L: Link>(
     }
 }
 
-#[tactic(auto, using(crate::proofs::NextLemmas::taking))]
 /// The next request, whose head ends there and says this.
-
+#[tactic(auto, using(crate::proofs::NextLemmas::taking))]
 fn take_body<L: Link>(
     alloc: Global,
     link: &mut L,
@@ -150,9 +149,8 @@ fn take_body<L: Link>(
     }
 }
 
-#[tactic(auto, using(crate::proofs::TakeLemmas::taking))]
 /// Takes the request out of the bytes that are held. Its head ends there, and its body is held.
-
+#[tactic(auto, using(crate::proofs::TakeLemmas::taking))]
 fn take_request(
     alloc: Global,
     held: &mut Vec<u8>,

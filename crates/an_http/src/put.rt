@@ -15,8 +15,8 @@ pub enum PutError {
     Memory,
 }
 
-/// Writes a reply; of a reply to HEAD the head alone. `close` tells that the connection closes behind
-/// it.
+/// Writes a reply; of a reply to HEAD the head alone. `close` tells that the connection closes
+/// behind it.
 pub fn put_reply<L: Link>(
     alloc: Global,
     link: &mut L,
@@ -57,7 +57,13 @@ pub fn put_memory_reply<L: Link>(link: &mut L) -> Result<(), LinkFault>
 {
     write_all(
         link,
-        b"HTTP/1.1 503 Service Unavailable\r\nAccess-Control-Allow-Origin: *\r\nConnection: close\r\nContent-Length: 18\r\nContent-Type: application/json\r\n\r\n{\"error\":\"memory\"}",
+        b"HTTP/1.1 503 Service Unavailable\r\n\
+          Access-Control-Allow-Origin: *\r\n\
+          Connection: close\r\n\
+          Content-Length: 18\r\n\
+          Content-Type: application/json\r\n\
+          \r\n\
+          {\"error\":\"memory\"}",
     )
 }
 

@@ -1,5 +1,7 @@
 ghost use Rattle.std.specs.Prelude.{◌≡◌, ◌++◌, codes, string_bytes, IfOk};
-ghost use Rattle.an_http.specs.Replies.{methods_of, status_line, preflight_lines, allow_line, close_line, is_empty, length_line, type_line, extra_lines, first_lines, last_lines};
+ghost use Rattle.an_http.specs.Replies.{methods_of, status_line, preflight_of, preflight_lines};
+ghost use Rattle.an_http.specs.Replies.{allow_line, close_line, is_empty, length_line, type_line};
+ghost use Rattle.an_http.specs.Replies.{extra_lines, first_lines, last_lines};
 
 use crate::status::Status;
 use an_base::Bytes;
@@ -110,11 +112,11 @@ fn preflight_lines(alloc: Global, extra: Extra, allow: Allow) -> Result<String, 
 
 fn preflight_of(alloc: Global, methods: &str) -> Result<String, AllocError>
     ensures lines { IfOk result (λ s. string_bytes s
-        ≡ codes "Access-Control-Allow-Headers: Authorization, Content-Type, Prefer\r\nAccess-Control-Allow-Methods: "
-        ++ (methods.now ++ codes "\r\n")) }
+        ≡ preflight_of methods.now) }
 {
     format!(in alloc;
-        "Access-Control-Allow-Headers: Authorization, Content-Type, Prefer\r\nAccess-Control-Allow-Methods: {methods}\r\n"
+        "Access-Control-Allow-Headers: Authorization, Content-Type, Prefer\r\n\
+         Access-Control-Allow-Methods: {methods}\r\n"
     )
 }
 
@@ -166,13 +168,16 @@ fn type_line(media: Media) -> &'static str
             "Content-Type: application/ld+json; profile=\"http://www.w3.org/ns/anno.jsonld\"\r\n"
         }
         Media::Manifest => {
-            "Content-Type: application/ld+json; profile=\"http://iiif.io/api/presentation/3/context.json\"\r\n"
+            "Content-Type: application/ld+json; \
+             profile=\"http://iiif.io/api/presentation/3/context.json\"\r\n"
         }
         Media::Search => {
-            "Content-Type: application/ld+json; profile=\"http://iiif.io/api/search/2/context.json\"\r\n"
+            "Content-Type: application/ld+json; \
+             profile=\"http://iiif.io/api/search/2/context.json\"\r\n"
         }
         Media::Changes => {
-            "Content-Type: application/ld+json; profile=\"http://iiif.io/api/discovery/1/context.json\"\r\n"
+            "Content-Type: application/ld+json; \
+             profile=\"http://iiif.io/api/discovery/1/context.json\"\r\n"
         }
         Media::Json => "Content-Type: application/json\r\n",
         Media::Absent => "",
@@ -185,7 +190,9 @@ fn extra_lines(extra: Extra) -> &'static str
     match extra {
         Extra::Resource => "Link: <http://www.w3.org/ns/ldp#Resource>; rel=\"type\"\r\n",
         Extra::Container => {
-            "Link: <http://www.w3.org/ns/ldp#BasicContainer>; rel=\"type\"\r\nLink: <http://www.w3.org/TR/annotation-protocol/>; rel=\"http://www.w3.org/ns/ldp#constrainedBy\"\r\n"
+            "Link: <http://www.w3.org/ns/ldp#BasicContainer>; rel=\"type\"\r\n\
+             Link: <http://www.w3.org/TR/annotation-protocol/>; \
+             rel=\"http://www.w3.org/ns/ldp#constrainedBy\"\r\n"
         }
         Extra::Bearer => "WWW-Authenticate: Bearer\r\n",
         Extra::Preflight => "",

@@ -1,5 +1,6 @@
 -- What happened under keys, in order: many items may have one key.
-use Rattle.std.specs.Prelude.{◌≡◌, ℕ, ◌<◌, List, [], ◌∷◌, ◌++◌, true, filter, take, slice_get, Option, Some, None}
+use Rattle.std.specs.Prelude.{◌≡◌, ℕ, ◌<◌, List, [], ◌∷◌, ◌++◌, true, filter, take, slice_get}
+use Rattle.std.specs.Prelude.{Option, Some, None}
 use Rattle.an_keyed.specs.Key.{Key, same_key}
 
 module _ {R : Type 0} (key : R → Key) where

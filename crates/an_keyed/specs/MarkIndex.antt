@@ -1,6 +1,7 @@
 -- For private clauses: places under the hashes of marks. What was entered stays, also where its row
 -- has another mark by now.
-use Rattle.std.specs.Prelude.{◌≡◌, ℕ, ◌<◌, List, length, fold, min, slice_get, slice_index, Bool, true, false, Option, Some, None}
+use Rattle.std.specs.Prelude.{◌≡◌, ℕ, ◌<◌, List, length, fold, min, slice_get, slice_index, Bool}
+use Rattle.std.specs.Prelude.{true, false, Option, Some, None}
 use Rattle.std.specs.Hash as fed
 use Rattle.std.specs.Hash.DefaultHasher as sip
 

@@ -1,6 +1,7 @@
 -- Rows that may have a mark: a text by which a row is found beside its key. Several rows may have
 -- one mark.
-use Rattle.std.specs.Prelude.{ℕ, ◌+◌, List, drop, bytes_eq, Bool, Option, option_map, find, position}
+use Rattle.std.specs.Prelude.{ℕ, ◌+◌, List, drop, bytes_eq, Bool, Option, option_map, find}
+use Rattle.std.specs.Prelude.{position}
 use Rattle.an_base.specs.Outcome.{passes}
 
 -- there is a mark, and it is the wanted one

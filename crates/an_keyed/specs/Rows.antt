@@ -1,5 +1,6 @@
 -- A list of rows, each under a key of its own, in the order in which the keys came first.
-use Rattle.std.specs.Prelude.{ℕ, List, [], ◌∷◌, ◌++◌, Bool, true, ◌&&◌, not, Option, Some, None, option_and_then, position, slice_set, slice_get}
+use Rattle.std.specs.Prelude.{ℕ, List, [], ◌∷◌, ◌++◌, Bool, true, ◌&&◌, not, Option, Some, None}
+use Rattle.std.specs.Prelude.{option_and_then, position, slice_set, slice_get}
 use Rattle.std.specs.List.{list_any}
 use Rattle.an_keyed.specs.Key.{Key, same_key}
 

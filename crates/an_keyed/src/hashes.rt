@@ -1,4 +1,5 @@
-ghost use Rattle.std.specs.Prelude.{◌≡◌, ◌+◌, ◌<◌, ◌≤◌, [], ◌∷◌, ◌++◌, OnOk, length, take, slice_index};
+ghost use Rattle.std.specs.Prelude.{◌≡◌, ◌+◌, ◌<◌, ◌≤◌, [], ◌∷◌, ◌++◌, OnOk, length, take};
+ghost use Rattle.std.specs.Prelude.{slice_index};
 ghost use Rattle.an_keyed.specs.Hashes.{IsLast};
 
 use std::alloc::{AllocError, Global};
@@ -56,7 +57,8 @@ impl Hashes {
     /// The last place before this one that has the same hash.
     pub fn before(&self, place: usize) -> Option<usize>
         requires place { place < length self.now.hashes }
-        ensures last { IsLast (slice_index self.now.hashes place) (take place self.now.hashes) result }
+        ensures last { IsLast (slice_index self.now.hashes place)
+            (take place self.now.hashes) result }
     {
         self.before[place]
     }

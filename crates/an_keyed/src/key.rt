@@ -19,7 +19,8 @@ pub trait Keyed {
 
 /// Whether the row stands under this key.
 pub(crate) fn has_key<R: Keyed>(row: &R, owner: Option<&Name>, name: &Name) -> bool
-    ensures { result ≡ same_key (R.key row.now) (record { owner = option_copied owner.entry; name = name.now }) }
+    ensures { result ≡ same_key (R.key row.now)
+        (record { owner = option_copied owner.entry; name = name.now }) }
 {
     is_same_owner(row.owner(), owner) && row.name() == name
 }
@@ -39,7 +40,8 @@ fn is_same_owner(one: Option<&Name>, other: Option<&Name>) -> bool
 /// The hash of a key. Its seed is fixed.
 #[tactic(auto, unfolding(crate::specs::KeyHash::key_hash))]
 pub(crate) fn hash_of(owner: Option<&Name>, name: &Name) -> u64
-    ensures hash { result ≡ key_hash (record { owner = option_copied owner.entry; name = name.now }) }
+    ensures hash { result ≡ key_hash
+        (record { owner = option_copied owner.entry; name = name.now }) }
 {
     let mut hasher = DefaultHasher::new();
     text_of(owner).hash(&mut hasher);

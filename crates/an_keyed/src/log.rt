@@ -1,4 +1,5 @@
-ghost use Rattle.std.specs.Prelude.{◌≡◌, ◌+◌, ◌<◌, ◌≤◌, [], ◌∷◌, ◌++◌, OnOk, length, map, slice_get, take, true};
+ghost use Rattle.std.specs.Prelude.{◌≡◌, ◌+◌, ◌<◌, ◌≤◌, [], ◌∷◌, ◌++◌, OnOk, length, map};
+ghost use Rattle.std.specs.Prelude.{slice_get, take, true};
 ghost use Rattle.std.specs.Option.{option_copied};
 ghost use Rattle.an_base.specs.Outcome.{passes};
 ghost use Rattle.an_keyed.specs.Hashes.{IsLast};
@@ -13,8 +14,8 @@ use std::alloc::{AllocError, Global};
 use std::marker::Model;
 
 /// What happened under keys, in order. Many items may have one key; the last of them is found at
-/// once, and from each the one before it. Contracts see the list of the items, and for how many more
-/// there is memory.
+/// once, and from each the one before it. Contracts see the list of the items, and for how many
+/// more there is memory.
 #[derive(Drop)]
 pub struct Log<R: Keyed> {
     items: Vec<R>,
@@ -60,7 +61,8 @@ impl<R: Keyed + Drop> Log<R> {
 
     /// Where the last item with this key stands.
     pub fn last(&self, owner: Option<&Name>, name: &Name) -> Option<usize>
-        ensures last { IsLastBefore R.key (record { owner = option_copied owner.entry; name = name.now })
+        ensures last { IsLastBefore R.key
+            (record { owner = option_copied owner.entry; name = name.now })
             self.now.rows (length self.now.rows) result }
     {
         let next = self.index.last(hash_of(owner, name));
@@ -77,8 +79,10 @@ impl<R: Keyed + Drop> Log<R> {
     /// Where the last item with this key stands before a place that has one.
     pub fn before(&self, place: usize, owner: Option<&Name>, name: &Name) -> Option<usize>
         requires here { passes (λ item. same_key (R.key item)
-            (record { owner = option_copied owner; name = name.now })) (slice_get self.now.rows place) ≡ true }
-        ensures last { IsLastBefore R.key (record { owner = option_copied owner.entry; name = name.now })
+            (record { owner = option_copied owner; name = name.now }))
+            (slice_get self.now.rows place) ≡ true }
+        ensures last { IsLastBefore R.key
+            (record { owner = option_copied owner.entry; name = name.now })
             self.now.rows place result }
     {
         let next = self.index.before(place);
@@ -125,7 +129,8 @@ fn last_in<R: Keyed>(
     requires end { end ≤ length items.now }
     requires next { IsLast (key_hash (record { owner = option_copied owner; name = name.now }))
         (take end index.now.hashes) next }
-    ensures last { IsLastBefore R.key (record { owner = option_copied owner.entry; name = name.now })
+    ensures last { IsLastBefore R.key
+        (record { owner = option_copied owner.entry; name = name.now })
         items.now end result }
 {
     let mut next = next;

@@ -28,7 +28,8 @@ pub(crate) fn hash_of_mark(mark: &str) -> u64
 
 /// Whether the place isn't before `start`, and has a row with this mark.
 pub(crate) fn is_marked_from<R: Marked>(rows: &[R], mark: &str, start: usize, place: usize) -> bool
-    ensures { result ≡ nat_le start place && passes (λ row. is_mark mark.now (R.mark row)) (slice_get rows.now place) }
+    ensures { result ≡ nat_le start place && passes
+        (λ row. is_mark mark.now (R.mark row)) (slice_get rows.now place) }
 {
     match rows.get(place) {
         Some(row) => start <= place && has_mark(row, mark),

@@ -1,4 +1,5 @@
-ghost use Rattle.std.specs.Prelude.{◌≡◌, ◌+◌, ◌<◌, ◌≤◌, [], IfSome, IsTrue, OnOk, length, map, option_and_then, slice_get, unwrap_or};
+ghost use Rattle.std.specs.Prelude.{◌≡◌, ◌+◌, ◌<◌, ◌≤◌, [], IfSome, IsTrue, OnOk, length, map};
+ghost use Rattle.std.specs.Prelude.{option_and_then, slice_get, unwrap_or};
 ghost use Rattle.std.specs.Option.{option_copied};
 ghost use Rattle.an_keyed.specs.MarkIndex.{IsEntered, IsKept, IsMarkIndex, mark_hash};
 ghost use Rattle.an_keyed.specs.Marks.{marked_place, marked_row};
@@ -13,8 +14,8 @@ use std::alloc::{AllocError, Global};
 use std::marker::Model;
 
 /// Rows under keys, as [`Rows`], that are found by their marks too. Contracts see the list of the
-/// rows, and for how many more there is memory. Each mark that a row was ever put with stays entered
-/// and takes memory, but a look-up answers by the rows as they are.
+/// rows, and for how many more there is memory. Each mark that a row was ever put with stays
+/// entered and takes memory, but a look-up answers by the rows as they are.
 #[derive(Drop)]
 pub struct MarkedRows<R: Keyed + Marked> {
     rows: Rows<R>,
@@ -60,14 +61,16 @@ impl<R: Keyed + Marked + Drop> MarkedRows<R> {
 
     /// Where the row with this key stands.
     pub fn place(&self, owner: Option<&Name>, name: &Name) -> Option<usize>
-        ensures place { result ≡ place_of R.key (record { owner = option_copied owner.entry; name = name.now }) self.now.rows }
+        ensures place { result ≡ place_of R.key
+            (record { owner = option_copied owner.entry; name = name.now }) self.now.rows }
     {
         self.rows.place(owner, name)
     }
 
     /// The row with this key; no two rows have one key.
     pub fn find(&self, owner: Option<&Name>, name: &Name) -> Option<&R>
-        ensures row { option_copied result ≡ row_of R.key (record { owner = option_copied owner.entry; name = name.now }) self.now.rows }
+        ensures row { option_copied result ≡ row_of R.key
+            (record { owner = option_copied owner.entry; name = name.now }) self.now.rows }
         ensures distinct { IsTrue (keys_are_distinct R.key self.now.rows) }
     {
         self.rows.find(owner, name)
@@ -103,8 +106,8 @@ impl<R: Keyed + Marked + Drop> MarkedRows<R> {
         Ok(())
     }
 
-    /// Puts the row in the place of the one with its key, or behind all where there is none. It takes
-    /// no memory.
+    /// Puts the row in the place of the one with its key, or behind all where there is none. It
+    /// takes no memory.
     pub fn put(&mut self, row: R)
         requires room { 0 < self.old.room }
         ensures rows { self.new.rows ≡ put_row R.key row self.old.rows }
@@ -128,7 +131,8 @@ fn row_at<R>(rows: &[R], place: Option<usize>) -> Option<&R>
 
 /// Where a put puts the row.
 fn place_for<R: Keyed + Drop>(rows: &Rows<R>, row: &R) -> usize
-    ensures { result ≡ unwrap_or (place_of R.key (R.key row.now) rows.now.rows) (length rows.now.rows) }
+    ensures { result
+        ≡ unwrap_or (place_of R.key (R.key row.now) rows.now.rows) (length rows.now.rows) }
 {
     match rows.place(row.owner(), row.name()) {
         Some(place) => place,

@@ -1,4 +1,5 @@
-ghost use Rattle.std.specs.Prelude.{◌≡◌, ◌+◌, ◌<◌, ◌≤◌, ◌↔◌, [], IsTrue, OnOk, length, take, slice_index};
+ghost use Rattle.std.specs.Prelude.{◌≡◌, ◌+◌, ◌<◌, ◌≤◌, ◌↔◌, [], IsTrue, OnOk, length, take};
+ghost use Rattle.std.specs.Prelude.{slice_index};
 ghost use Rattle.an_keyed.specs.Hashes.{IsLast};
 ghost use Rattle.an_keyed.specs.MarkIndex.{IsEntered, IsKept};
 
@@ -6,8 +7,8 @@ use crate::hashes::Hashes;
 use std::alloc::{AllocError, Global};
 use std::marker::Model;
 
-/// Places that are entered under hashes, many under one hash, and never taken out. Contracts see the
-/// entries, and for how many more there is memory.
+/// Places that are entered under hashes, many under one hash, and never taken out. Contracts see
+/// the entries, and for how many more there is memory.
 #[derive(Drop)]
 pub(crate) struct Places {
     hashes: Hashes,
@@ -21,7 +22,11 @@ impl Model for Places {
 
     ghost Value = { Entries };
 
-    ghost view = { λ p. record { hashes = p.hashes.hashes; places = p.places.items; room = p.room } };
+    ghost view = { λ p. record {
+      hashes = p.hashes.hashes;
+      places = p.places.items;
+      room = p.room;
+    } };
 
     ghost invariant = { λ p. record {
       each_place : length p.places.items ≡ length p.hashes.hashes;
@@ -53,7 +58,8 @@ impl Places {
     /// The last entry before this one that has the same hash.
     pub fn before(&self, entry: usize) -> Option<usize>
         requires entry { entry < length self.now.hashes }
-        ensures last { IsLast (slice_index self.now.hashes entry) (take entry self.now.hashes) result }
+        ensures last { IsLast (slice_index self.now.hashes entry)
+            (take entry self.now.hashes) result }
     {
         self.hashes.before(entry)
     }

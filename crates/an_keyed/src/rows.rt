@@ -57,7 +57,8 @@ impl<R: Keyed + Drop> Rows<R> {
 
     /// Where the row with this key stands.
     pub fn place(&self, owner: Option<&Name>, name: &Name) -> Option<usize>
-        ensures place { result ≡ place_of R.key (record { owner = option_copied owner.entry; name = name.now }) self.now.rows }
+        ensures place { result ≡ place_of R.key
+            (record { owner = option_copied owner.entry; name = name.now }) self.now.rows }
     {
         place_in(
             self.rows.as_slice(),
@@ -71,7 +72,8 @@ impl<R: Keyed + Drop> Rows<R> {
     /// The row with this key; no two rows have one key.
     #[tactic(auto, using(crate::proofs::DistinctLemmas::distinct_rows))]
     pub fn find(&self, owner: Option<&Name>, name: &Name) -> Option<&R>
-        ensures row { option_copied result ≡ row_of R.key (record { owner = option_copied owner.entry; name = name.now }) self.now.rows }
+        ensures row { option_copied result ≡ row_of R.key
+            (record { owner = option_copied owner.entry; name = name.now }) self.now.rows }
         ensures distinct { IsTrue (keys_are_distinct R.key self.now.rows) }
     {
         match self.place(owner, name) {
@@ -94,8 +96,8 @@ impl<R: Keyed + Drop> Rows<R> {
         Ok(())
     }
 
-    /// Puts the row in the place of the one with its key, or behind all where there is none. It takes
-    /// no memory.
+    /// Puts the row in the place of the one with its key, or behind all where there is none. It
+    /// takes no memory.
     pub fn put(&mut self, row: R)
         requires room { 0 < self.old.room }
         ensures rows { self.new.rows ≡ put_row R.key row self.old.rows }
@@ -130,7 +132,8 @@ fn place_in<R: Keyed>(
 ) -> Option<usize>
     requires hashed { IsHashed (map R.key rows.now) index.now.hashes }
     requires hash { hash ≡ key_hash (record { owner = option_copied owner; name = name.now }) }
-    ensures place { result ≡ place_of R.key (record { owner = option_copied owner.entry; name = name.now }) rows.now }
+    ensures place { result ≡ place_of R.key
+        (record { owner = option_copied owner.entry; name = name.now }) rows.now }
 {
     let mut next = index.last(hash);
     while let Some(place) = next {

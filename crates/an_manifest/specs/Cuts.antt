@@ -1,6 +1,7 @@
 -- For private clauses: where the text of an object is cut, so that a member of it gets one value
 -- more, and what stands between the cuts.
-use Rattle.std.specs.Prelude.{ℕ, ◌+◌, ◌-◌, ◌≤◌, ◌≡◌, List, [], ◌∷◌, ◌++◌, codes, length, slice_range, if◌then◌else◌, Option, Some, None}
+use Rattle.std.specs.Prelude.{ℕ, ◌+◌, ◌-◌, ◌≤◌, ◌≡◌, List, [], ◌∷◌, ◌++◌, codes, length}
+use Rattle.std.specs.Prelude.{slice_range, if◌then◌else◌, Option, Some, None}
 use Rattle.serde_json.specs.Data.{Data, Items, no_items, item, Members, no_members, member}
 use Rattle.serde_json.specs.Find.{get, as_array}
 use Rattle.serde_json.specs.Written.{compact_text}

@@ -4,7 +4,8 @@
 -- Presentation API 3.0, section 5.3).
 use Rattle.std.specs.Prelude.{ℕ, ◌+◌, List, [], ◌∷◌, ◌++◌, Bool, bytes_eq, codes, decimal}
 use Rattle.std.specs.List.{list_any}
-use Rattle.serde_json.specs.Data.{Data, string, array, object, Items, no_items, item, member, no_members}
+use Rattle.serde_json.specs.Data.{Data, string, array, object, Items, no_items, item, member}
+use Rattle.serde_json.specs.Data.{no_members}
 use Rattle.an_base.specs.Items.{trees_in}
 use Rattle.an_base.specs.Object.{with_member}
 use Rattle.an_manifest.specs.Manifest.{canvases_in}

@@ -1,5 +1,6 @@
 -- A manifest of the IIIF Presentation API 3.0 (section 5.2), as it is sent and as it is kept.
-use Rattle.std.specs.Prelude.{ℕ, List, [], ◌∷◌, Bool, not, ◌&&◌, ◌||◌, ◌==◌, codes, is_some, is_none, Option, option_map, option_and_then, unwrap_or, Result}
+use Rattle.std.specs.Prelude.{ℕ, List, [], ◌∷◌, Bool, not, ◌&&◌, ◌||◌, ◌==◌, codes, is_some}
+use Rattle.std.specs.Prelude.{is_none, Option, option_map, option_and_then, unwrap_or, Result}
 use Rattle.serde_json.specs.Data.{Data, Items, no_items}
 use Rattle.serde_json.specs.Find.{get, as_array}
 use Rattle.serde_json.specs.Events.{items_len}
@@ -9,7 +10,9 @@ use Rattle.an_base.specs.Member.{has_type}
 use Rattle.an_base.specs.Object.{without_member}
 use Rattle.an_manifest.specs.Shape.{is_language_map, is_canvas, canvas_ids}
 use Rattle.an_manifest.specs.declared.sheet.SheetError.{SheetError}
-use Rattle.an_manifest.specs.declared.sheet.SheetError.TheVariants.{WrongType, Label, Items as NoItems, Canvas, Version2}
+use Rattle.an_manifest.specs.declared.sheet.SheetError.TheVariants.{WrongType, Label}
+use Rattle.an_manifest.specs.declared.sheet.SheetError.TheVariants.{Items as NoItems, Canvas}
+use Rattle.an_manifest.specs.declared.sheet.SheetError.TheVariants.{Version2}
 
 -- a manifest of the Presentation API 2 has one of these members
 abbrev pub is_version_2 : Data → Bool

@@ -1,5 +1,6 @@
 -- Parts of a manifest's tree (IIIF Presentation API 3.0): language maps and canvases.
-use Rattle.std.specs.Prelude.{ℕ, ◌^◌, [], ◌∷◌, List, length, Bool, true, ◌&&◌, codes, nat_lt, is_some, option_and_then, unwrap_or}
+use Rattle.std.specs.Prelude.{ℕ, ◌^◌, [], ◌∷◌, List, length, Bool, true, ◌&&◌, codes, nat_lt}
+use Rattle.std.specs.Prelude.{is_some, option_and_then, unwrap_or}
 use Rattle.serde_json.specs.Data.{Data, Items, no_items, item, Members, no_members, member}
 use Rattle.serde_json.specs.Find.{get, as_str, as_number, as_u64, as_array, as_object}
 use Rattle.an_base.specs.Outcome.{passes}

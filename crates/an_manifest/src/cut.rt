@@ -5,7 +5,8 @@ ghost use Rattle.serde_json.specs.Written.{has_float, items_have_float};
 ghost use Rattle.std.specs.Arc.{arc_slice_items};
 ghost use Rattle.an_base.specs.Cut.{below, members_in};
 ghost use Rattle.an_base.specs.Write.{commas};
-ghost use Rattle.an_manifest.specs.Cuts.{first_cut, last_cut, no_cut, cut_if, cuts_at, canvas_cuts, sheet_cuts};
+ghost use Rattle.an_manifest.specs.Cuts.{first_cut, last_cut, no_cut, cut_if, cuts_at, canvas_cuts};
+ghost use Rattle.an_manifest.specs.Cuts.{sheet_cuts};
 
 use an_base::{push_members, push_name, push_value};
 use serde_json::Value;

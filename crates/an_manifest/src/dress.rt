@@ -6,7 +6,10 @@ ghost use Rattle.an_base.specs.Items.{many_if};
 ghost use Rattle.an_base.specs.Object.{with_member};
 ghost use Rattle.an_base.specs.Tree.{one_or_many};
 ghost use Rattle.an_manifest.specs.Manifest.{array_in};
-ghost use Rattle.an_manifest.specs.Dress.{with_last, with_one_more, manifest_iri, complete_iri, search_iri, canvas_page_iri, complete_service, search_service, canvas_page, dressed_canvases, with_canvas_pages, contexts, dressed};
+ghost use Rattle.an_manifest.specs.Dress.{with_last, with_one_more, manifest_iri, complete_iri};
+ghost use Rattle.an_manifest.specs.Dress.{search_iri, canvas_page_iri, complete_service};
+ghost use Rattle.an_manifest.specs.Dress.{search_service, canvas_page, dressed_canvases};
+ghost use Rattle.an_manifest.specs.Dress.{with_canvas_pages, contexts, dressed};
 
 use crate::sheet::Sheet;
 use crate::take::take_member;

@@ -1,4 +1,5 @@
-//! Manifests of the IIIF Presentation API 3.0: their trees, their canvases, and how they are served.
+//! Manifests of the IIIF Presentation API 3.0: their trees, their canvases, and how they are
+//! served.
 #![tactic(auto)]
 
 pub use dress::dress_manifest;

@@ -1,4 +1,5 @@
-ghost use Rattle.std.specs.Prelude.{◌≡◌, ◌+◌, ◌<◌, ◌≤◌, ◌++◌, codes, length, slice_range, take, drop, true, IfOk};
+ghost use Rattle.std.specs.Prelude.{◌≡◌, ◌+◌, ◌<◌, ◌≤◌, ◌++◌, codes, length, slice_range, take};
+ghost use Rattle.std.specs.Prelude.{drop, true, IfOk};
 ghost use Rattle.serde_json.specs.Data.{Data, Items, Members, array, object, string};
 ghost use Rattle.serde_json.specs.Written.{compact_text};
 ghost use Rattle.an_base.specs.Cut.{members_in};
@@ -6,7 +7,8 @@ ghost use Rattle.an_base.specs.Items.{trees_in};
 ghost use Rattle.an_base.specs.Tree.{ascend, names};
 ghost use Rattle.an_base.specs.Write.{member_text, item_commas};
 ghost use Rattle.an_manifest.specs.Cuts.{piece, IsCutAt, heading_text, ending_text};
-ghost use Rattle.an_manifest.specs.Dress.{with_last, with_one_more, manifest_iri, search_service, canvas_page, dressed_canvases, contexts, dressed};
+ghost use Rattle.an_manifest.specs.Dress.{with_last, with_one_more, manifest_iri, search_service};
+ghost use Rattle.an_manifest.specs.Dress.{canvas_page, dressed_canvases, contexts, dressed};
 ghost use Rattle.an_manifest.specs.Manifest.{canvases_in};
 
 use crate::cut::Cut;

@@ -2,7 +2,8 @@ ghost use Rattle.std.specs.Prelude.{◌≡◌, codes, not, position};
 ghost use Rattle.serde_json.specs.Find.{get, as_array, as_object};
 ghost use Rattle.serde_json.specs.View.{view, items_view, members_view};
 ghost use Rattle.an_base.specs.Outcome.{passes};
-ghost use Rattle.an_manifest.specs.Shape.{has_some_text, has_size, are_texts, are_text_lists, is_language_map, is_canvas};
+ghost use Rattle.an_manifest.specs.Shape.{has_some_text, has_size, are_texts, are_text_lists};
+ghost use Rattle.an_manifest.specs.Shape.{is_language_map, is_canvas};
 ghost use Rattle.an_manifest.specs.Manifest.{is_version_2, canvases_in};
 
 use an_base::{has_type, member_count, text_in};

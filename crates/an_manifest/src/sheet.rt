@@ -5,7 +5,8 @@ ghost use Rattle.serde_json.specs.Written.{has_float};
 ghost use Rattle.an_base.specs.Outcome.{Gives, first_of};
 ghost use Rattle.an_base.specs.Tree.{is_tree};
 ghost use Rattle.an_manifest.specs.Shape.{canvas_ids};
-ghost use Rattle.an_manifest.specs.Manifest.{manifest_refusals, is_manifest, kept_tree, manifest_of};
+ghost use Rattle.an_manifest.specs.Manifest.{manifest_refusals, is_manifest, kept_tree};
+ghost use Rattle.an_manifest.specs.Manifest.{manifest_of};
 
 use crate::shape::{bad_canvas, canvases_in, has_label, is_version_2};
 use an_base::{List, Text, Tree, TryCopy, has_type, text_in, without_member};

@@ -1,6 +1,7 @@
 -- An annotation (Web Annotation Data Model, section 3): what is kept of a tree that is sent, or why
 -- it is none.
-use Rattle.std.specs.Prelude.{ℕ, List, [], ◌∷◌, Bool, ◌&&◌, not, length, nat_lt, codes, is_none, is_some, Option, option_map, option_and_then, Result}
+use Rattle.std.specs.Prelude.{ℕ, List, [], ◌∷◌, Bool, ◌&&◌, not, length, nat_lt, codes, is_none}
+use Rattle.std.specs.Prelude.{is_some, Option, option_map, option_and_then, Result}
 use Rattle.std.specs.Char.{is_whitespace}
 use Rattle.std.specs.List.{list_all, list_any, filter_map}
 use Rattle.std.specs.Str.{chars}
@@ -13,7 +14,8 @@ use Rattle.an_base.specs.Outcome.{when, first_of, unless, only_if}
 use Rattle.an_model.specs.Targets.{bad_target, bad_selector}
 use Rattle.an_model.specs.Bodies.{bad_body}
 use Rattle.an_model.specs.declared.refusal.NoteError.{NoteError}
-use Rattle.an_model.specs.declared.refusal.NoteError.TheVariants.{WrongType, Target, Selector, Body, Motivation}
+use Rattle.an_model.specs.declared.refusal.NoteError.TheVariants.{WrongType, Target, Selector, Body}
+use Rattle.an_model.specs.declared.refusal.NoteError.TheVariants.{Motivation}
 
 -- ---- why it is written (Motivation and Purpose, section 3.3.5)
 

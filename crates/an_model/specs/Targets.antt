@@ -1,5 +1,7 @@
 -- What an annotation is about (Web Annotation Data Model, sections 3.2 and 4).
-use Rattle.std.specs.Prelude.{ℕ, List, [], ◌∷◌, ◌==◌, Bool, true, false, length, map, nat_lt, codes, is_none, is_some, if◌then◌else◌, Option, Some, None, option_map, option_and_then}
+use Rattle.std.specs.Prelude.{ℕ, List, [], ◌∷◌, ◌==◌, Bool, true, false, length, map, nat_lt, codes}
+use Rattle.std.specs.Prelude.{is_none, is_some, if◌then◌else◌, Option, Some, None, option_map}
+use Rattle.std.specs.Prelude.{option_and_then}
 use Rattle.std.specs.List.{before_first, after_first, filter_map}
 use Rattle.std.specs.Option.{option_or}
 use Rattle.std.specs.Result.{result_ok}
@@ -10,7 +12,8 @@ use Rattle.an_base.specs.Outcome.{only_if}
 use Rattle.an_selectors.specs.Region.{region_of}
 use Rattle.an_selectors.specs.Selector.{selector_of}
 use Rattle.an_selectors.specs.declared.selector.Selector.{Selector}
-use Rattle.an_selectors.specs.declared.selector.Selector.TheVariants.{Fragment, Quote, Position, Other}
+use Rattle.an_selectors.specs.declared.selector.Selector.TheVariants.{Fragment, Quote, Position}
+use Rattle.an_selectors.specs.declared.selector.Selector.TheVariants.{Other}
 use Rattle.an_model.specs.declared.target.Target.{Target}
 
 -- ---- a resource

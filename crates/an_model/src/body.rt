@@ -1,9 +1,12 @@
-ghost use Rattle.std.specs.Prelude.{◌≡◌, IfOk, option_map, option_and_then, option_to_list, not, position};
+ghost use Rattle.std.specs.Prelude.{◌≡◌, IfOk, option_map, option_and_then, option_to_list, not};
+ghost use Rattle.std.specs.Prelude.{position};
 ghost use Rattle.std.specs.List.{filter_map};
 ghost use Rattle.serde_json.specs.View.{view, items_view};
 ghost use Rattle.serde_json.specs.Find.{as_str};
 ghost use Rattle.an_base.specs.Items.{items_list};
-ghost use Rattle.an_model.specs.Bodies.{is_html, text_body, by_value, by_iri, by_id, by_text_or_id, by_source, by_items, body_of, is_body, is_body_value, bad_body, text_of_body, iri_of_body, texts_of, iris_of};
+ghost use Rattle.an_model.specs.Bodies.{is_html, text_body, by_value, by_iri, by_id, by_text_or_id};
+ghost use Rattle.an_model.specs.Bodies.{by_source, by_items, body_of, is_body, is_body_value};
+ghost use Rattle.an_model.specs.Bodies.{bad_body, text_of_body, iri_of_body, texts_of, iris_of};
 ghost use Rattle.an_model.specs.Lent.{owned};
 
 use crate::target::{id_of, iri_of};
@@ -140,7 +143,8 @@ fn iris_among(alloc: Global, bodies: &[Value]) -> Result<List<Text>, AllocError>
 
 /// The IRI that a body is, if it is one.
 fn body_iri(tree: &Value) -> Option<&str>
-    ensures { option_map (λ s. s.now) result ≡ option_and_then iri_of_body (body_of (view tree.now)) }
+    ensures { option_map (λ s. s.now) result
+        ≡ option_and_then iri_of_body (body_of (view tree.now)) }
 {
     match body_part(tree) {
         Some(part) => iri_in(part),

@@ -34,7 +34,8 @@ pub fn dress(
 fn with_modified(alloc: Global, tree: Value, modified: Option<Moment>) -> Result<Value, AllocError>
     ensures value { IfOk result (λ v. view v
         ≡ with_member_if (codes "modified") (option_map moment_string modified) (view tree)) }
-    ensures no_float { has_float (view tree) ≡ false → IfOk result (λ v. has_float (view v) ≡ false) }
+    ensures no_float { has_float (view tree) ≡ false → IfOk result (λ v. has_float (view v)
+        ≡ false) }
 {
     match modified {
         Some(modified) => with_moment(alloc, tree, "modified", modified),
@@ -45,7 +46,8 @@ fn with_modified(alloc: Global, tree: Value, modified: Option<Moment>) -> Result
 fn with_moment(alloc: Global, tree: Value, name: &str, moment: Moment) -> Result<Value, AllocError>
     ensures value { IfOk result (λ v. view v
         ≡ with_member name.now (moment_string moment) (view tree)) }
-    ensures no_float { has_float (view tree) ≡ false → IfOk result (λ v. has_float (view v) ≡ false) }
+    ensures no_float { has_float (view tree) ≡ false → IfOk result (λ v. has_float (view v)
+        ≡ false) }
 {
     let text = moment_text(alloc, moment)?;
     with_text(alloc, tree, name, text.as_str())
@@ -54,7 +56,8 @@ fn with_moment(alloc: Global, tree: Value, name: &str, moment: Moment) -> Result
 fn with_text(alloc: Global, tree: Value, name: &str, text: &str) -> Result<Value, AllocError>
     ensures value { IfOk result (λ v. view v
         ≡ with_member name.now (string text.now) (view tree)) }
-    ensures no_float { has_float (view tree) ≡ false → IfOk result (λ v. has_float (view v) ≡ false) }
+    ensures no_float { has_float (view tree) ≡ false → IfOk result (λ v. has_float (view v)
+        ≡ false) }
 {
     let value = Value::try_from_str(alloc, text)?;
     with_member(alloc, tree, name, value)

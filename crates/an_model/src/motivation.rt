@@ -2,7 +2,8 @@ ghost use Rattle.std.specs.Prelude.{◌≡◌, IfOk, chars, option_map, not, pos
 ghost use Rattle.std.specs.Char.{is_whitespace};
 ghost use Rattle.std.specs.List.{list_any};
 ghost use Rattle.serde_json.specs.View.{view};
-ghost use Rattle.an_model.specs.Note.{is_token, motivation_of, is_motivation, bad_motivation, motivations_of};
+ghost use Rattle.an_model.specs.Note.{is_token, motivation_of, is_motivation, bad_motivation};
+ghost use Rattle.an_model.specs.Note.{motivations_of};
 
 use an_base::{List, Text, trees_in};
 use serde_json::Value;

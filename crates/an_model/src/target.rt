@@ -3,7 +3,10 @@ ghost use Rattle.std.specs.List.{after_first, before_first};
 ghost use Rattle.std.specs.Result.{result_ok};
 ghost use Rattle.serde_json.specs.View.{view, items_view};
 ghost use Rattle.an_selectors.specs.Selector.{selector_of};
-ghost use Rattle.an_model.specs.Targets.{iri_of, id_of, resource_of, target_iri, selector_trees, is_selector, selectors_of, fragment_of, target_at, target_of, is_target, bad_target, has_good_selectors, bad_selector, targets_of};
+ghost use Rattle.an_model.specs.Targets.{iri_of, id_of, resource_of, target_iri, selector_trees};
+ghost use Rattle.an_model.specs.Targets.{is_selector, selectors_of, fragment_of, target_at};
+ghost use Rattle.an_model.specs.Targets.{target_of, is_target, bad_target, has_good_selectors};
+ghost use Rattle.an_model.specs.Targets.{bad_selector, targets_of};
 
 use an_base::{List, Text, TryCopy, trees_in};
 use an_selectors::{Selector, SelectorError, Xywh, read_selector, read_xywh, selector_refusal};

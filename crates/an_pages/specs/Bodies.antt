@@ -1,5 +1,6 @@
 -- The bodies of answers that show one thing.
-use Rattle.std.specs.Prelude.{ℕ, List, codes, if◌then◌else◌, Option, Some, option_map, option_and_then, ok_or, Result}
+use Rattle.std.specs.Prelude.{ℕ, List, codes, if◌then◌else◌, Option, Some, option_map}
+use Rattle.std.specs.Prelude.{option_and_then, ok_or, Result}
 use Rattle.serde_json.specs.Data.{string}
 use Rattle.serde_json.specs.Written.{compact_text}
 use Rattle.an_manifest.specs.Dress.{dressed}

@@ -61,7 +61,8 @@ fn sheet_body(
     name: &Name,
     settings: &Settings,
 ) -> Result<Bytes, AllocError>
-    ensures { IfOk result (λ body. body ≡ compact_text (dressed settings.now.base name.now sheet.now)) }
+    ensures { IfOk result (λ body. body
+        ≡ compact_text (dressed settings.now.base name.now sheet.now)) }
 {
     let text = push_manifest(alloc, Vec::new(alloc), sheet, settings.base(), name)?;
     Ok(Bytes::from_vec(text))

@@ -19,8 +19,9 @@ use std::alloc::{AllocError, Global};
 const NOTE_CONTEXT: &str = "http://www.w3.org/ns/anno.jsonld";
 
 /// An annotation as the caller is shown it on its own route (Web Annotation Protocol, section 3).
-/// One that the caller may not read is gone where the last change of it that the caller sees, by the
-/// groups it has now, is its deletion or its move out of sight; otherwise it is absent, hidden or not.
+/// One that the caller may not read is gone where the last change of it that the caller sees, by
+/// the groups it has now, is its deletion or its move out of sight; otherwise it is absent, hidden
+/// or not.
 #[tactic(auto, unfolding(crate::specs::Bodies::annotation_of_view))]
 pub fn annotation<T: Look>(
     alloc: Global,
@@ -62,7 +63,8 @@ fn shown_body<T: Look>(
 
 /// Why the annotation isn't shown to the caller.
 fn missing<T: Look>(look: &T, who: &Who<'_>, owner: &Name, name: &Name) -> PageError
-    ensures { result ≡ missing_note (view_of (T.state look.now) (identity who.now)) owner.now name.now }
+    ensures { result
+        ≡ missing_note (view_of (T.state look.now) (identity who.now)) owner.now name.now }
 {
     match look.last_change(who, Some(owner), name) {
         Some(kind) => if is_deletion(kind) {

@@ -1,5 +1,6 @@
 -- Who a caller is, and what an audience lets it read.
-use Rattle.std.specs.Prelude.{ℕ, List, [], Bool, true, false, ◌&&◌, ◌||◌, bytes_eq, codes, Option, Some, None, not}
+use Rattle.std.specs.Prelude.{ℕ, List, [], Bool, true, false, ◌&&◌, ◌||◌, bytes_eq, codes, Option}
+use Rattle.std.specs.Prelude.{Some, None, not}
 use Rattle.std.specs.List.{list_any}
 use Rattle.an_base.specs.Name.{is_name}
 use Rattle.an_policy.specs.declared.group.Group.{Group}

@@ -1,5 +1,6 @@
 -- A group as its text says it.
-use Rattle.std.specs.Prelude.{ℕ, List, Bool, true, if◌then◌else◌, bytes_eq, codes, Option, Some, option_map}
+use Rattle.std.specs.Prelude.{ℕ, List, Bool, true, if◌then◌else◌, bytes_eq, codes, Option, Some}
+use Rattle.std.specs.Prelude.{option_map}
 use Rattle.an_base.specs.Name.{is_name}
 use Rattle.an_base.specs.Outcome.{only_if}
 use Rattle.an_policy.specs.Audience.{is_group_name}

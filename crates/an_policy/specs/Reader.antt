@@ -1,7 +1,10 @@
 -- A reader, as the operator describes it in JSON.
-use Rattle.std.specs.Prelude.{ℕ, List, [], ◌∷◌, ◌++◌, length, Bool, not, ◌&&◌, ◌==◌, bytes_eq, codes, nat_le, nat_lt, if◌then◌else◌, Option, Some, None, option_and_then, Result, Ok}
+use Rattle.std.specs.Prelude.{ℕ, List, [], ◌∷◌, ◌++◌, length, Bool, not, ◌&&◌, ◌==◌, bytes_eq}
+use Rattle.std.specs.Prelude.{codes, nat_le, nat_lt, if◌then◌else◌, Option, Some, None}
+use Rattle.std.specs.Prelude.{option_and_then, Result, Ok}
 use Rattle.std.specs.List.{list_all}
-use Rattle.serde_json.specs.Data.{Data, Items, no_items, item, null, boolean, number, string, array, object}
+use Rattle.serde_json.specs.Data.{Data, Items, no_items, item, null, boolean, number, string, array}
+use Rattle.serde_json.specs.Data.{object}
 use Rattle.serde_json.specs.Find.{get, as_str}
 use Rattle.serde_json.specs.Events.{items_len}
 use Rattle.an_base.specs.Token.{is_token}

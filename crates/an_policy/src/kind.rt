@@ -18,7 +18,8 @@ pub enum Kind {
 /// What a change is for the caller, by who could read the object before and who can after. Nothing
 /// where the caller could read neither. Takes no memory.
 pub fn as_seen(who: &Who<'_>, before: Option<&Audience>, after: Option<&Audience>) -> Option<Kind>
-    ensures kind { result ≡ as_seen (identity who.now) (option_copied before.entry) (option_copied after.entry) }
+    ensures kind { result
+        ≡ as_seen (identity who.now) (option_copied before.entry) (option_copied after.entry) }
 {
     if reads(who, before) {
         if reads(who, after) {

@@ -4,7 +4,7 @@
 pub use group::{Audience, Group, group_named, group_text, groups_read_back};
 pub use kind::{Kind, as_seen};
 pub use permission::{is_member, is_named, may, may_read};
-pub use reader::{Reader, ReaderError, Role, read_reader};
+pub use reader::{Reader, ReaderError, Role, is_user, read_reader};
 pub use who::{Caller, Who};
 
 mod group;

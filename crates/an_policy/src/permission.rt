@@ -1,6 +1,7 @@
 ghost use Rattle.std.specs.Prelude.{◌≡◌};
 ghost use Rattle.std.specs.Option.{option_copied};
-ghost use Rattle.an_policy.specs.Audience.{identity, groups_of, is_among, is_in, is_named, is_owner, may};
+ghost use Rattle.an_policy.specs.Audience.{identity, groups_of, is_among, is_in, is_named};
+ghost use Rattle.an_policy.specs.Audience.{is_owner, may};
 
 use crate::group::{Audience, Group};
 use crate::who::Who;

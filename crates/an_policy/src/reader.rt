@@ -4,7 +4,9 @@ ghost use Rattle.std.specs.List.{list_all};
 ghost use Rattle.serde_json.specs.Data.{array};
 ghost use Rattle.serde_json.specs.View.{view, items_view};
 ghost use Rattle.an_base.specs.Outcome.{Gives};
-ghost use Rattle.an_policy.specs.Reader.{is_user, is_user_sign, role_named, token_in, role_in, user_in, group_in, groups_in, groups_of_tree, groups_with, reader_of};
+ghost use Rattle.an_policy.specs.Reader.{is_user, is_user_sign, role_named, token_in, role_in};
+ghost use Rattle.an_policy.specs.Reader.{user_in, group_in, groups_in, groups_of_tree, groups_with};
+ghost use Rattle.an_policy.specs.Reader.{reader_of};
 
 use crate::permission::is_among;
 use an_base::{List, Name, NameError, Text, TryCopy, is_token, text_in};
@@ -71,7 +73,8 @@ pub fn read_reader(
     name: Name,
     version: u32,
 ) -> Result<Reader, ReaderError>
-    ensures reader { Gives (λ r. r) ReaderError.Memory result (reader_of (view tree.now) name version) }
+    ensures reader { Gives
+        (λ r. r) ReaderError.Memory result (reader_of (view tree.now) name version) }
     ensures named { IfOk result (λ r. r.name ≡ name) }
     ensures numbered { IfOk result (λ r. r.version ≡ version) }
 {
@@ -134,7 +137,9 @@ fn user_in(tree: &Value) -> Option<&str>
     }
 }
 
-fn is_user(text: &str) -> bool
+/// Whether a text may be a reader's `user`, an IRI: 1 to 200 bytes without white space and control
+/// signs of ASCII. Takes no memory.
+pub fn is_user(text: &str) -> bool
     ensures { result ≡ is_user text.now }
 {
     1 <= text.len() && text.len() <= 200 && has_user_signs(text.as_bytes())
@@ -158,7 +163,8 @@ fn role_named(text: &str) -> Option<Role>
 }
 
 fn read_groups(alloc: Global, tree: &Value) -> Result<List<Name>, ReaderError>
-    ensures { Gives (λ groups. groups) ReaderError.Memory result (ok_or (groups_in (view tree.now)) ReaderError.Groups) }
+    ensures { Gives (λ groups. groups) ReaderError.Memory result
+        (ok_or (groups_in (view tree.now)) ReaderError.Groups) }
 {
     match tree.get("groups") {
         None => Ok(List::new(alloc)),

@@ -1,8 +1,10 @@
 -- The pages of a list, and the page of a search (IIIF Content Search API 2.0; Web Annotation Data
 -- Model, section 5).
-use Rattle.std.specs.Prelude.{ℕ, ◌+◌, ◌-◌, ◌*◌, max, nat_lt, List, ◌++◌, take, drop, codes, decimal, Option, Some, None, if◌then◌else◌}
+use Rattle.std.specs.Prelude.{ℕ, ◌+◌, ◌-◌, ◌*◌, max, nat_lt, List, ◌++◌, take, drop, codes, decimal}
+use Rattle.std.specs.Prelude.{Option, Some, None, if◌then◌else◌}
 use Rattle.std.specs.Int.{div_ceil}
-use Rattle.serde_json.specs.Data.{Data, number, unsigned, string, array, object, Items, member, no_members}
+use Rattle.serde_json.specs.Data.{Data, number, unsigned, string, array, object, Items, member}
+use Rattle.serde_json.specs.Data.{no_members}
 use Rattle.an_base.specs.Object.{with_member_if}
 
 -- how many pages a list has: one at least, and as many as hold its items

@@ -1,8 +1,10 @@
 -- For private clauses: the members of a page in the order in which they are written.
 use Rattle.std.specs.Prelude.{ℕ, List, [], ◌++◌, codes, Option, None, Some}
-use Rattle.serde_json.specs.Data.{Data, number, unsigned, string, array, Items, Members, member, no_members}
+use Rattle.serde_json.specs.Data.{Data, number, unsigned, string, array, Items, Members, member}
+use Rattle.serde_json.specs.Data.{no_members}
 use Rattle.an_base.specs.Write.{member_text}
-use Rattle.an_search.specs.Page.{page_count, start_of, page_iri, whole_link, link_after, link_before, search_context}
+use Rattle.an_search.specs.Page.{page_count, start_of, page_iri, whole_link, link_after}
+use Rattle.an_search.specs.Page.{link_before, search_context}
 
 -- the member, where there is a value, before others
 abbrev pub member_if : List ℕ → Option Data → Members → Members

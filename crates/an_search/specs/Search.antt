@@ -1,5 +1,6 @@
 -- A search for one word in the annotations on a manifest (IIIF Content Search API 2.0).
-use Rattle.std.specs.Prelude.{ℕ, List, [], ◌++◌, length, filter, codes, bytes_eq, Bool, is_some, if◌then◌else◌, Result, Ok, Err}
+use Rattle.std.specs.Prelude.{ℕ, List, [], ◌++◌, length, filter, codes, bytes_eq, Bool, is_some}
+use Rattle.std.specs.Prelude.{if◌then◌else◌, Result, Ok, Err}
 use Rattle.std.specs.List.{list_all, list_any, filter_map}
 use Rattle.serde_json.specs.Data.{Data}
 use Rattle.serde_json.specs.View.{items_of}

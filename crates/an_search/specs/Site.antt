@@ -1,5 +1,6 @@
 -- What the settings stand for, and their forms.
-use Rattle.std.specs.Prelude.{ℕ, List, length, codes, nat_eq, nat_lt, nat_le, Bool, not, ◌&&◌, ◌||◌, ◌==◌}
+use Rattle.std.specs.Prelude.{ℕ, List, length, codes, nat_eq, nat_lt, nat_le, Bool, not, ◌&&◌, ◌||◌}
+use Rattle.std.specs.Prelude.{◌==◌}
 use Rattle.std.specs.Char.{is_ascii_alphanumeric}
 use Rattle.std.specs.List.{list_all, starts_with, ends_with}
 

@@ -1,4 +1,5 @@
-ghost use Rattle.std.specs.Prelude.{◌≡◌, ◌+◌, ◌<◌, ◌≤◌, ◌^◌, List, [], ◌∷◌, ◌++◌, filter, map, slice_get, IfOk, IsTrue, Ok, string_bytes};
+ghost use Rattle.std.specs.Prelude.{◌≡◌, ◌+◌, ◌<◌, ◌≤◌, ◌^◌, List, [], ◌∷◌, ◌++◌, filter, map};
+ghost use Rattle.std.specs.Prelude.{slice_get, IfOk, IsTrue, Ok, string_bytes};
 ghost use Rattle.std.specs.List.{filter_map, list_all};
 ghost use Rattle.serde_json.specs.Written.{compact_text};
 ghost use Rattle.an_base.specs.Outcome.{Gives};
@@ -72,7 +73,8 @@ fn first_page<T: Look, L: Ledger>(
     settings: &Settings,
     steps: &mut Steps<L>,
 ) -> Result<Bytes, AllocError>
-    ensures { IfOk result (λ page. page ≡ compact_text (page_of_search settings.now manifest.now word.now 1
+    ensures { IfOk result (λ page. page
+        ≡ compact_text (page_of_search settings.now manifest.now word.now 1
         (hits (view_of (T.state look.now) (identity who.now)) manifest.now (terms_of word.now)))) }
 {
     let wanted = occurrences(alloc, word)?;
@@ -131,7 +133,8 @@ fn find<T: Look, L: Ledger>(
     steps: &mut Steps<L>,
 ) -> Result<Found, AllocError>
     ensures { IfOk result (HasFound settings.now.base settings.now.size
-        (filter (matches (map (λ o. o.term) wanted.now)) (filter_map (slice_get (T.state look.now).notes) places.now))) }
+        (filter (matches (map (λ o. o.term) wanted.now))
+        (filter_map (slice_get (T.state look.now).notes) places.now))) }
 {
     let mut found = Found {
         items: Vec::new(alloc),

@@ -2,7 +2,8 @@ ghost use Rattle.std.specs.Prelude.{◌≡◌, ◌++◌, ◌≤◌, codes, IfOk,
 ghost use Rattle.serde_json.specs.Data.{Items, array, string};
 ghost use Rattle.serde_json.specs.Written.{compact_text};
 ghost use Rattle.an_base.specs.Write.{commas, item_commas, member_text};
-ghost use Rattle.an_search.specs.Page.{page_count, start_of, page_iri, page_link, whole_link, link_after, link_before, search_context, search_page};
+ghost use Rattle.an_search.specs.Page.{page_count, start_of, page_iri, page_link, whole_link};
+ghost use Rattle.an_search.specs.Page.{link_after, link_before, search_context, search_page};
 ghost use Rattle.an_search.specs.PageText.{content_text, text_if, place_members};
 
 use an_base::{

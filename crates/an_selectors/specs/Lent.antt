@@ -3,7 +3,8 @@ use Rattle.std.specs.Prelude.{option_map}
 use Rattle.an_selectors.specs.declared.lent.Lent.{Lent}
 use Rattle.an_selectors.specs.declared.lent.Lent.TheVariants as lent
 use Rattle.an_selectors.specs.declared.selector.Selector.{Selector}
-use Rattle.an_selectors.specs.declared.selector.Selector.TheVariants.{Fragment, Quote, Position, Other}
+use Rattle.an_selectors.specs.declared.selector.Selector.TheVariants.{Fragment, Quote, Position}
+use Rattle.an_selectors.specs.declared.selector.Selector.TheVariants.{Other}
 
 -- the selector that owns what is lent
 abbrev pub owned : Lent → Selector

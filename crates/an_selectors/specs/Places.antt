@@ -1,6 +1,8 @@
 -- Places in a text, in Unicode code points: what a selector selects, and the quote of what stands
 -- at a place.
-use Rattle.std.specs.Prelude.{ℕ, ◌+◌, ◌-◌, ◌≤◌, List, [], ◌∷◌, length, take, drop, slice_range, map, filter, Bool, ◌&&◌, ◌==◌, nat_eq, nat_le, if◌then◌else◌, encode_utf8_all}
+use Rattle.std.specs.Prelude.{ℕ, ◌+◌, ◌-◌, ◌≤◌, List, [], ◌∷◌, length, take, drop, slice_range, map}
+use Rattle.std.specs.Prelude.{filter, Bool, ◌&&◌, ◌==◌, nat_eq, nat_le, if◌then◌else◌}
+use Rattle.std.specs.Prelude.{encode_utf8_all}
 use Rattle.std.specs.List.{starts_with, ends_with, range_with_len}
 use Rattle.std.specs.Str.{chars}
 use Rattle.an_base.specs.declared.span.Span.{Span}

@@ -1,5 +1,7 @@
 -- Regions of an image (Media Fragments URI 1.0, section 4.2.2), in pixels.
-use Rattle.std.specs.Prelude.{ℕ, List, [], ◌∷◌, ◌==◌, length, drop, nat_eq, nat_le, codes, if◌then◌else◌, Option, Some, None, option_map, option_and_then, unwrap_or}
+use Rattle.std.specs.Prelude.{ℕ, List, [], ◌∷◌, ◌==◌, length, drop, nat_eq, nat_le, codes}
+use Rattle.std.specs.Prelude.{if◌then◌else◌, Option, Some, None, option_map, option_and_then}
+use Rattle.std.specs.Prelude.{unwrap_or}
 use Rattle.std.specs.List.{starts_with, slice_split}
 use Rattle.an_base.specs.Outcome.{only_if}
 use Rattle.an_base.specs.Decimal.{decimal_of}

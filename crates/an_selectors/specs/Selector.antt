@@ -1,13 +1,16 @@
 -- Selectors (Web Annotation Data Model, section 4.2): the one that a tree describes, or why it
 -- describes none.
-use Rattle.std.specs.Prelude.{ℕ, ◌^◌, List, [], Bool, ◌||◌, codes, nat_lt, is_some, if◌then◌else◌, Option, Some, None, option_map, option_and_then, unwrap_or, Result, Ok, Err}
+use Rattle.std.specs.Prelude.{ℕ, ◌^◌, List, [], Bool, ◌||◌, codes, nat_lt, is_some, if◌then◌else◌}
+use Rattle.std.specs.Prelude.{Option, Some, None, option_map, option_and_then, unwrap_or, Result}
+use Rattle.std.specs.Prelude.{Ok, Err}
 use Rattle.serde_json.specs.Data.{Data, Items}
 use Rattle.serde_json.specs.Find.{get, as_str, as_number, as_u64, as_array}
 use Rattle.an_base.specs.Outcome.{only_if, or_refuse}
 use Rattle.an_base.specs.Member.{text_in, has_item}
 use Rattle.an_base.specs.Tree.{one_or_many}
 use Rattle.an_selectors.specs.declared.selector.Selector.{Selector}
-use Rattle.an_selectors.specs.declared.selector.Selector.TheVariants.{Fragment, Quote, Position, Other}
+use Rattle.an_selectors.specs.declared.selector.Selector.TheVariants.{Fragment, Quote, Position}
+use Rattle.an_selectors.specs.declared.selector.Selector.TheVariants.{Other}
 use Rattle.an_selectors.specs.declared.selector.SelectorError.{SelectorError}
 use Rattle.an_selectors.specs.declared.selector.SelectorError.TheVariants as error
 

@@ -1,6 +1,7 @@
 -- For private clauses: how the search for a text walks over another, from each place where it
 -- stands to the next.
-use Rattle.std.specs.Prelude.{◌≡◌, ℕ, ◌+◌, ◌-◌, ◌<◌, ◌≤◌, List, length, take, drop, map, filter, false, ◌++◌, nat_eq}
+use Rattle.std.specs.Prelude.{◌≡◌, ℕ, ◌+◌, ◌-◌, ◌<◌, ◌≤◌, List, length, take, drop, map, filter}
+use Rattle.std.specs.Prelude.{false, ◌++◌, nat_eq}
 use Rattle.std.specs.List.{starts_with, range_with_len}
 use Rattle.std.specs.Str.{chars, IsCharBoundary}
 use Rattle.an_base.specs.declared.span.Span.{Span}

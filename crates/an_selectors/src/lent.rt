@@ -1,7 +1,9 @@
 ghost use Rattle.std.specs.Prelude.{◌≡◌, [], unwrap_or, option_map};
 ghost use Rattle.std.specs.Result.{result_map_both};
 ghost use Rattle.serde_json.specs.View.{view, items_view};
-ghost use Rattle.an_selectors.specs.Selector.{types_in, optional_text_in, number_in, fragment_of, quote_of, position_of, selector_of_types, selector_of};
+ghost use Rattle.an_selectors.specs.Selector.{types_in, optional_text_in, number_in, fragment_of};
+ghost use Rattle.an_selectors.specs.Selector.{quote_of, position_of, selector_of_types};
+ghost use Rattle.an_selectors.specs.Selector.{selector_of};
 ghost use Rattle.an_selectors.specs.Lent.{owned};
 
 use crate::selector::SelectorError;
@@ -104,7 +106,8 @@ fn types_in(tree: &Value) -> Option<&[Value]>
 
 /// The text that a member is, if the member is there; none where it is no text.
 fn optional_text_in<'a>(tree: &'a Value, name: &str) -> Option<Option<&'a str>>
-    ensures { option_map (λ o. option_map (λ s. s.now) o) result ≡ optional_text_in name.now (view tree.now) }
+    ensures { option_map (λ o. option_map (λ s. s.now) o) result
+        ≡ optional_text_in name.now (view tree.now) }
 {
     match tree.get(name) {
         Some(value) => match value.as_str() {

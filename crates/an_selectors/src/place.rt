@@ -45,7 +45,8 @@ fn places_of_quote(
     suffix: &str,
 ) -> Result<Vec<Span>, AllocError>
     ensures { IfOk result (λ v. v.items
-        ≡ places_of_quote (chars exact.now) (chars prefix.now) (chars suffix.now) (chars text.now)) }
+        ≡ places_of_quote (chars exact.now) (chars prefix.now) (chars suffix.now)
+        (chars text.now)) }
 {
     let width = char_count(exact);
     if width == 0 {
@@ -65,7 +66,8 @@ fn spans_of(
 ) -> Result<Vec<Span>, AllocError>
     requires some { 0 < width }
     requires within { before + width ≤ length (chars whole.now) }
-    ensures { IfOk result (λ v. v.items ≡ spans_of (chars whole.now) before width (chars text.now)) }
+    ensures { IfOk result (λ v. v.items
+        ≡ spans_of (chars whole.now) before width (chars text.now)) }
 {
     let mut found = Vec::new(alloc);
     let Some(first) = next_point(text, Point { at: 0, number: 0 }, whole) else {

@@ -26,7 +26,8 @@ impl TryCopy for Quote {
 
 /// The quote of what stands at a span of a text, with `around` code points directly before and
 /// behind it, or all that are there where they are fewer (Web Annotation Data Model, section
-/// 4.2.4). A span that isn't empty is among the places of its quote. The only error is want of memory.
+/// 4.2.4). A span that isn't empty is among the places of its quote. The only error is want of
+/// memory.
 pub fn quote_at(alloc: Global, text: &str, span: Span, around: usize) -> Result<Quote, AllocError>
     requires lies_in { LiesIn text.now span }
     ensures quote { IfOk result (λ q. q ≡ quote_of_span text.now span around) }

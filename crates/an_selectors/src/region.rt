@@ -1,5 +1,6 @@
 ghost use Rattle.std.specs.Prelude.{◌≡◌, [], ◌∷◌, MatchOption, option_map};
-ghost use Rattle.an_selectors.specs.Region.{behind, coordinate, parts_of, region_of, region_of_numbers, region_of_parts, size, without_unit};
+ghost use Rattle.an_selectors.specs.Region.{behind, coordinate, parts_of, region_of};
+ghost use Rattle.an_selectors.specs.Region.{region_of_numbers, region_of_parts, size, without_unit};
 
 use an_base::read_decimal;
 

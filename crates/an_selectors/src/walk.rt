@@ -28,7 +28,8 @@ pub(crate) fn point_after(text: &str, needle: &str, last: Point, point: Point) -
     requires stands { StandsAt needle.now text.now point }
     requires some { 0 < length needle.now }
     ensures { MatchOption result
-        (StandsNowhere (chars needle.now) (chars text.now) (point.number + 1) (length (chars text.now)))
+        (StandsNowhere (chars needle.now) (chars text.now)
+        (point.number + 1) (length (chars text.now)))
         (IsNext needle.now text.now (point.number + 1)) }
 {
     match point_repeated(text, needle, last, point) {

@@ -1,5 +1,6 @@
 -- The words of a text, each with the term that it is found by.
-use Rattle.std.specs.Prelude.{◌≡◌, ℕ, ◌+◌, ◌<◌, ◌≤◌, List, [], ◌∷◌, length, slice_range, map, filter, encode_utf8_all}
+use Rattle.std.specs.Prelude.{◌≡◌, ℕ, ◌+◌, ◌<◌, ◌≤◌, List, [], ◌∷◌, length, slice_range, map}
+use Rattle.std.specs.Prelude.{filter, encode_utf8_all}
 use Rattle.std.specs.Str.{chars}
 use Rattle.caseless.specs.Caseless.{default_case_fold}
 use Rattle.unicode_normalization.specs.Forms.{nfc, nfd}

@@ -1,4 +1,6 @@
-ghost use Rattle.std.specs.Prelude.{◌≡◌, [], ◌∷◌, ◌++◌, ◌==◌, ◌&&◌, ◌-◌, if◌then◌else◌, nat_lt, not, chars, count_by, encode_utf8_all, string_bytes, IfOk, OnOk};
+ghost use Rattle.std.specs.Prelude.{◌≡◌, [], ◌∷◌, ◌++◌, ◌==◌, ◌&&◌, ◌-◌, if◌then◌else◌, nat_lt};
+ghost use Rattle.std.specs.Prelude.{not, chars, count_by, encode_utf8_all, string_bytes, IfOk};
+ghost use Rattle.std.specs.Prelude.{OnOk};
 ghost use Rattle.an_terms.specs.Html.{plain_of_html};
 
 use an_base::Text;

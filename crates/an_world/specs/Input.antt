@@ -1,5 +1,6 @@
 -- The input of a link in memory, which is given piece by piece.
-use Rattle.std.specs.Prelude.{ℕ, ◌-◌, min, nat_lt, if◌then◌else◌, List, [], ◌∷◌, ◌++◌, length, take, drop, filter}
+use Rattle.std.specs.Prelude.{ℕ, ◌-◌, min, nat_lt, if◌then◌else◌, List, [], ◌∷◌, ◌++◌, length, take}
+use Rattle.std.specs.Prelude.{drop, filter}
 
 -- the bytes that were given, those that are left, and the lengths of the pieces to come; behind
 -- these pieces comes the rest

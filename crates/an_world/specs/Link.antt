@@ -1,5 +1,6 @@
 -- What a link tells of its bytes, and how a call may change that and the counts of faults.
-use Rattle.std.specs.Prelude.{◌≡◌, ℕ, ◌-◌, ◌^◌, ◌<◌, ◌↔◌, List, [], ◌++◌, length, take, ◌≤◌, Option, Some, None}
+use Rattle.std.specs.Prelude.{◌≡◌, ℕ, ◌-◌, ◌^◌, ◌<◌, ◌↔◌, List, [], ◌++◌, length, take, ◌≤◌, Option}
+use Rattle.std.specs.Prelude.{Some, None}
 
 -- the bytes that a link has read, those that it has left to read, and those that it has written
 pub record Traffic : Type 0 where

@@ -1,5 +1,6 @@
 -- What a link in memory does at each call.
-use Rattle.std.specs.Prelude.{ℕ, ◌-◌, ◌==◌, ◌||◌, min, Bool, if◌then◌else◌, List, [], ◌++◌, length, take}
+use Rattle.std.specs.Prelude.{ℕ, ◌-◌, ◌==◌, ◌||◌, min, Bool, if◌then◌else◌, List, [], ◌++◌, length}
+use Rattle.std.specs.Prelude.{take}
 use Rattle.an_world.specs.Link.{Traffic}
 use Rattle.an_world.specs.Input.{Pieces, pieces_of, count_for, pieces_behind}
 use Rattle.an_world.specs.Calls.{CallCounts, is_next_failing, called, failed}

@@ -1,4 +1,5 @@
-ghost use Rattle.std.specs.Prelude.{◌≡◌, ◌<◌, ◌≤◌, ◌↔◌, [], ◌++◌, length, take, drop, filter, nat_lt, vec_len};
+ghost use Rattle.std.specs.Prelude.{◌≡◌, ◌<◌, ◌≤◌, ◌↔◌, [], ◌++◌, length, take, drop, filter};
+ghost use Rattle.std.specs.Prelude.{nat_lt, vec_len};
 ghost use Rattle.an_world.specs.Input.{pieces_of, piece_of, count_for, cut_behind, pieces_behind};
 
 use an_base::Bytes;

@@ -1,5 +1,5 @@
-//! What the server meets outside: links that give bytes and take bytes, two kinds of link that stand
-//! in memory, and clocks.
+//! What the server meets outside: links that give bytes and take bytes, two kinds of link that
+//! stand in memory, and clocks.
 #![tactic(auto)]
 
 pub use clock::{Clock, SetClock};

@@ -7,8 +7,8 @@ pub struct LinkFault;
 
 /// A way to the outside, from which bytes are read and to which bytes are written.
 ///
-/// A link tells its bytes for as long as it is there, or never. A call fails only where its count of
-/// faults rises, a failed call moves no bytes, and no count ever falls. A count stands still at
+/// A link tells its bytes for as long as it is there, or never. A call fails only where its count
+/// of faults rises, a failed call moves no bytes, and no count ever falls. A count stands still at
 /// `u64::MAX`.
 pub trait Link: Drop {
     ghost use Rattle.std.specs.Prelude.{Bool, ℕ, Option};

@@ -2,7 +2,8 @@ ghost use Rattle.std.specs.Prelude.{◌≡◌, ◌<◌, ◌≤◌, ◌↔◌, []
 ghost use Rattle.an_world.specs.Link.{Rises, MovesRead, AddsWritten};
 ghost use Rattle.an_world.specs.Input.{count_for};
 ghost use Rattle.an_world.specs.Calls.{is_next_failing};
-ghost use Rattle.an_world.specs.Memory.{memory_of, traffic_of, after_read, is_write_failing, taken, after_write};
+ghost use Rattle.an_world.specs.Memory.{memory_of, traffic_of, after_read, is_write_failing, taken};
+ghost use Rattle.an_world.specs.Memory.{after_write};
 
 use crate::calls::Calls;
 use crate::input::Input;
@@ -40,12 +41,12 @@ impl Model for MemLink {
 }
 
 impl MemLink {
-    /// A link with this input, of which each read gives no more than the next piece of `cut`, or the
-    /// rest behind the last piece. A piece of 0 bytes is no piece.
+    /// A link with this input, of which each read gives no more than the next piece of `cut`, or
+    /// the rest behind the last piece. A piece of 0 bytes is no piece.
     ///
-    /// The calls of `read` with the numbers of `fail_reads` fail, and those of `write` with the numbers
-    /// of `fail_writes`, each counted from 1. `room` bytes can be written to it, and the memory for
-    /// them is taken here.
+    /// The calls of `read` with the numbers of `fail_reads` fail, and those of `write` with the
+    /// numbers of `fail_writes`, each counted from 1. `room` bytes can be written to it, and the
+    /// memory for them is taken here.
     pub fn new(
         alloc: Global,
         input: Bytes,
@@ -106,8 +107,8 @@ impl Link for MemLink {
 
     ghost sure_writes = { λ sure link. absurd (false≢true sure) };
 
-    /// Fails exactly where the call is listed, and otherwise gives as much of the next piece as there
-    /// is room for.
+    /// Fails exactly where the call is listed, and otherwise gives as much of the next piece as
+    /// there is room for.
     fn read(&mut self, into: &mut [u8]) -> Result<usize, LinkFault>
         requires { 0 < length into.old }
         ensures fails { is_err result ≡ is_next_failing self.old.reads }
@@ -132,8 +133,8 @@ impl Link for MemLink {
         Ok(self.input.give(into))
     }
 
-    /// Fails exactly where the call is listed or no room is left, and otherwise takes as much as there
-    /// is room for.
+    /// Fails exactly where the call is listed or no room is left, and otherwise takes as much as
+    /// there is room for.
     fn write(&mut self, from: &[u8]) -> Result<usize, LinkFault>
         requires { 0 < length from.now }
         ensures fails { is_err result ≡ is_write_failing self.old }
@@ -144,7 +145,8 @@ impl Link for MemLink {
         ensures some { IfOk result (λ count. 0 < count) }
         ensures within { IfOk result (λ count. count ≤ length from.now) }
         ensures adds { IfOk result
-            (λ count. AddsWritten (take count from.now) (traffic_of self.old) (traffic_of self.new)) }
+            (λ count. AddsWritten (take count from.now)
+            (traffic_of self.old) (traffic_of self.new)) }
         ensures fault_still { OnErr result (traffic_of self.new ≡ traffic_of self.old) }
         ensures fault_counted { OnErr result (Rises self.old.writes.faults self.new.writes.faults) }
         ensures read_faults_kept { self.old.reads.faults ≤ self.new.reads.faults }

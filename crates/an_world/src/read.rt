@@ -36,8 +36,8 @@ impl From<LinkFault> for LinkError {
 /// How many bytes one read of `read_to` asks for at most.
 const READ_SIZE: usize = 65_536;
 
-/// Reads once, into `room`, and puts what came behind the bytes that are held. Answers how many bytes
-/// came: 0 at the end of the input alone. Whatever it answers, no byte that was read is lost.
+/// Reads once, into `room`, and puts what came behind the bytes that are held. Answers how many
+/// bytes came: 0 at the end of the input alone. Whatever it answers, no byte that was read is lost.
 pub fn read_on<L: Link>(
     link: &mut L,
     room: &mut [u8],
@@ -49,7 +49,8 @@ pub fn read_on<L: Link>(
     ensures end { IfOk result (λ count. count ≡ 0 → IsAtEnd (L.traffic link.new)) }
 
     // Whatever the answer is.
-    ensures reads { ReadsOn (L.traffic link.old) (L.traffic link.new) held.old.items held.new.items }
+    ensures reads { ReadsOn (L.traffic link.old) (L.traffic link.new)
+        held.old.items held.new.items }
     ensures within { length held.new.items ≤ length held.old.items + length room.old }
     ensures fault { result ≡ Err LinkError.ReadFault
         → Rises (L.read_faults link.old) (L.read_faults link.new) }

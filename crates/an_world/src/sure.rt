@@ -26,8 +26,8 @@ impl Model for SureLink {
 }
 
 impl SureLink {
-    /// A link with this input, of which each read gives no more than the next piece of `cut`, or the
-    /// rest behind the last piece. A piece of 0 bytes is no piece. Takes no memory.
+    /// A link with this input, of which each read gives no more than the next piece of `cut`, or
+    /// the rest behind the last piece. A piece of 0 bytes is no piece. Takes no memory.
     pub fn new(input: Bytes, cut: Vec<usize>) -> SureLink
         ensures start { result ≡ sure_of input cut.items }
     {
@@ -62,7 +62,8 @@ impl Link for SureLink {
         // What each link ensures.
         ensures within { IfOk result (λ count. count ≤ length into.old) }
         ensures moves { IfOk result
-            (λ count. MovesRead (take count into.new) (sure_traffic self.old) (sure_traffic self.new)) }
+            (λ count. MovesRead (take count into.new)
+            (sure_traffic self.old) (sure_traffic self.new)) }
         ensures end { IfOk result (λ count. (count ≡ 0) ↔ (self.old.input.left ≡ [])) }
     {
         Ok(self.input.give(into))

@@ -3,8 +3,8 @@ ghost use Rattle.std.specs.Prelude.{◌≡◌, List, ℕ, [], ◌++◌};
 
 use std::marker::{Model, PhantomData};
 
-/// The bytes that were written to a link, for contracts alone: it takes no memory and no time, and its
-/// methods do nothing at run time. A clause reads them as `bytes`.
+/// The bytes that were written to a link, for contracts alone: it takes no memory and no time, and
+/// its methods do nothing at run time. A clause reads them as `bytes`.
 #[derive(Drop)]
 pub(crate) struct Written {
     marker: PhantomData<u8>,
