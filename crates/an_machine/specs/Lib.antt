@@ -11,3 +11,4 @@ pub mod Sound
 pub mod Book
 pub mod Commands
 pub mod Live
+pub mod Tables

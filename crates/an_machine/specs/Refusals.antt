@@ -1,5 +1,6 @@
 -- Why a write is refused, in the order of the refusals.
-use Rattle.std.specs.Prelude.{ℕ, List, [], ◌∷◌, Bool, true, false, ◌&&◌, ◌||◌, not, bytes_eq, Option, Some, None, option_and_then}
+use Rattle.std.specs.Prelude.{ℕ, List, [], ◌∷◌, Bool, true, false, ◌&&◌, ◌||◌, not, bytes_eq}
+use Rattle.std.specs.Prelude.{Option, Some, None, option_and_then}
 use Rattle.std.specs.List.{list_any}
 use Rattle.an_base.specs.Outcome.{when, passes}
 use Rattle.an_policy.specs.declared.group.Group.{Group}

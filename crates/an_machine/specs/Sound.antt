@@ -1,9 +1,11 @@
 -- What holds in every state that writes lead to.
-use Rattle.std.specs.Prelude.{ℕ, int_lt, List, [], ◌∷◌, Bool, true, ◌&&◌, not, bytes_eq, is_some, None, Some}
+use Rattle.std.specs.Prelude.{ℕ, int_lt, List, [], ◌∷◌, Bool, true, ◌&&◌, not, bytes_eq, is_some}
+use Rattle.std.specs.Prelude.{None, Some}
 use Rattle.std.specs.List.{list_all, list_any}
 use Rattle.an_base.specs.Outcome.{passes}
 use Rattle.an_policy.specs.declared.reader.Reader.{Reader}
-use Rattle.an_machine.specs.State.{State, KeptReader, KeptNote, keys_are_distinct, reader_key, live_readers, manifest_row, is_distinct}
+use Rattle.an_machine.specs.State.{State, KeptReader, KeptNote, keys_are_distinct, reader_key}
+use Rattle.an_machine.specs.State.{live_readers, manifest_row, is_distinct}
 use Rattle.an_machine.specs.Rows.{reader_agrees}
 use Rattle.an_machine.specs.declared.activity.Activity.{Activity}
 

@@ -1,6 +1,7 @@
 -- What the server knows: four lists, in the order in which their rows were first made. A row stays
 -- in its place for good.
-use Rattle.std.specs.Prelude.{ℕ, ℤ, List, [], ◌∷◌, Bool, true, ◌&&◌, not, Option, Some, None, option_map, option_and_then, find, bytes_eq}
+use Rattle.std.specs.Prelude.{ℕ, ℤ, List, [], ◌∷◌, Bool, true, ◌&&◌, not, Option, Some, None}
+use Rattle.std.specs.Prelude.{option_map, option_and_then, find, bytes_eq}
 use Rattle.std.specs.List.{filter_map, list_any}
 use Rattle.serde_json.specs.Data.{Data}
 use Rattle.an_policy.specs.declared.group.Group.{Group}

@@ -1,5 +1,6 @@
 -- The rule on versions: the numbers that make a write safe to send again.
-use Rattle.std.specs.Prelude.{ℕ, ◌+◌, Bool, true, false, ◌&&◌, ◌||◌, ◌==◌, not, bytes_eq, is_some, Option, option_map, unwrap_or}
+use Rattle.std.specs.Prelude.{ℕ, ◌+◌, Bool, true, false, ◌&&◌, ◌||◌, ◌==◌, not, bytes_eq, is_some}
+use Rattle.std.specs.Prelude.{Option, option_map, unwrap_or}
 use Rattle.std.specs.Cmp.Lexicographic.{pointwise}
 use Rattle.an_base.specs.Outcome.{passes}
 use Rattle.an_base.specs.Tree.{same_text}

@@ -1,5 +1,6 @@
 -- What a caller may read.
-use Rattle.std.specs.Prelude.{ℕ, ◌+◌, List, [], ◌∷◌, Bool, ◌&&◌, if◌then◌else◌, bytes_eq, filter, find, is_some, Option, Some, None, option_map}
+use Rattle.std.specs.Prelude.{ℕ, ◌+◌, List, [], ◌∷◌, Bool, ◌&&◌, if◌then◌else◌, bytes_eq, filter}
+use Rattle.std.specs.Prelude.{find, is_some, Option, Some, None, option_map}
 use Rattle.std.specs.List.{filter_map, last_or}
 use Rattle.an_keyed.specs.Key.{Key, same_key}
 use Rattle.an_policy.specs.declared.group.Audience.{Audience}

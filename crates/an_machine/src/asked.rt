@@ -5,7 +5,9 @@ ghost use Rattle.an_base.specs.Outcome.{Gives};
 ghost use Rattle.an_manifest.specs.Manifest.{manifest_of};
 ghost use Rattle.an_model.specs.Note.{note_of};
 ghost use Rattle.an_policy.specs.Reader.{reader_of};
-ghost use Rattle.an_machine.specs.Asked.{asked_of, asked_manifest, asked_note, is_private, manifest_asked, manifest_under, no_manifest, no_note, no_reader, object_of};
+ghost use Rattle.an_machine.specs.Asked.{asked_of, asked_manifest, asked_note, is_private};
+ghost use Rattle.an_machine.specs.Asked.{manifest_asked, manifest_under, no_manifest, no_note};
+ghost use Rattle.an_machine.specs.Asked.{no_reader, object_of};
 
 use crate::command::{Command, Object, Refused, object_of};
 use an_base::{Code, Name, Tree, TryCopy};

@@ -1,13 +1,17 @@
-ghost use Rattle.std.specs.Prelude.{◌≡◌, ◌+◌, ◌<◌, ◌≤◌, ◌++◌, IfSome, IsTrue, OnOk, length};
+ghost use Rattle.std.specs.Prelude.{◌≡◌, ◌+◌, ◌<◌, ◌≤◌, ◌++◌, IfOk, IfSome, IsTrue, OnOk, Some};
+ghost use Rattle.std.specs.Prelude.{length};
 ghost use Rattle.std.specs.Option.{option_copied};
-ghost use Rattle.an_machine.specs.State.{empty, reader_row, manifest_row, note_row, reader_token, manifests_are_distinct, notes_are_distinct};
+ghost use Rattle.an_machine.specs.State.{empty, reader_row, manifest_row, note_row, reader_token};
+ghost use Rattle.an_machine.specs.State.{manifests_are_distinct, notes_are_distinct};
 ghost use Rattle.an_keyed.specs.Marks.{marked_place, marked_row};
 ghost use Rattle.an_machine.specs.Entries.{with_row, with_rows, after, needs};
+ghost use Rattle.an_machine.specs.Tables.{length_of_list, place_of_object, row_in_list};
 
 use crate::activity::Activity;
+use crate::command::Object;
 use crate::entry::{Entry, Row};
 use crate::row::{ManifestRow, NoteRow, ReaderRow};
-use an_base::Name;
+use an_base::{Name, TryCopy};
 use an_keyed::{Log, MarkedRows, Rows};
 use std::alloc::{AllocError, Global};
 use std::marker::Model;
@@ -90,7 +94,8 @@ impl Book {
 
     /// The row of the live reader with this token.
     pub(crate) fn reader_with_token(&self, token: &str) -> Option<&ReaderRow>
-        ensures row { option_copied result ≡ marked_row reader_token token.now self.now.state.readers }
+        ensures row { option_copied result
+            ≡ marked_row reader_token token.now self.now.state.readers }
     {
         self.readers.find_marked(token)
     }
@@ -118,6 +123,47 @@ impl Book {
         ensures distinct { IsTrue (notes_are_distinct self.now.state) }
     {
         self.notes.find(Some(owner), name)
+    }
+
+    /// How many rows a list has: 1 is that of the readers, 2 of the manifests, 3 of the annotations
+    /// and 4 of the activities. It takes no memory.
+    pub fn length(&self, list: u8) -> usize
+        requires first { 1 ≤ list }
+        requires last { list ≤ 4 }
+        ensures length { result ≡ length_of_list self.now.state list }
+    {
+        match list {
+            1 => self.readers().len(),
+            2 => self.manifests.as_slice().len(),
+            3 => self.notes().len(),
+            _ => self.activities().len(),
+        }
+    }
+
+    /// Where an object's row, live or a tombstone, stands in its list. It takes no memory.
+    pub fn place(&self, object: &Object) -> Option<usize>
+        ensures place { result ≡ place_of_object self.now.state object.now }
+    {
+        match object {
+            Object::Reader(name) => self.readers.place(None, name),
+            Object::Manifest(name) => self.manifests.place(None, name),
+            Object::Note { owner, name } => self.notes.place(Some(owner), name),
+        }
+    }
+
+    /// A copy of the row at a place of a list, which is below its length.
+    pub fn row_at(&self, list: u8, place: usize) -> Result<Row, AllocError>
+        requires first { 1 ≤ list }
+        requires last { list ≤ 4 }
+        requires within { place < length_of_list self.now.state list }
+        ensures row { IfOk result (λ row. Some row ≡ row_in_list self.now.state list place) }
+    {
+        match list {
+            1 => Ok(Row::Reader(self.readers()[place].copy()?)),
+            2 => Ok(Row::Manifest(self.manifests.as_slice()[place].copy()?)),
+            3 => Ok(Row::Note(self.notes()[place].copy()?)),
+            _ => Ok(Row::Activity(self.activities()[place].copy()?)),
+        }
     }
 
     /// Takes the memory that the entry needs. No room is lost, also where memory runs out.
@@ -175,7 +221,8 @@ impl Book {
 
     fn add_all(&mut self, activities: Vec<Activity>)
         requires room { length activities.items ≤ self.old.room }
-        ensures state { self.new.state ≡ record self.old.state { activities = self.old.state.activities ++ activities.items } }
+        ensures state { self.new.state
+            ≡ record self.old.state { activities = self.old.state.activities ++ activities.items } }
         ensures room { self.new.room + length activities.items ≡ self.old.room }
     {
         for activity in activities {

@@ -2,7 +2,8 @@
 ghost use Rattle.std.specs.Prelude.{◌≡◌, IfOk, Some, option_and_then, option_map};
 ghost use Rattle.std.specs.Option.{option_copied};
 ghost use Rattle.an_policy.specs.Audience.{identity};
-ghost use Rattle.an_machine.specs.Accepted.{audience_of_manifest, audience_of_note, by_whom, manifest_activity, note_activity};
+ghost use Rattle.an_machine.specs.Accepted.{audience_of_manifest, audience_of_note, by_whom};
+ghost use Rattle.an_machine.specs.Accepted.{manifest_activity, note_activity};
 
 use crate::activity::Activity;
 use crate::book::Book;

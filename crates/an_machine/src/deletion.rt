@@ -1,10 +1,14 @@
 //! An object is deleted.
-ghost use Rattle.std.specs.Prelude.{◌≡◌, [], ◌∷◌, ◌++◌, IfOk, None, map, option_and_then, option_map, option_to_list};
+ghost use Rattle.std.specs.Prelude.{◌≡◌, [], ◌∷◌, ◌++◌, IfOk, None, map, option_and_then};
+ghost use Rattle.std.specs.Prelude.{option_map, option_to_list};
 ghost use Rattle.std.specs.Option.{option_copied};
 ghost use Rattle.an_base.specs.Outcome.{Gives};
 ghost use Rattle.an_policy.specs.Audience.{identity};
 ghost use Rattle.an_machine.specs.State.{manifest_row, note_row};
-ghost use Rattle.an_machine.specs.Accepted.{audience_of_manifest, buried, burial, deletion, manifest_activity, manifest_deletion, manifest_tombstone, note_deletion, note_tombstone, notes_on, number_behind, reader_tombstone};
+ghost use Rattle.an_machine.specs.Accepted.{audience_of_manifest, buried, burial, deletion};
+ghost use Rattle.an_machine.specs.Accepted.{manifest_activity, manifest_deletion};
+ghost use Rattle.an_machine.specs.Accepted.{manifest_tombstone, note_deletion, note_tombstone};
+ghost use Rattle.an_machine.specs.Accepted.{notes_on, number_behind, reader_tombstone};
 ghost use Rattle.an_machine.specs.Step.{judged};
 
 use crate::activity::Activity;

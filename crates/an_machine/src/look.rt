@@ -2,8 +2,10 @@ ghost use Rattle.std.specs.Prelude.{◌≡◌, ◌+◌, IfOk, IsTrue, option_and
 ghost use Rattle.std.specs.Option.{option_copied};
 ghost use Rattle.an_policy.specs.Audience.{identity, signed};
 ghost use Rattle.an_policy.specs.Seen.{as_seen};
-ghost use Rattle.an_machine.specs.State.{who_of, reader_row, reader_with_token, manifest_row, note_row, manifests_are_distinct, notes_are_distinct};
-ghost use Rattle.an_machine.specs.View.{readable_places, is_on, shows_note, seen_by, seen_as, object_of_activity, last_kind};
+ghost use Rattle.an_machine.specs.State.{who_of, reader_row, reader_with_token, manifest_row};
+ghost use Rattle.an_machine.specs.State.{note_row, manifests_are_distinct, notes_are_distinct};
+ghost use Rattle.an_machine.specs.View.{readable_places, is_on, shows_note, seen_by, seen_as};
+ghost use Rattle.an_machine.specs.View.{object_of_activity, last_kind};
 
 use crate::activity::{Activity, Seen};
 use crate::book::Book;
@@ -56,10 +58,11 @@ pub trait Look {
         ensures seen { IfOk result (λ seen. seen.items
             ≡ seen_by (identity who.now) (state self.now).activities) };
 
-    /// What the last change of an object was that the caller sees. A manifest has no owner. No other
-    /// object's changes are looked at.
+    /// What the last change of an object was that the caller sees. A manifest has no owner. No
+    /// other object's changes are looked at.
     fn last_change(&self, who: &Who<'_>, owner: Option<&Name>, name: &Name) -> Option<Kind>
-        ensures last { result ≡ last_kind (record { owner = option_copied owner.entry; name = name.now })
+        ensures last { result ≡ last_kind
+            (record { owner = option_copied owner.entry; name = name.now })
             (seen_by (identity who.now) (state self.now).activities) };
 }
 
@@ -132,7 +135,8 @@ fn seen_as(activity: &Activity, who: &Who<'_>) -> Result<Option<Seen>, AllocErro
     }
 }
 
-/// What the last change of an object was that the caller sees, among the changes of the object alone.
+/// What the last change of an object was that the caller sees, among the changes of the object
+/// alone.
 fn last_change_in(
     log: &Log<Activity>,
     who: &Who<'_>,
@@ -194,7 +198,8 @@ fn with_token<'a>(book: &'a Book, token: &str) -> Option<&'a Reader>
 
 /// The live reader with this name.
 fn live_reader<'a>(book: &'a Book, name: &Name) -> Option<&'a Reader>
-    ensures { option_copied result ≡ option_and_then (λ row. row.live) (reader_row book.now.state name.now) }
+    ensures { option_copied result ≡ option_and_then
+        (λ row. row.live) (reader_row book.now.state name.now) }
 {
     match book.reader_row(name) {
         Some(row) => row.reader(),
@@ -208,7 +213,8 @@ fn readable_in(
     who: &Who<'_>,
     manifest: &Name,
 ) -> Result<Vec<usize>, AllocError>
-    ensures { IfOk result (λ places. places.items ≡ readable_places book.now.state (identity who.now) manifest.now) }
+    ensures { IfOk result (λ places. places.items
+        ≡ readable_places book.now.state (identity who.now) manifest.now) }
 {
     let mut places = Vec::new(alloc);
     let mut place = 0;

@@ -4,7 +4,8 @@ ghost use Rattle.std.specs.Option.{option_copied};
 ghost use Rattle.an_base.specs.Outcome.{Gives, passes};
 ghost use Rattle.an_policy.specs.Audience.{identity};
 ghost use Rattle.an_machine.specs.State.{manifest_row, note_row};
-ghost use Rattle.an_machine.specs.Accepted.{audience_of_note, creator_of, live_in, note_effect, note_made, put_note, user_of};
+ghost use Rattle.an_machine.specs.Accepted.{audience_of_note, creator_of, live_in, note_effect};
+ghost use Rattle.an_machine.specs.Accepted.{note_made, put_note, user_of};
 ghost use Rattle.an_machine.specs.Step.{judged};
 ghost use Rattle.an_machine.specs.Versions.{holds_note};
 

@@ -6,7 +6,8 @@ ghost use Rattle.an_base.specs.Outcome.{first_of, passes, when};
 ghost use Rattle.an_policy.specs.Audience.{identity};
 ghost use Rattle.an_machine.specs.Asked.{manifest_under, object_of};
 ghost use Rattle.an_machine.specs.State.{manifest_row};
-ghost use Rattle.an_machine.specs.Refusals.{is_anothers, is_outside, may_manage, may_write, is_hidden, only_reads, refusals_before};
+ghost use Rattle.an_machine.specs.Refusals.{is_anothers, is_outside, may_manage, may_write};
+ghost use Rattle.an_machine.specs.Refusals.{is_hidden, only_reads, refusals_before};
 ghost use Rattle.an_machine.specs.View.{shows_manifest};
 
 use crate::book::Book;

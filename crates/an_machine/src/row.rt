@@ -107,7 +107,12 @@ impl Model for ManifestRow {
 
     ghost coded = { Prim.hlevel (codes, tree_code) };
 
-    ghost view = { λ m. record { name = m.name; version = m.version; group = m.group; live = live_manifest m.created m.modified m.tree } };
+    ghost view = { λ m. record {
+      name = m.name;
+      version = m.version;
+      group = m.group;
+      live = live_manifest m.created m.modified m.tree;
+    } };
 
     ghost invariant = { λ m. IsTrue (manifest_agrees m.live m.created m.modified m.tree) };
 }
@@ -207,9 +212,15 @@ impl Model for NoteRow {
 
     ghost coded = { Prim.hlevel (codes, tree_code) };
 
-    ghost view = { λ n. record { owner = n.owner; name = n.name; version = n.version; live = live_note n.manifest n.group n.creator n.created n.modified n.tree } };
+    ghost view = { λ n. record {
+      owner = n.owner;
+      name = n.name;
+      version = n.version;
+      live = live_note n.manifest n.group n.creator n.created n.modified n.tree;
+    } };
 
-    ghost invariant = { λ n. IsTrue (note_agrees n.live n.manifest n.group n.creator n.created n.modified n.tree) };
+    ghost invariant = { λ n. IsTrue
+        (note_agrees n.live n.manifest n.group n.creator n.created n.modified n.tree) };
 }
 
 impl Keyed for NoteRow {

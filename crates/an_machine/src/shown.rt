@@ -2,7 +2,8 @@ ghost use Rattle.std.specs.Prelude.{◌≡◌, IsTrue, Some, option_and_then};
 ghost use Rattle.std.specs.Option.{option_copied};
 ghost use Rattle.an_base.specs.Outcome.{only_if, passes};
 ghost use Rattle.an_policy.specs.Audience.{identity, may};
-ghost use Rattle.an_machine.specs.State.{manifest_row, note_row, manifests_are_distinct, notes_are_distinct};
+ghost use Rattle.an_machine.specs.State.{manifest_row, note_row, manifests_are_distinct};
+ghost use Rattle.an_machine.specs.State.{notes_are_distinct};
 ghost use Rattle.an_machine.specs.View.{manifest_in, note_in, shows_manifest, shows_note, view_of};
 
 use crate::look::Look;
@@ -25,7 +26,8 @@ pub fn shown_manifest<'a, T: Look>(
 }
 
 fn row_if_shown<'a, T: Look>(look: &'a T, who: &Who<'_>, name: &Name) -> Option<&'a ManifestRow>
-    ensures row { option_copied result ≡ option_and_then (only_if (shows_manifest (identity who.now)))
+    ensures row { option_copied result
+        ≡ option_and_then (only_if (shows_manifest (identity who.now)))
         (manifest_row (T.state look.now) name.now) }
     ensures distinct { IsTrue (manifests_are_distinct (T.state look.now)) }
 {
@@ -101,7 +103,8 @@ pub(crate) fn is_read_below(
     owner: &Name,
 ) -> bool
     ensures { result ≡ passes
-        (λ m. may (identity who.now) (record { outer = m.group; inner = group.now; owner = Some owner.now }))
+        (λ m. may (identity who.now)
+        (record { outer = m.group; inner = group.now; owner = Some owner.now }))
         (option_copied manifest.entry) }
 {
     match manifest {

@@ -2,7 +2,8 @@
 ghost use Rattle.std.specs.Prelude.{◌≡◌, ◌+◌, ◌==◌, ◌&&◌};
 ghost use Rattle.std.specs.Prelude.{if◌then◌else◌, None, Ok, Err};
 ghost use Rattle.std.specs.Option.{option_copied};
-ghost use Rattle.an_machine.specs.Versions.{current, is_tombstone, manifest_standing, note_standing, reader_standing, same_group};
+ghost use Rattle.an_machine.specs.Versions.{current, is_tombstone, manifest_standing};
+ghost use Rattle.an_machine.specs.Versions.{note_standing, reader_standing, same_group};
 
 use crate::command::Refused;
 use crate::effect::Effect;
