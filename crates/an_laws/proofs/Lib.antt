@@ -17,3 +17,5 @@ pub mod StayLemmas
 pub mod StepLemmas
 pub mod TokensLemmas
 pub mod ToldLemmas
+pub mod ValidLemmas
+pub mod ValidStepLemmas

@@ -1,6 +1,7 @@
 -- How the activities tell the rows: what the change stream says of an object is how the object
 -- stands.
-use Rattle.std.specs.Prelude.{◌≡◌, List, [], ◌∷◌, Bool, true, false, not, is_some, All, filter, map, Option, None, Some}
+use Rattle.std.specs.Prelude.{◌≡◌, List, [], ◌∷◌, Bool, true, false, not, is_some, All, filter, map}
+use Rattle.std.specs.Prelude.{Option, None, Some}
 use Rattle.an_base.specs.Outcome.{passes}
 use Rattle.an_keyed.specs.Key.{Key, same_key}
 use Rattle.an_policy.specs.declared.group.Audience.{Audience}

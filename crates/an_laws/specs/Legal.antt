@@ -1,7 +1,8 @@
 -- Histories: lists of writes, each of which the machine accepts in the state that those before it
 -- lead to. They begin in any state.
-use Rattle.std.specs.Prelude.{◌≡◌, ℤ, List, [], ◌∷◌, Some, Ok, ⊤}
+use Rattle.std.specs.Prelude.{◌≡◌, ℤ, List, [], ◌∷◌, Some, Ok, IsTrue, ⊤}
 use Rattle.an_policy.specs.declared.who.Caller.{Caller}
+use Rattle.an_machine.specs.Commands.{is_write}
 use Rattle.an_machine.specs.Entries.{after}
 use Rattle.an_machine.specs.State.{State}
 use Rattle.an_machine.specs.Step.{step}
@@ -32,3 +33,8 @@ state_of s (write ∷ writes) = state_of (after s write.entry) writes
 abbrev pub Legal : State → List Write → Type 0
 Legal s [] = ⊤
 Legal s (write ∷ writes) = Accepts s write × Legal (after s write.entry) writes
+
+-- each is a write that may be sent to the machine
+abbrev pub AreWrites : List Write → Type 0
+AreWrites [] = ⊤
+AreWrites (write ∷ writes) = IsTrue (is_write write.moment write.command) × AreWrites writes

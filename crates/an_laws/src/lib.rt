@@ -5,7 +5,9 @@
 pub use coherence::{states_stay_coherent, views_are_told};
 pub use numbers::{numbers_rise, sent_again_adds_nothing};
 pub use soundness::states_stay_sound;
+pub use validity::{histories_are_kept, states_stay_valid};
 
 mod coherence;
 mod numbers;
 mod soundness;
+mod validity;

@@ -1,0 +1,14 @@
+pub mod CellLemmas
+pub mod ChangeLemmas
+pub mod WholeLemmas
+pub mod ReadLemmas
+pub mod ReadTreeLemmas
+pub mod ReadNoteLemmas
+pub mod ReadActivityLemmas
+pub mod RestoreLemmas
+pub mod ValidLemmas
+pub mod ValidRowLemmas
+pub mod ValidTreeLemmas
+pub mod OpenedLemmas
+pub mod PartLemmas
+pub mod FieldLemmas

@@ -1,0 +1,271 @@
+-- The cells of a valid and sound state stand for that state.
+use Rattle.std.proofs.Common.{◌≡◌, ℕ, zero, suc, ◌+◌, ◌-◌, ℤ, int_lt, Bool, true, false, not, ◌&&◌, bytes_eq, List, [], ◌∷◌, ◌++◌, length, slice_get, Option, Some, None, Ok, Err, option_map, filter_map, refl, sym, ap, subst, ◌∙◌, arith, length-append, append_assoc, append-nil}
+use Rattle.std.specs.Prelude.{⊤, unwrap_or}
+use Rattle.std.specs.List.{list_all, list_any, cons_option}
+use Rattle.std.specs.Result.{result_ok}
+use Rattle.std.proofs.lemmas.Bool.{and_from, and_parts, or_parts, or_from, not-true, not_from_false, cond-true, eq-eqb, both_ways, false_from_ne_true}
+use Rattle.std.proofs.lemmas.Option.{same_Some}
+use Rattle.std.proofs.lemmas.Slice.Eq.{bytes_eq-Decides}
+use Rattle.std.proofs.lemmas.Int.{ints}
+use Rattle.an_base.specs.Outcome.{or_refuse, passes}
+use Rattle.an_keyed.specs.Key.{Key, same_key}
+use Rattle.an_keyed.specs.Rows.{put_row, keys_are_distinct}
+use Rattle.an_keep.specs.declared.cell.Cell.{Cell}
+use Rattle.an_policy.specs.declared.reader.Reader.{Reader}
+use Rattle.an_machine.specs.Accepted.{last_moment}
+use Rattle.an_machine.specs.Entries.{with_row}
+use Rattle.an_machine.specs.Sound.{is_sound, agrees, tokens_are_distinct, stands_on_live, moments_never_fall}
+use Rattle.an_machine.specs.State.{State, KeptReader, KeptManifest, KeptNote, empty, reader_key, manifest_key, note_key, live_readers, is_distinct, manifests_are_distinct}
+use Rattle.an_machine.specs.declared.activity.Activity.{Activity}
+use Rattle.an_machine.specs.declared.entry.Row.{Row}
+use Rattle.an_machine.specs.declared.entry.Row.TheVariants as kept
+use Rattle.an_machine.proofs.DistinctLemmas.{put_at-position, other-key}
+use Rattle.an_rows.specs.Valid.{is_valid, is_valid_row, is_valid_reader_row, is_valid_manifest_row, is_valid_note_row, is_valid_activity}
+use Rattle.an_rows.specs.Cells.{place_of, cell_of, cells_from, row_cells, first_cell, with_first, cells, rows_before, has_key, has_its_token, may_follow, if_next, row_behind, restored, is_first, state_of}
+use Rattle.an_rows.proofs.CellLemmas.{set_or_push-new}
+use Rattle.an_rows.proofs.ReadActivityLemmas.{row-reads-back}
+
+-- ---- a row behind a state
+
+-- a valid row that may follow is restored from its cell
+row-behind : (s : State) (key : ℕ) (row : Row) → is_valid_row row ≡ true → key ≡ rows_before s row → may_follow s row ≡ true → row_behind s (cell_of key row) ≡ Ok row
+unfolding row_behind
+row-behind s key row valid place follows =
+    let cell = cell_of key row in
+    ap (λ found. or_refuse (place_of cell) (result_ok found) (if_next s cell)) (row-reads-back row valid)
+    ∙ cond-true _ _ _ (and_from _ _ (eq-eqb key (rows_before s row) place) follows)
+
+restored-row : (s : State) (cell : Cell) (row : Row) (more : List Cell) → row_behind s cell ≡ Ok row → restored s (cell ∷ more) ≡ restored (with_row s row) more
+restored-row s cell row more is = ap (λ found. elim found [ Err place ↦ Err place | Ok row ↦ restored (with_row s row) more ]) is
+
+-- ---- the rows of a list
+
+module _ {R : Type 0} (kind : R → Row) (with : List R → State)
+    (counts : (front : List R) (row : R) → rows_before (with front) (kind row) ≡ length front)
+    (puts : (front : List R) (row : R) → may_follow (with front) (kind row) ≡ true → with_row (with front) (kind row) ≡ with (front ++ row ∷ [])) where
+  -- each row is valid, and may follow those before it
+  abbrev pub Follow : List R → List R → Type 0
+  Follow front [] = ⊤
+  Follow front (row ∷ rows) = (is_valid_row (kind row) ≡ true) × (may_follow (with front) (kind row) ≡ true) × Follow (front ++ row ∷ []) rows
+
+  restored-list : (front rows : List R) (more : List Cell) → Follow front rows
+      → restored (with front) (cells_from kind (length front) rows ++ more) ≡ restored (with (front ++ rows)) more
+  restored-list front [] more follow = ap (λ l. restored (with l) more) (sym (append-nil front))
+  restored-list front (row ∷ rows) more follow =
+      let longer : length (front ++ row ∷ []) ≡ length front + 1 = length-append front (row ∷ []) in
+      restored-row (with front) (cell_of (length front) (kind row)) (kind row) (cells_from kind (length front + 1) rows ++ more)
+      (row-behind (with front) (length front) (kind row) follow.0 (sym (counts front row)) follow.1)
+      ∙ ap (λ s. restored s (cells_from kind (length front + 1) rows ++ more)) (puts front row follow.1)
+      ∙ ap (λ n. restored (with (front ++ row ∷ [])) (cells_from kind n rows ++ more)) (sym longer)
+      ∙ restored-list (front ++ row ∷ []) rows more follow.2
+      ∙ ap (λ l. restored (with l) more) (append_assoc front (row ∷ []) rows)
+
+-- ---- keys
+
+module _ {R : Type 0} (key : R → Key) where
+  -- no row before a row among distinct ones has its key
+  distinct-before : (front : List R) (row : R) (rows : List R) → keys_are_distinct key (front ++ row ∷ rows) ≡ true → has_key key row front ≡ false
+  distinct-before [] row rows distinct = refl
+  distinct-before (first ∷ front) row rows distinct =
+      let parts = and_parts (not (list_any (λ other. same_key (key other) (key first)) (front ++ row ∷ rows))) _ distinct in
+      or_from _ _ (other-key (key row) (key first) (none-later front (not-true _ parts.0))) (distinct-before front row rows parts.1)
+    where
+      none-later : (front : List R) → list_any (λ other. same_key (key other) (key first)) (front ++ row ∷ rows) ≡ false → same_key (key row) (key first) ≡ false
+      none-later [] none = (or_parts _ _ none).0
+      none-later (other ∷ front) none = none-later front (or_parts _ _ none).1
+
+  -- a row of a new key stands behind all
+  pub put_row-new : (row : R) (rows : List R) → has_key key row rows ≡ false → put_row key row rows ≡ rows ++ row ∷ []
+  put_row-new row rows new =
+      put_at-position key (λ other. same_key (key other) (key row)) row rows ∙ set_or_push-new (λ other. same_key (key other) (key row)) row rows new
+
+-- the front of a list, and one row more
+shift : {R : Type 0} (P : List R → Type 0) (front : List R) (row : R) (rows : List R) → P (front ++ row ∷ rows) → P ((front ++ row ∷ []) ++ rows)
+shift P front row rows h = subst P (sym (append_assoc front (row ∷ []) rows)) h
+
+-- ---- readers
+
+abbrev pub lives : List KeptReader → List Reader
+lives rows = filter_map (λ row. row.live) rows
+
+abbrev pub has : List ℕ → Reader → Bool
+has token reader = bytes_eq reader.token token
+
+passes-never : {A : Type 0} (value : Option A) → passes (λ x. false) value ≡ false
+passes-never None = refl
+passes-never (Some x) = refl
+
+pub other-token : (a b : List ℕ) → bytes_eq a b ≡ false → bytes_eq b a ≡ false
+other-token a b differ = false_from_ne_true _ (λ same. both_ways _ differ ((bytes_eq-Decides a b).1 (sym ((bytes_eq-Decides b a).0 same))))
+
+module _ (row : KeptReader) (rows : List KeptReader) (reader : Reader) (live : row.live ≡ Some reader) where
+  -- a token that no later reader has is not the row's
+  none-later : (token : List ℕ) (front : List KeptReader) → list_any (has token) (lives (front ++ row ∷ rows)) ≡ false → bytes_eq reader.token token ≡ false
+  none-later token [] none = (or_parts _ _ (sym (ap (λ l. list_any (has token) (cons_option l (lives rows))) live) ∙ none)).0
+  none-later token (first ∷ front) none = none-later token front (behind first.live none)
+    where
+      behind : (its : Option Reader) → list_any (has token) (cons_option its (lives (front ++ row ∷ rows))) ≡ false → list_any (has token) (lives (front ++ row ∷ rows)) ≡ false
+      behind None h = h
+      behind (Some r) h = (or_parts _ _ h).1
+
+  none-has : (front : List KeptReader) → tokens_are_distinct (lives (front ++ row ∷ rows)) ≡ true → list_any (has reader.token) (lives front) ≡ false
+  none-has [] distinct = refl
+  none-has (first ∷ front) distinct = behind (none-has front) first.live distinct
+    where
+      behind : (tokens_are_distinct (lives (front ++ row ∷ rows)) ≡ true → list_any (has reader.token) (lives front) ≡ false) → (its : Option Reader)
+          → tokens_are_distinct (cons_option its (lives (front ++ row ∷ rows))) ≡ true → list_any (has reader.token) (cons_option its (lives front)) ≡ false
+      behind before None h = before h
+      behind before (Some r) h =
+          let parts = and_parts (not (list_any (has r.token) (lives (front ++ row ∷ rows)))) _ h in
+          or_from _ _ (other-token reader.token r.token (none-later r.token front (not-true _ parts.0))) (before parts.1)
+
+abbrev with_readers : List KeptReader → State
+with_readers front = record { readers = front; manifests = []; notes = []; activities = [] }
+
+token-new : (front : List KeptReader) (row : KeptReader) (rows : List KeptReader) (live : Option Reader) → row.live ≡ live → tokens_are_distinct (lives (front ++ row ∷ rows)) ≡ true
+    → has_its_token (with_readers front) row ≡ false
+token-new front row rows None is distinct = ap (passes (λ reader. list_any (has reader.token) (lives front))) is
+token-new front row rows (Some reader) is distinct = ap (passes (λ reader. list_any (has reader.token) (lives front))) is ∙ none-has row rows reader is front distinct
+
+puts-reader : (front : List KeptReader) (row : KeptReader) → may_follow (with_readers front) (kept.Reader row) ≡ true → with_row (with_readers front) (kept.Reader row) ≡ with_readers (front ++ row ∷ [])
+puts-reader front row follows = ap with_readers (put_row-new reader_key row front (not-true _ (and_parts (not (has_key reader_key row front)) _ follows).0))
+
+follow-readers : (front rows : List KeptReader) → keys_are_distinct reader_key (front ++ rows) ≡ true → tokens_are_distinct (lives (front ++ rows)) ≡ true
+    → list_all is_valid_reader_row rows ≡ true → Follow kept.Reader with_readers (λ front row. refl) puts-reader front rows
+follow-readers front [] keys tokens valid = tt
+follow-readers front (row ∷ rows) keys tokens valid =
+    let parts = and_parts (is_valid_reader_row row) _ valid in (
+      parts.0,
+      and_from _ _ (not_from_false _ (distinct-before reader_key front row rows keys)) (not_from_false _ (token-new front row rows row.live refl tokens)),
+      follow-readers (front ++ row ∷ []) rows (shift (λ l. keys_are_distinct reader_key l ≡ true) front row rows keys)
+          (shift (λ l. tokens_are_distinct (lives l) ≡ true) front row rows tokens) parts.1,
+    )
+
+-- ---- the other lists, behind those before them
+
+module _ (s : State) where
+  abbrev with_manifests : List KeptManifest → State
+  with_manifests front = record { readers = s.readers; manifests = front; notes = []; activities = [] }
+
+  abbrev with_notes : List KeptNote → State
+  with_notes front = record { readers = s.readers; manifests = s.manifests; notes = front; activities = [] }
+
+  abbrev with_activities : List Activity → State
+  with_activities front = record { readers = s.readers; manifests = s.manifests; notes = s.notes; activities = front }
+
+  puts-manifest : (front : List KeptManifest) (row : KeptManifest) → may_follow (with_manifests front) (kept.Manifest row) ≡ true
+      → with_row (with_manifests front) (kept.Manifest row) ≡ with_manifests (front ++ row ∷ [])
+  puts-manifest front row follows = ap with_manifests (put_row-new manifest_key row front (not-true _ follows))
+
+  puts-note : (front : List KeptNote) (row : KeptNote) → may_follow (with_notes front) (kept.Note row) ≡ true → with_row (with_notes front) (kept.Note row) ≡ with_notes (front ++ row ∷ [])
+  puts-note front row follows = ap with_notes (put_row-new note_key row front (not-true _ (and_parts (not (has_key note_key row front)) _ follows).0))
+
+  puts-activity : (front : List Activity) (row : Activity) → may_follow (with_activities front) (kept.Activity row) ≡ true
+      → with_row (with_activities front) (kept.Activity row) ≡ with_activities (front ++ row ∷ [])
+  puts-activity front row follows = refl
+
+  follow-manifests : (front rows : List KeptManifest) → keys_are_distinct manifest_key (front ++ rows) ≡ true → list_all is_valid_manifest_row rows ≡ true
+      → Follow kept.Manifest with_manifests (λ front row. refl) puts-manifest front rows
+  follow-manifests front [] keys valid = tt
+  follow-manifests front (row ∷ rows) keys valid =
+      let parts = and_parts (is_valid_manifest_row row) _ valid in (
+        parts.0,
+        not_from_false _ (distinct-before manifest_key front row rows keys),
+        follow-manifests (front ++ row ∷ []) rows (shift (λ l. keys_are_distinct manifest_key l ≡ true) front row rows keys) parts.1,
+      )
+
+  follow-notes : (front rows : List KeptNote) → keys_are_distinct note_key (front ++ rows) ≡ true → list_all (stands_on_live s) rows ≡ true → list_all is_valid_note_row rows ≡ true
+      → Follow kept.Note with_notes (λ front row. refl) puts-note front rows
+  follow-notes front [] keys stand valid = tt
+  follow-notes front (row ∷ rows) keys stand valid =
+      let parts = and_parts (is_valid_note_row row) _ valid in
+      let stands = and_parts (stands_on_live s row) _ stand in (
+        parts.0,
+        and_from _ _ (not_from_false _ (distinct-before note_key front row rows keys)) stands.0,
+        follow-notes (front ++ row ∷ []) rows (shift (λ l. keys_are_distinct note_key l ≡ true) front row rows keys) stands.1 parts.1,
+      )
+
+-- ---- activities
+
+not_below-self : (a : ℤ) → not (int_lt a a) ≡ true
+not_below-self a = grind (arith, ints)
+
+module _ (a : Activity) (rows : List Activity) where
+  pub all-reach : (p : Activity → Bool) (front : List Activity) → list_all p (front ++ a ∷ rows) ≡ true → p a ≡ true
+  all-reach p [] all = (and_parts (p a) _ all).0
+  all-reach p (first ∷ front) all = all-reach p front (and_parts (p first) _ all).1
+
+  -- no activity before it is later
+  each-before : (front : List Activity) (place : ℕ) (x : Activity) → slice_get front place ≡ Some x → moments_never_fall (front ++ a ∷ rows) ≡ true → not (int_lt a.at x.at) ≡ true
+  each-before [] place x is rise = absurd (cc)
+  each-before (first ∷ front) zero x is rise =
+      ap (λ its. not (int_lt a.at its.at)) (sym (same_Some first x is)) ∙ all-reach (λ later. not (int_lt later.at first.at)) front (and_parts (list_all (λ later. not (int_lt later.at first.at)) (front ++ a ∷ rows)) _ rise).0
+  each-before (first ∷ front) (suc place) x is rise =
+      each-before front place x is (and_parts (list_all (λ later. not (int_lt later.at first.at)) (front ++ a ∷ rows)) _ rise).1
+
+  moment-follows : (front : List Activity) → moments_never_fall (front ++ a ∷ rows) ≡ true → not (int_lt a.at (last_moment a.at front)) ≡ true
+  moment-follows front rise = by_last (slice_get front (length front - 1)) refl
+    where
+      by_last : (found : Option Activity) → slice_get front (length front - 1) ≡ found → not (int_lt a.at (unwrap_or (option_map (λ last. last.at) found) a.at)) ≡ true
+      by_last None is = not_below-self a.at
+      by_last (Some x) is = each-before front (length front - 1) x is rise
+
+follow-activities : (s : State) (front rows : List Activity) → moments_never_fall (front ++ rows) ≡ true → list_all is_valid_activity rows ≡ true
+    → Follow kept.Activity (with_activities s) (λ front row. refl) (puts-activity s) front rows
+follow-activities s front [] rise valid = tt
+follow-activities s front (row ∷ rows) rise valid =
+    let parts = and_parts (is_valid_activity row) _ valid in (
+      parts.0,
+      moment-follows row rows front rise,
+      follow-activities s (front ++ row ∷ []) rows (shift (λ l. moments_never_fall l ≡ true) front row rows rise) parts.1,
+    )
+
+-- ---- all
+
+pub record Parts (s : State) : Type 0 where
+  pub readers : keys_are_distinct reader_key s.readers ≡ true
+  pub manifests : keys_are_distinct manifest_key s.manifests ≡ true
+  pub notes : keys_are_distinct note_key s.notes ≡ true
+  pub agree : list_all agrees s.readers ≡ true
+  pub tokens : tokens_are_distinct (lives s.readers) ≡ true
+  pub stand : list_all (stands_on_live s) s.notes ≡ true
+  pub rise : moments_never_fall s.activities ≡ true
+
+pub sound-parts : (s : State) → is_sound s ≡ true → Parts s
+unfolding is_sound is_distinct
+sound-parts s sound =
+    let rise = and_parts (keys_are_distinct reader_key s.readers && is_distinct s && list_all agrees s.readers && tokens_are_distinct (live_readers s) && list_all (stands_on_live s) s.notes) _ sound in
+    let stand = and_parts (keys_are_distinct reader_key s.readers && is_distinct s && list_all agrees s.readers && tokens_are_distinct (live_readers s)) _ rise.0 in
+    let tokens = and_parts (keys_are_distinct reader_key s.readers && is_distinct s && list_all agrees s.readers) _ stand.0 in
+    let agree = and_parts (keys_are_distinct reader_key s.readers && is_distinct s) _ tokens.0 in
+    let keys = and_parts (keys_are_distinct reader_key s.readers) _ agree.0 in
+    let both = and_parts (manifests_are_distinct s) _ keys.1 in
+    record { readers = keys.0; manifests = both.0; notes = both.1; agree = agree.1; tokens = tokens.1; stand = stand.1; rise = rise.1 }
+
+module _ (s : State) (valid : is_valid s ≡ true) (sound : is_sound s ≡ true) where
+  restored-all : restored empty (row_cells s) ≡ Ok s
+  unfolding row_cells is_valid
+  restored-all =
+      let parts = sound-parts s sound in
+      let activities = and_parts (list_all is_valid_reader_row s.readers && list_all is_valid_manifest_row s.manifests && list_all is_valid_note_row s.notes) _ valid in
+      let notes = and_parts (list_all is_valid_reader_row s.readers && list_all is_valid_manifest_row s.manifests) _ activities.0 in
+      let both = and_parts (list_all is_valid_reader_row s.readers) _ notes.0 in
+      let last = cells_from kept.Activity 0 s.activities in
+      restored-list kept.Reader with_readers (λ front row. refl) puts-reader [] s.readers (cells_from kept.Manifest 0 s.manifests ++ (cells_from kept.Note 0 s.notes ++ last))
+      (follow-readers [] s.readers parts.readers parts.tokens both.0)
+      ∙ restored-list kept.Manifest (with_manifests s) (λ front row. refl) (puts-manifest s) [] s.manifests (cells_from kept.Note 0 s.notes ++ last)
+      (follow-manifests s [] s.manifests parts.manifests both.1)
+      ∙ restored-list kept.Note (with_notes s) (λ front row. refl) (puts-note s) [] s.notes last (follow-notes s [] s.notes parts.notes parts.stand notes.1)
+      ∙ ap (restored (with_activities s [])) (sym (append-nil last))
+      ∙ restored-list kept.Activity (with_activities s) (λ front row. refl) (puts-activity s) [] s.activities [] (follow-activities s [] s.activities parts.rise activities.1)
+
+  by_cells : (found : List Cell) → row_cells s ≡ found → state_of (with_first found) ≡ Ok s
+  unfolding state_of is_first first_cell
+  by_cells [] is = sym (ap (restored empty) is) ∙ restored-all
+  by_cells (cell ∷ others) is = sym (ap (restored empty) is) ∙ restored-all
+
+  -- the cells of the state stand for the state
+  pub cells-read-back : state_of (cells s) ≡ Ok s
+  cells-read-back = by_cells (row_cells s) refl
+
+pub ruleset states_cells = (cells-read-back)

@@ -1,0 +1,114 @@
+-- Which cells stand for a state, and the state that cells stand for.
+use Rattle.std.specs.Prelude.{ℕ, ◌+◌, List, [], ◌∷◌, ◌++◌, codes, Bool, ◌&&◌, ◌==◌, not, int_lt}
+use Rattle.std.specs.Prelude.{bytes_eq, if◌then◌else◌, Result, Ok, Err}
+use Rattle.std.specs.List.{list_any}
+use Rattle.std.specs.Result.{result_ok}
+use Rattle.an_base.specs.Outcome.{passes, or_refuse}
+use Rattle.an_keyed.specs.Key.{Key, same_key}
+use Rattle.an_keep.specs.declared.cell.Cell.{Cell}
+use Rattle.an_machine.specs.Accepted.{last_moment}
+use Rattle.an_machine.specs.Entries.{with_row}
+use Rattle.an_machine.specs.Sound.{stands_on_live}
+use Rattle.an_machine.specs.State.{State, KeptReader, empty, reader_key, manifest_key, note_key}
+use Rattle.an_machine.specs.State.{live_readers}
+use Rattle.an_machine.specs.Tables.{length_of_list}
+use Rattle.an_machine.specs.declared.entry.Row.{Row}
+use Rattle.an_machine.specs.declared.entry.Row.TheVariants as kept
+use Rattle.an_rows.specs.RowTree.{table_of, row_text}
+use Rattle.an_rows.specs.RowRead.{row_of_text}
+
+-- ---- the cells of a state
+
+-- where a cell stands
+pub record Place : Type 0 where
+  pub tab : ℕ
+  pub key : ℕ
+
+-- the row's text, in the row's table
+abbrev pub cell_of : ℕ → Row → Cell
+cell_of key row = record { tab = table_of row; key = key; val = row_text row }
+
+-- the rows of a list, of which the first has this key
+abbrev pub cells_from : {R : Type 0} → (R → Row) → ℕ → List R → List Cell
+cells_from kind key [] = []
+cells_from kind key (row ∷ rows) = cell_of key (kind row) ∷ cells_from kind (key + 1) rows
+
+-- each row has its place in its list for its key
+unfoldable pub row_cells : State → List Cell
+row_cells s =
+    cells_from kept.Reader 0 s.readers
+    ++ (cells_from kept.Manifest 0 s.manifests
+    ++ (cells_from kept.Note 0 s.notes
+    ++ cells_from kept.Activity 0 s.activities))
+
+-- the cell that says how the others are written
+unfoldable pub first_cell : Cell
+first_cell = record { tab = 0; key = 0; val = codes "{\"format\":1}" }
+
+-- it stands before all others, where there are any
+abbrev pub with_first : List Cell → List Cell
+with_first [] = []
+with_first (cell ∷ cells) = first_cell ∷ cell ∷ cells
+
+-- the empty state has no cell
+abbrev pub cells : State → List Cell
+cells s = with_first (row_cells s)
+
+-- ---- the state of cells
+
+-- how many rows the row's list has
+abbrev pub rows_before : State → Row → ℕ
+rows_before s row = length_of_list s (table_of row)
+
+abbrev pub has_key : {R : Type 0} → (R → Key) → R → List R → Bool
+has_key key row rows = list_any (λ other. same_key (key other) (key row)) rows
+
+-- a live reader has this row's token, while the row is live
+abbrev pub has_its_token : State → KeptReader → Bool
+has_its_token s row =
+    passes
+    (λ reader. list_any (λ other. bytes_eq other.token reader.token) (live_readers s)) row.live
+
+-- The row may stand behind those of the state: its name, or owner and name, is new; so is the token
+-- of a live reader; a live annotation stands on a live manifest; no activity is earlier than the
+-- one before it.
+abbrev pub may_follow : State → Row → Bool
+may_follow s (kept.Reader row) =
+    not (has_key reader_key row s.readers) && not (has_its_token s row)
+may_follow s (kept.Manifest row) = not (has_key manifest_key row s.manifests)
+may_follow s (kept.Note row) = not (has_key note_key row s.notes) && stands_on_live s row
+may_follow s (kept.Activity activity) =
+    not (int_lt activity.at (last_moment activity.at s.activities))
+
+abbrev pub place_of : Cell → Place
+place_of cell = record { tab = cell.tab; key = cell.key }
+
+-- the row, where its cell has the next key of its table
+abbrev pub if_next : State → Cell → Row → Result Row Place
+if_next s cell row =
+    if (cell.key == rows_before s row) && may_follow s row then Ok row else Err (place_of cell)
+
+-- the row of a cell behind those of the state
+unfoldable pub row_behind : State → Cell → Result Row Place
+row_behind s cell =
+    or_refuse (place_of cell) (result_ok (row_of_text cell.tab cell.val)) (if_next s cell)
+
+-- the state with the rows of cells behind its own, or the first cell that is damaged
+abbrev pub restored : State → List Cell → Result State Place
+restored s [] = Ok s
+restored s (cell ∷ cells) = elim (row_behind s cell) [
+  | Err place ↦ Err place
+  | Ok row ↦ restored (with_row s row) cells
+]
+
+unfoldable pub is_first : Cell → Bool
+is_first cell =
+    (cell.tab == 0) && (cell.key == 0) && bytes_eq cell.val (codes "{\"format\":1}")
+
+-- The state that cells stand for, or the first cell that is damaged. Where there are any, the first
+-- says how the others are written, and isn't the only one.
+unfoldable pub state_of : List Cell → Result State Place
+state_of [] = Ok empty
+state_of (first ∷ []) = Err (place_of first)
+state_of (first ∷ cell ∷ cells) =
+    if is_first first then restored empty (cell ∷ cells) else Err (place_of first)

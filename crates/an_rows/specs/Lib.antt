@@ -1,0 +1,6 @@
+pub mod RowTree
+pub mod Valid
+pub mod RowRead
+pub mod Cells
+pub mod Changes
+pub mod Lent

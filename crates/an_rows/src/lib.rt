@@ -1,0 +1,18 @@
+//! How rows are written into cells and read from them.
+#![tactic(auto)]
+
+pub use laws::{
+    cells_read_back, changes_lead_on, opened_states_are_valid, rows_have_one_text, rows_read_back,
+};
+pub use refusal::RowError;
+pub use row::{read_row, row_text};
+
+mod activities;
+mod fields;
+mod laws;
+mod manifests;
+mod members;
+mod notes;
+mod readers;
+mod refusal;
+mod row;

@@ -1,0 +1,115 @@
+ghost use Rattle.std.specs.Prelude.{◌≡◌, ◌++◌, IfOk};
+ghost use Rattle.std.specs.Option.{ok_or};
+ghost use Rattle.std.specs.Result.{result_ok};
+ghost use Rattle.serde_json.specs.View.{view};
+ghost use Rattle.an_base.specs.Outcome.{Gives};
+ghost use Rattle.an_base.specs.Value.{value_of};
+ghost use Rattle.an_base.specs.Write.{commas};
+ghost use Rattle.an_rows.specs.RowRead.{row_in, if_its_text, row_of_text, row_of_cell};
+ghost use Rattle.an_rows.specs.RowTree.{row_members, row_text};
+
+use crate::activities::{activity_in, push_activity};
+use crate::manifests::{manifest_row_in, push_manifest};
+use crate::notes::{note_row_in, push_note};
+use crate::readers::{push_reader, reader_row_in};
+use crate::refusal::RowError;
+use an_base::{Bytes, TreeError, close_members, read_value};
+use an_machine::Row;
+use serde_json::Value;
+use std::alloc::{AllocError, Global};
+
+/// The one text of a row. The text of a tree that it keeps goes into it as it is.
+#[tactic(auto, unfolding(crate::specs::RowTree::row_text))]
+pub fn row_text(alloc: Global, row: &Row) -> Result<Bytes, AllocError>
+    ensures text { IfOk result (λ text. text ≡ row_text row.now) }
+{
+    let out = push_row(alloc, Vec::new(alloc), row)?;
+    let out = close_members(out, 0)?;
+    Ok(Bytes::from_vec(out))
+}
+
+/// Writes the members of a row, each behind a comma.
+fn push_row(alloc: Global, out: Vec<u8>, row: &Row) -> Result<Vec<u8>, AllocError>
+    ensures text { IfOk result (λ v. v.items ≡ out.items ++ commas (row_members row.now)) }
+{
+    match row {
+        Row::Reader(row) => push_reader(alloc, out, row),
+        Row::Manifest(row) => push_manifest(out, row),
+        Row::Note(row) => push_note(out, row),
+        Row::Activity(activity) => push_activity(out, activity),
+    }
+}
+
+/// The row of a cell, or the first of the refusals in their order. The bytes have to be the row's
+/// one text, to the last byte.
+#[tactic(auto, unfolding(crate::specs::RowRead::row_of_cell))]
+pub fn read_row(alloc: Global, tab: u8, key: u64, bytes: &[u8]) -> Result<Row, RowError>
+    ensures row { Gives (λ r. r) RowError.Memory result (row_of_cell tab key bytes.now) }
+{
+    if tab < 1 || tab > 4 {
+        return Err(RowError::Table);
+    }
+    if key >= 4_611_686_018_427_387_904 {
+        return Err(RowError::Key);
+    }
+    row_of_text(alloc, tab, bytes)
+}
+
+#[tactic(auto, unfolding(crate::specs::RowRead::row_of_text))]
+fn row_of_text(alloc: Global, tab: u8, bytes: &[u8]) -> Result<Row, RowError>
+    ensures row { Gives (λ r. r) RowError.Memory result (row_of_text tab bytes.now) }
+{
+    let tree = value_in(alloc, bytes)?;
+    let row = row_in(alloc, tab, &tree)?;
+    if_its_text(alloc, bytes, row)
+}
+
+fn value_in(alloc: Global, bytes: &[u8]) -> Result<Value, RowError>
+    ensures { Gives view RowError.Memory result
+        (ok_or (result_ok (value_of bytes.now)) RowError.Bytes) }
+{
+    match read_value(alloc, bytes) {
+        Ok(value) => Ok(value),
+        Err(TreeError::Memory) => Err(RowError::Memory),
+        Err(_) => Err(RowError::Bytes),
+    }
+}
+
+/// The row, where these bytes are its text.
+fn if_its_text(alloc: Global, bytes: &[u8], row: Row) -> Result<Row, RowError>
+    ensures { Gives (λ r. r) RowError.Memory result (if_its_text bytes.now row) }
+{
+    match row_text(alloc, &row) {
+        Ok(text) => if text.as_slice() == bytes {
+            Ok(row)
+        } else {
+            Err(RowError::Bytes)
+        },
+        Err(_) => Err(RowError::Memory),
+    }
+}
+
+/// The row of a table that a value says.
+fn row_in(alloc: Global, tab: u8, tree: &Value) -> Result<Row, RowError>
+    ensures { Gives (λ r. r) RowError.Memory result (row_in tab (view tree.now)) }
+{
+    match tab {
+        1 => {
+            let row = reader_row_in(alloc, tree)?;
+            Ok(Row::Reader(row))
+        }
+        2 => {
+            let row = manifest_row_in(alloc, tree)?;
+            Ok(Row::Manifest(row))
+        }
+        3 => {
+            let row = note_row_in(alloc, tree)?;
+            Ok(Row::Note(row))
+        }
+        4 => {
+            let activity = activity_in(alloc, tree)?;
+            Ok(Row::Activity(activity))
+        }
+        _ => Err(RowError::Table),
+    }
+}
