@@ -10,4 +10,4 @@ pub follows : (turn : Turn) (number : ℕ) (go : ℕ → State → Played) (old 
 follows passes number go old new output printed taken = rw (taken.0, taken.1) (refl, refl)
 follows (prints text) number go old new output printed taken = rw (taken.0, taken.1) (append_assoc output text (go (number + 1) old).output, refl)
 follows (writes s) number go old new output printed taken = rw (taken.0, taken.1) (refl, refl)
-follows (stops code) number go old new output printed taken = absurd (cc)
+follows (stops refusal) number go old new output printed taken = absurd (cc)

@@ -8,7 +8,7 @@ use Rattle.an_search.specs.Site.{Site}
 use Rattle.an_app.specs.Find.{Played, Stop, Report, play, report_of, report_played}
 use Rattle.an_app.specs.Split.{lines_of}
 use Rattle.an_app.specs.Input.{input_limit, IsReadWhole}
-use Rattle.an_app.specs.Status.{Exchanges, Finds, Misunderstands, PrintsFront, Reports, ReportsFront, ReadsLittle, read_fault_text}
+use Rattle.an_app.specs.Status.{Exchanges, Finds, Misunderstands, PrintsFront, Reports, ReadsLittle, read_fault_text}
 use Rattle.an_app.specs.declared.status.Status.{Status}
 use Rattle.an_app.specs.declared.status.Status.TheVariants as status
 

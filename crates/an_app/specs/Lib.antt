@@ -1,7 +1,12 @@
 pub mod Input
 pub mod Split
 pub mod Line
-pub mod Form
+pub mod Refusal
+pub mod Target
+pub mod Query
+pub mod Routes
+pub mod Answer
+pub mod Asked
 pub mod Find
 pub mod Turned
 pub mod Status

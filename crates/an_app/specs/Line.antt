@@ -1,6 +1,7 @@
 -- The words of a line: a moment, who writes or reads, what is done, to what, and for a put a JSON
 -- text.
-use Rattle.std.specs.Prelude.{ℕ, ℤ, List, [], length, ◌==◌, nat_lt, bytes_eq, codes, is_none, if◌then◌else◌, Option, Some, None, option_and_then}
+use Rattle.std.specs.Prelude.{ℕ, ℤ, List, [], length, ◌==◌, nat_lt, bytes_eq, codes, is_none}
+use Rattle.std.specs.Prelude.{if◌then◌else◌, Option, Some, None, option_and_then}
 use Rattle.std.specs.List.{position_or_len, before_first, after_first}
 use Rattle.std.specs.Result.{result_ok}
 use Rattle.an_base.specs.Moment.{moment_of}
@@ -20,6 +21,12 @@ method_of text =
     if bytes_eq text (codes "GET") then Some Get
     else (if bytes_eq text (codes "PUT") then Some Put
     else (if bytes_eq text (codes "DELETE") then Some Delete else None))
+
+-- the method's name (RFC 9110, section 9.3)
+abbrev pub method_text : Method → List ℕ
+method_text Get = codes "GET"
+method_text Put = codes "PUT"
+method_text Delete = codes "DELETE"
 
 -- the words, without the references that lend them
 pub record Words : Type 0 where

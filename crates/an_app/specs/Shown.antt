@@ -5,7 +5,7 @@ use Rattle.an_app.specs.declared.lines.Played.{Played}
 use Rattle.an_app.specs.declared.lines.Stop.{Stop}
 
 abbrev pub shown_stop : Stop → find.Stop
-shown_stop stop = record { line = stop.line; code = stop.code }
+shown_stop stop = record { line = stop.line; why = stop.why }
 
 abbrev pub shown : Played → find.Played
 shown played = record { output = played.output.items; stop = option_map shown_stop played.stop }

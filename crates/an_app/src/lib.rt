@@ -1,15 +1,26 @@
-//! The annotation server, but for its links to the outside: what its words and its lines do.
+//! The annotation server, but for its links to the outside: what its words, its lines and its
+//! requests do.
 #![tactic(auto)]
 
+pub use answers::{answer, query_answer, refusal_reply, write_answer};
+pub use asked::command_of;
+pub use kinds::{Read, Route, RouteError, WriteRoute};
 pub use lines::find;
 pub use program::run;
+pub use refusal::{Parameter, Refusal, refusal_body};
+pub use routes::route;
 pub use status::Status;
 
-mod answer;
-mod form;
+mod answers;
+mod asked;
+mod kinds;
 mod line;
 mod lines;
 mod program;
+mod query;
+mod refusal;
+mod routes;
 mod split;
 mod status;
+mod target;
 mod turn;

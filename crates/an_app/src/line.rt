@@ -1,5 +1,6 @@
 ghost use Rattle.std.specs.Prelude.{◌≡◌, ◌<◌, option_map};
-ghost use Rattle.an_app.specs.Line.{cut_at, method_of, lent_words, words_to, words_for, words_after, words_of};
+ghost use Rattle.an_app.specs.Line.{cut_at, method_of, method_text, lent_words, words_to};
+ghost use Rattle.an_app.specs.Line.{words_for, words_after, words_of};
 
 use an_base::{Moment, moment_of};
 
@@ -9,6 +10,19 @@ pub(crate) enum Method {
     Get,
     Put,
     Delete,
+}
+
+impl Method {
+    /// Its name.
+    pub fn text(self) -> &'static str
+        ensures { result.now ≡ method_text self }
+    {
+        match self {
+            Method::Get => "GET",
+            Method::Put => "PUT",
+            Method::Delete => "DELETE",
+        }
+    }
 }
 
 /// The words of a line.

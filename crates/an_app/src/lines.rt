@@ -6,6 +6,7 @@ ghost use Rattle.an_app.specs.Shown.{shown};
 ghost use Rattle.an_app.specs.Split.{lines_of};
 ghost use Rattle.an_app.specs.Status.{Finds, ReadsLittle};
 
+use crate::refusal::Refusal;
 use crate::split::first_line;
 use crate::status::Status;
 use crate::turn::turn;
@@ -29,7 +30,7 @@ struct Report {
 #[derive(Clone, Copy)]
 struct Stop {
     line: usize,
-    code: Code,
+    why: Refusal,
 }
 
 /// What is to be printed for the lines, and where they stop, if they do.
@@ -40,9 +41,9 @@ struct Played {
 }
 
 /// Reads an input of lines to its end, or to one byte beyond what an input may have, applies its
-/// writes to an empty state, and prints the answer to each of its reads. The first line that is refused
-/// and isn't old ends the run. An input of more than 268,435,456 bytes is refused before its first
-/// line. Nothing is printed where memory runs out.
+/// writes to an empty state, and prints the answer to each of its reads. The first line that is
+/// refused and isn't old ends the run. An input of more than 268,435,456 bytes is refused before
+/// its first line. Nothing is printed where memory runs out.
 #[tactic(auto, using(crate::proofs::StatusLemmas::ends_of_find))]
 pub fn find<L: Link>(alloc: Global, link: &mut L, settings: &Settings) -> Status
     ensures finds { Finds settings.now
@@ -80,7 +81,7 @@ fn report_of(alloc: Global, input: &[u8], settings: &Settings) -> Result<Report,
         ≡ report_of settings.now input.now) }
 {
     if input.len() > INPUT_LIMIT {
-        let text = refusal_line(alloc, 0, Code::Input)?;
+        let text = refusal_line(alloc, 0, Refusal::Code(Code::Input))?;
         return Ok(Report {
             status: Status::Refused,
             text: text.into_bytes(),
@@ -97,7 +98,7 @@ fn report_played(alloc: Global, played: Played) -> Result<Report, AllocError>
     let Played { output, stop } = played;
     match stop {
         Some(stop) => {
-            let text = refusal_line(alloc, stop.line, stop.code)?;
+            let text = refusal_line(alloc, stop.line, stop.why)?;
             let mut output = output;
             output.extend_from_slice(text.as_bytes())?;
             Ok(Report {
@@ -113,16 +114,18 @@ fn report_played(alloc: Global, played: Played) -> Result<Report, AllocError>
 }
 
 /// The refusal of a line, as it is printed.
-fn refusal_line(alloc: Global, line: usize, code: Code) -> Result<String, AllocError>
-    ensures { IfOk result (λ text. string_bytes text ≡ refusal_line (record { line = line; code = code })) }
+fn refusal_line(alloc: Global, line: usize, why: Refusal) -> Result<String, AllocError>
+    ensures { IfOk result (λ text. string_bytes text ≡ refusal_line
+        (record { line = line; why = why })) }
 {
-    let code = code.text();
+    let code = why.text();
     format!(in alloc; "line {line} refused: {code}\n")
 }
 
 /// Plays all lines of an input, from the empty state.
 fn play(alloc: Global, input: &[u8], settings: &Settings) -> Result<Played, AllocError>
-    ensures { IfOk result (λ played. shown played ≡ play settings.now (lines_of input.now) 1 empty) }
+    ensures { IfOk result (λ played. shown played
+        ≡ play settings.now (lines_of input.now) 1 empty) }
 {
     let mut book = Book::new(alloc);
     let mut output = Vec::new(alloc);
@@ -130,10 +133,10 @@ fn play(alloc: Global, input: &[u8], settings: &Settings) -> Result<Played, Allo
     let mut left = input;
     'lines: while let Some((line, rest)) = first_line(left) {
         match turn(alloc, &mut book, settings, line, &mut output)? {
-            Some(code) => {
+            Some(why) => {
                 return Ok(Played {
                     output,
-                    stop: Some(Stop { line: number, code }),
+                    stop: Some(Stop { line: number, why }),
                 });
             }
             None => {}

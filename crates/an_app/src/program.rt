@@ -11,8 +11,8 @@ use an_world::{Link, write_all};
 use std::alloc::Global;
 
 /// Does what the words say. They are those of one form: `-`, which stands for an empty store in
-/// memory, `find`, the base of all IRIs, and how many items a page has. The run ends as `find` does, or
-/// as misunderstood for other words, where nothing is read.
+/// memory, `find`, the base of all IRIs, and how many items a page has. The run ends as `find`
+/// does, or as misunderstood for other words, where nothing is read.
 pub fn run<L: Link>(alloc: Global, words: &[String], link: &mut L) -> Status
     ensures understood { IfSome (find_site (map string_bytes words.now)) (λ site. Finds site
         (Rises (L.read_faults link.old) (L.read_faults link.new))

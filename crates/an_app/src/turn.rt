@@ -1,26 +1,33 @@
-ghost use Rattle.std.specs.Prelude.{◌≡◌, ◌++◌, ℕ, List, IfOk, None, Some, if◌then◌else◌};
-ghost use Rattle.std.specs.Option.{option_copied};
-ghost use Rattle.std.specs.Result.{result_map_both};
-ghost use Rattle.std.specs.Str.{is_utf8};
-ghost use Rattle.an_base.specs.Outcome.{only_if};
-ghost use Rattle.an_base.specs.Tree.{tree_of};
-ghost use Rattle.an_machine.specs.State.{who_of};
-ghost use Rattle.an_app.specs.Line.{by_of, lent_words, words_of};
-ghost use Rattle.an_app.specs.Find.{turn_of, words_turn, by_turn, form_turn, write_turn, writes, state_after, refusal_code, text_code, read_turn, search_line, manifest_line, annotation_line, not_signed_line, command_turn, is_old, view_by, writer, reader};
+ghost use Rattle.std.specs.Prelude.{◌≡◌, ◌<◌, ◌++◌, ℕ, List, IfOk, None, Some, Ok, OnOk, codes};
+ghost use Rattle.std.specs.Prelude.{decimal, if◌then◌else◌, string_bytes};
+ghost use Rattle.an_http.specs.Status.{number_of};
+ghost use Rattle.an_app.specs.Answer.{answer_of, query_answer, view_by, write_refusal};
+ghost use Rattle.an_app.specs.Asked.{asked_of};
+ghost use Rattle.an_app.specs.Find.{turn_of, asked_turn, prints, writes, state_after, reply_line};
+ghost use Rattle.an_app.specs.Find.{command_turn, is_old, writer, reader};
 ghost use Rattle.an_app.specs.Turned.{Takes};
 
-use crate::answer::{answer_annotation, answer_manifest, answer_search};
-use crate::form::{Form, form_of, name_in};
-use crate::line::{LineWords, words_of};
-use an_base::{Code, Moment, Name, Text, Tree, TreeError, read_tree};
-use an_machine::{Book, Command, Decided, Look, Refused};
-use an_policy::{Caller, Group};
+use crate::answers::{answer, query_answer, write_refusal};
+use crate::asked::{Asked, asked_of};
+use crate::kinds::Read;
+use crate::refusal::Refusal;
+use an_base::{Moment, Name, Prefer, Steps};
+use an_http::{Allow, Reply};
+use an_machine::{Book, Command, Decided, Refused};
+use an_policy::Caller;
 use an_search::Settings;
 use std::alloc::{AllocError, Global};
-use std::str;
+use std::marker::Brand;
+use std::sync::ledger::{Blank, Ledger};
 
-/// Takes the turn of a line: it may print an answer, or change the book. Answers the code of a line
-/// that is refused.
+/// No line says what it prefers.
+const NO_PREFERENCE: Prefer = Prefer {
+    minimal: false,
+    iris: false,
+};
+
+/// Takes the turn of a line: it may print an answer, or change the book. Answers why a line is
+/// refused.
 #[tactic(auto, unfolding(crate::specs::Find::turn_of))]
 pub(crate) fn turn(
     alloc: Global,
@@ -28,298 +35,50 @@ pub(crate) fn turn(
     settings: &Settings,
     line: &[u8],
     output: &mut Vec<u8>,
-) -> Result<Option<Code>, AllocError>
+) -> Result<Option<Refusal>, AllocError>
     ensures { IfOk result (Takes (turn_of settings.now book.old.state line.now)
         book.old.state book.new.state output.old.items output.new.items) }
 {
-    if line.is_empty() {
-        return Ok(None);
-    }
-    match text_of(line) {
-        Some(text) => text_turn(alloc, book, settings, text, output),
-        None => Ok(Some(Code::Line)),
+    match asked_of(alloc, line)? {
+        Ok(asked) => asked_turn(alloc, book, settings, asked, output),
+        Err(refusal) => Ok(Some(refusal)),
     }
 }
 
-/// The text that the bytes are.
-fn text_of(bytes: &[u8]) -> Option<&str>
-    ensures { option_copied result ≡ only_if is_utf8 bytes.now }
-{
-    match str::from_utf8(bytes) {
-        Ok(text) => Some(text),
-        Err(_) => None,
-    }
-}
-
-fn text_turn(
+fn asked_turn(
     alloc: Global,
     book: &mut Book,
     settings: &Settings,
-    text: &str,
+    asked: Asked,
     output: &mut Vec<u8>,
-) -> Result<Option<Code>, AllocError>
-    ensures { IfOk result (Takes (words_turn settings.now book.old.state (words_of text.now))
+) -> Result<Option<Refusal>, AllocError>
+    ensures { IfOk result (Takes (asked_turn settings.now book.old.state (Ok asked))
         book.old.state book.new.state output.old.items output.new.items) }
 {
-    match words_of(text) {
-        Some(words) => by_turn(alloc, book, settings, &words, output),
-        None => Ok(Some(Code::Line)),
-    }
-}
-
-fn by_turn(
-    alloc: Global,
-    book: &mut Book,
-    settings: &Settings,
-    words: &LineWords<'_>,
-    output: &mut Vec<u8>,
-) -> Result<Option<Code>, AllocError>
-    ensures { IfOk result (Takes (words_turn settings.now book.old.state (Some (lent_words words.now)))
-        book.old.state book.new.state output.old.items output.new.items) }
-{
-    match by_of(alloc, words.by)? {
-        Some(by) => known_turn(alloc, book, settings, words, by, output),
-        None => Ok(Some(Code::Line)),
-    }
-}
-
-/// Nobody's name, or a reader's.
-fn by_of(alloc: Global, text: &str) -> Result<Option<Option<Name>>, AllocError>
-    ensures { IfOk result (λ by. by ≡ by_of text.now) }
-{
-    if text == "-" {
-        return Ok(Some(None));
-    }
-    match name_in(alloc, text) {
-        Ok(name) => match name {
-            Some(name) => Ok(Some(Some(name))),
-            None => Ok(None),
-        },
-        Err(error) => Err(error),
-    }
-}
-
-fn known_turn(
-    alloc: Global,
-    book: &mut Book,
-    settings: &Settings,
-    words: &LineWords<'_>,
-    by: Option<Name>,
-    output: &mut Vec<u8>,
-) -> Result<Option<Code>, AllocError>
-    ensures { IfOk result (Takes (by_turn settings.now book.old.state (lent_words words.now) (Some by))
-        book.old.state book.new.state output.old.items output.new.items) }
-{
-    match form_of(alloc, words.method, words.target)? {
-        Some(form) => form_turn(alloc, book, settings, words, by, form, output),
-        None => Ok(Some(Code::Unbuilt)),
-    }
-}
-
-fn form_turn(
-    alloc: Global,
-    book: &mut Book,
-    settings: &Settings,
-    words: &LineWords<'_>,
-    by: Option<Name>,
-    form: Form,
-    output: &mut Vec<u8>,
-) -> Result<Option<Code>, AllocError>
-    ensures { IfOk result (Takes (form_turn settings.now book.old.state (lent_words words.now) by (Some form))
-        book.old.state book.new.state output.old.items output.new.items) }
-{
-    match form {
-        Form::PutReader { name, version } => put_reader(alloc, book, words, by, name, version),
-        Form::DropReader { name, version } => {
-            write(
-                alloc,
-                book,
-                words.moment,
-                by,
-                Command::DropReader { name, version },
-            )
+    match asked {
+        Asked::Nothing => Ok(None),
+        Asked::Read { by, read } => read_turn(alloc, book, settings, by, &read, output),
+        Asked::Unread { by, allow, refusal } => {
+            unread_turn(alloc, book, by, allow, refusal, output)
         }
-        Form::PutManifest {
-            name,
-            version,
-            group,
-        } => put_manifest(alloc, book, words, by, name, version, group),
-        Form::DropManifest { name, version } => {
-            write(
-                alloc,
-                book,
-                words.moment,
-                by,
-                Command::DropManifest { name, version },
-            )
-        }
-        Form::PutNote {
-            owner,
-            name,
-            version,
-            manifest,
-            group,
-        } => put_note(
-            alloc,
-            book,
-            words,
+        Asked::Write {
+            moment,
             by,
-            (owner, name),
-            version,
-            (manifest, group),
-        ),
-        Form::DropNote {
-            owner,
-            name,
-            version,
-        } => write(
-            alloc,
-            book,
-            words.moment,
-            by,
-            Command::DropNote {
-                owner,
-                name,
-                version,
-            },
-        ),
-        Form::Search { manifest, word } => search_turn(
-            alloc, book, settings, by, &manifest, &word, output,
-        ),
-        Form::ShownManifest { name } => manifest_turn(alloc, book, settings, by, &name, output),
-        Form::ShownNote { owner, name } => {
-            annotation_turn(alloc, book, settings, by, &owner, &name, output)
-        }
+            command,
+        } => write(alloc, book, moment, by, command),
     }
 }
 
-fn put_reader(
-    alloc: Global,
-    book: &mut Book,
-    words: &LineWords<'_>,
-    by: Option<Name>,
-    name: Name,
-    version: u32,
-) -> Result<Option<Code>, AllocError>
-    ensures { IfOk result (λ stop. (output : List ℕ) → Takes
-        (write_turn book.old.state (lent_words words.now).moment by (λ tree. Command.PutReader name version tree)
-        (tree_of (lent_words words.now).tree)) book.old.state book.new.state output output stop) }
-{
-    match tree_in(alloc, words.tree)? {
-        Ok(tree) => write(
-            alloc,
-            book,
-            words.moment,
-            by,
-            Command::PutReader {
-                name,
-                version,
-                tree,
-            },
-        ),
-        Err(code) => Ok(Some(code)),
-    }
-}
+// ---- a line that writes
 
-fn put_manifest(
-    alloc: Global,
-    book: &mut Book,
-    words: &LineWords<'_>,
-    by: Option<Name>,
-    name: Name,
-    version: u32,
-    group: Group,
-) -> Result<Option<Code>, AllocError>
-    ensures { IfOk result (λ stop. (output : List ℕ) → Takes
-        (write_turn book.old.state (lent_words words.now).moment by (λ tree. Command.PutManifest name version group tree)
-        (tree_of (lent_words words.now).tree)) book.old.state book.new.state output output stop) }
-{
-    match tree_in(alloc, words.tree)? {
-        Ok(tree) => write(
-            alloc,
-            book,
-            words.moment,
-            by,
-            Command::PutManifest {
-                name,
-                version,
-                group,
-                tree,
-            },
-        ),
-        Err(code) => Ok(Some(code)),
-    }
-}
-
-/// The path is the owner and the name, the home the manifest and the group on which it stands.
-fn put_note(
-    alloc: Global,
-    book: &mut Book,
-    words: &LineWords<'_>,
-    by: Option<Name>,
-    path: (Name, Name),
-    version: u32,
-    home: (Name, Group),
-) -> Result<Option<Code>, AllocError>
-    ensures { IfOk result (λ stop. (output : List ℕ) → Takes
-        (write_turn book.old.state (lent_words words.now).moment by
-        (λ tree. Command.PutNote path.0 path.1 version home.0 home.1 tree)
-        (tree_of (lent_words words.now).tree)) book.old.state book.new.state output output stop) }
-{
-    let (owner, name) = path;
-    let (manifest, group) = home;
-    match tree_in(alloc, words.tree)? {
-        Ok(tree) => write(
-            alloc,
-            book,
-            words.moment,
-            by,
-            Command::PutNote {
-                owner,
-                name,
-                version,
-                manifest,
-                group,
-                tree,
-            },
-        ),
-        Err(code) => Ok(Some(code)),
-    }
-}
-
-/// The tree that a text is, or the code of what it is instead.
-fn tree_in(alloc: Global, text: &str) -> Result<Result<Tree, Code>, AllocError>
-    ensures { IfOk result (λ tree. tree ≡ result_map_both (λ t. t) text_code (tree_of text.now)) }
-{
-    match read_tree(alloc, text.as_bytes()) {
-        Ok(tree) => Ok(Ok(Tree::new(tree))),
-        Err(error) => if matches!(error, TreeError::Memory) {
-            Err(AllocError)
-        } else {
-            Ok(Err(text_code(error)))
-        },
-    }
-}
-
-fn text_code(error: TreeError) -> Code
-    ensures { result ≡ text_code error }
-{
-    match error {
-        TreeError::Json => Code::Json,
-        TreeError::NotWhole => Code::NotWhole,
-        TreeError::Deep => Code::Deep,
-        TreeError::Memory => Code::Unbuilt,
-    }
-}
-
-/// Writes what the machine accepts. Answers the code of what it refuses.
+/// Writes what the machine accepts. Answers the refusal of what isn't old.
 fn write(
     alloc: Global,
     book: &mut Book,
     moment: Moment,
     by: Option<Name>,
     command: Command,
-) -> Result<Option<Code>, AllocError>
+) -> Result<Option<Refusal>, AllocError>
     ensures { IfOk result (λ stop. (output : List ℕ) → Takes
         (command_turn book.old.state moment by command)
         book.old.state book.new.state output output stop) }
@@ -335,14 +94,14 @@ fn write(
     }
 }
 
-/// The code that ends the run; an old write is passed over.
-fn stop_of(version: u32, refused: Refused) -> Option<Code>
-    ensures { result ≡ (if is_old version refused then None else Some (refusal_code refused)) }
+/// The refusal that ends the run; an old write is passed over.
+fn stop_of(version: u32, refused: Refused) -> Option<Refusal>
+    ensures { result ≡ (if is_old version refused then None else Some (write_refusal refused)) }
 {
     if is_old(version, refused) {
         None
     } else {
-        Some(refusal_code(refused))
+        Some(write_refusal(refused))
     }
 }
 
@@ -355,24 +114,6 @@ fn is_old(version: u32, refused: Refused) -> bool
     }
 }
 
-/// The code that a line prints for a refusal.
-fn refusal_code(refused: Refused) -> Code
-    ensures { result ≡ refusal_code refused }
-{
-    match refused {
-        Refused::Shape(code) => code,
-        Refused::NotSigned => Code::NotSigned,
-        Refused::NotWriter => Code::NotWriter,
-        Refused::NotOwn => Code::NotOwn,
-        Refused::NoManifest => Code::Absent,
-        Refused::NotMember => Code::NotMember,
-        Refused::GroupFixed => Code::GroupFixed,
-        Refused::TokenTaken => Code::TokenTaken,
-        Refused::Version { current } => Code::Version { current },
-        Refused::Memory => Code::Unbuilt,
-    }
-}
-
 fn writer(by: Option<Name>) -> Caller
     ensures { result ≡ writer by }
 {
@@ -382,8 +123,9 @@ fn writer(by: Option<Name>) -> Caller
     }
 }
 
-fn apply(book: &mut Book, decided: Decided) -> Result<Option<Code>, AllocError>
-    ensures { IfOk result (λ stop. (output : List ℕ) → Takes (writes (state_after book.old.state decided.entry))
+fn apply(book: &mut Book, decided: Decided) -> Result<Option<Refusal>, AllocError>
+    ensures { IfOk result (λ stop. (output : List ℕ)
+        → Takes (writes (state_after book.old.state decided.entry))
         book.old.state book.new.state output output stop) }
 {
     let Decided { entry, .. } = decided;
@@ -397,85 +139,43 @@ fn apply(book: &mut Book, decided: Decided) -> Result<Option<Code>, AllocError>
     }
 }
 
-/// Prints the answer to a search.
-fn search_turn(
+// ---- a line that reads
+
+/// Prints the answer to a read.
+fn read_turn(
     alloc: Global,
     book: &Book,
     settings: &Settings,
     by: Option<Name>,
-    manifest: &Name,
-    word: &Text,
+    read: &Read,
     output: &mut Vec<u8>,
-) -> Result<Option<Code>, AllocError>
+) -> Result<Option<Refusal>, AllocError>
     ensures { IfOk result (Takes
-        (read_turn (search_line settings.now manifest.now word.now)
-        (view_by book.now.state by))
+        (asked_turn settings.now book.now.state (Ok (Asked.Read by read.now)))
         book.now.state book.now.state output.old.items output.new.items) }
 {
     let caller = reader(by);
-    match book.who(&caller) {
-        Some(who) => {
-            answer_search(alloc, book, &who, settings, manifest, word, output)?;
-            Ok(None)
-        }
-        None => put_not_signed(output),
-    }
+    let reply = answer_uncounted(alloc, book, settings, &caller, read)?;
+    put_reply_line(alloc, &reply, output)?;
+    Ok(None)
 }
 
-/// Prints a manifest.
-fn manifest_turn(
+/// Prints the answer to a read whose query is refused.
+fn unread_turn(
     alloc: Global,
     book: &Book,
-    settings: &Settings,
     by: Option<Name>,
-    name: &Name,
+    allow: Allow,
+    refusal: Refusal,
     output: &mut Vec<u8>,
-) -> Result<Option<Code>, AllocError>
+) -> Result<Option<Refusal>, AllocError>
     ensures { IfOk result (Takes
-        (read_turn (manifest_line settings.now name.now)
-        (view_by book.now.state by))
+        (prints (reply_line (query_answer (view_by book.now.state (reader by)) allow refusal)))
         book.now.state book.now.state output.old.items output.new.items) }
 {
     let caller = reader(by);
-    match book.who(&caller) {
-        Some(who) => {
-            answer_manifest(alloc, book, &who, settings, name, output)?;
-            Ok(None)
-        }
-        None => put_not_signed(output),
-    }
-}
-
-/// Prints an annotation.
-fn annotation_turn(
-    alloc: Global,
-    book: &Book,
-    settings: &Settings,
-    by: Option<Name>,
-    owner: &Name,
-    name: &Name,
-    output: &mut Vec<u8>,
-) -> Result<Option<Code>, AllocError>
-    ensures { IfOk result (Takes
-        (read_turn (annotation_line settings.now owner.now name.now)
-        (view_by book.now.state by))
-        book.now.state book.now.state output.old.items output.new.items) }
-{
-    let caller = reader(by);
-    match book.who(&caller) {
-        Some(who) => {
-            answer_annotation(alloc, book, &who, settings, owner, name, output)?;
-            Ok(None)
-        }
-        None => put_not_signed(output),
-    }
-}
-
-/// What is answered to nobody.
-fn put_not_signed(output: &mut Vec<u8>) -> Result<Option<Code>, AllocError>
-    ensures { IfOk result (λ stop. (stop ≡ None) × (output.new.items ≡ output.old.items ++ not_signed_line)) }
-{
-    output.extend_from_slice("401 {\"error\":\"not_signed\"}\n".as_bytes())?;
+    let reply = query_answer(alloc, book, &caller, allow, refusal)?;
+    put_reply_line(alloc, &reply, output)?;
     Ok(None)
 }
 
@@ -486,4 +186,56 @@ fn reader(by: Option<Name>) -> Caller
         Some(name) => Caller::Named(name),
         None => Caller::Anonymous,
     }
+}
+
+/// Adds a reply, as a line shows it: its status and its body.
+fn put_reply_line(alloc: Global, reply: &Reply, output: &mut Vec<u8>) -> Result<(), AllocError>
+    ensures { OnOk result (output.new.items ≡ output.old.items ++ reply_line reply.now) }
+{
+    let status = reply.status.number();
+    let status = format!(in alloc; "{status} ")?;
+    output.extend_from_slice(status.as_bytes())?;
+    output.extend_from_slice(reply.body.as_slice())?;
+    output.extend_from_slice("\n".as_bytes())?;
+    Ok(())
+}
+
+/// The answer to a read whose steps nobody counts.
+fn answer_uncounted(
+    alloc: Global,
+    book: &Book,
+    settings: &Settings,
+    caller: &Caller,
+    read: &Read,
+) -> Result<Reply, AllocError>
+    ensures { IfOk result (λ reply. reply
+        ≡ answer_of settings.now (view_by book.now.state caller.now) read.now) }
+{
+    answer_from::<Brand>(alloc, Blank::new(1), book, settings, caller, read)
+}
+
+fn answer_from<L: Ledger>(
+    alloc: Global,
+    blank: Blank,
+    book: &Book,
+    settings: &Settings,
+    caller: &Caller,
+    read: &Read,
+) -> Result<Reply, AllocError>
+    requires name { blank.name ≡ L.name }
+    requires parts { blank.parts ≡ L.parts }
+    requires some { 0 < blank.parts }
+    ensures { IfOk result (λ reply. reply
+        ≡ answer_of settings.now (view_by book.now.state caller.now) read.now) }
+{
+    let mut steps = Steps::<L>::new(blank);
+    answer(
+        alloc,
+        book,
+        settings,
+        caller,
+        NO_PREFERENCE,
+        read,
+        &mut steps,
+    )
 }

@@ -1,4 +1,4 @@
-use Rattle.std.proofs.Common.{◌≤◌, ◌+◌, Err, length, ap, ◌∙◌, arith}
+use Rattle.std.proofs.Common.{Err, ap, ◌∙◌, arith}
 use Rattle.an_app.proofs.StatusLemmas.{Finds-reported, Finds-part_told, Finds-read_failed, Finds-nothing_told, rises_and_stays, stays_and_rises, ends_of_report, reads_little, reads_little-front}
 use Rattle.an_app.proofs.lines.find.Goals as goal
 

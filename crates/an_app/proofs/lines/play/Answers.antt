@@ -22,7 +22,7 @@ lines-preserved c =
     let behind = lines_of c.in-Some.rest.now in
     let first = c.in-Some.ensures.first in
     let taken = follows (turn_of site old c.in-Some.line.now) number (play site behind) old new c.lines.output.items c.turn.new.output.items
-    (subst (λ stop. Takes (turn_of site old c.in-Some.line.now) old new c.lines.output.items c.turn.new.output.items stop) c.in-None.is c.in_ok-code.ensures) in
+    (subst (λ stop. Takes (turn_of site old c.in-Some.line.now) old new c.lines.output.items c.turn.new.output.items stop) c.in-None.is c.in_ok-why.ensures) in
     record {
       output = taken.0 ∙ sym (ap (λ lines. c.lines.output.items ++ (play site lines number old).output) first) ∙ c.lines.invariant.output;
       stop = taken.1 ∙ sym (ap (λ lines. (play site lines number old).stop) first) ∙ c.lines.invariant.stop;

@@ -1,0 +1,286 @@
+ghost use Rattle.std.specs.Prelude.{◌≡◌, ◌<◌, ◌++◌, IfOk, codes, string_bytes};
+ghost use Rattle.an_manifest.specs.Dress.{manifest_iri};
+ghost use Rattle.an_policy.specs.Audience.{identity};
+ghost use Rattle.an_machine.specs.View.{view_of};
+ghost use Rattle.an_pages.specs.Bodies.{manifest_of_view, annotation_of_view};
+ghost use Rattle.an_search.specs.Search.{search_of};
+ghost use Rattle.an_app.specs.Answer.{view_by, challenge, refusal_reply, shown_reply, page_refusal};
+ghost use Rattle.an_app.specs.Answer.{manifest_reply, note_reply, search_reply, read_reply};
+ghost use Rattle.an_app.specs.Answer.{answer_of, query_answer, object_iri, bool_text, write_text};
+ghost use Rattle.an_app.specs.Answer.{write_body, write_status, write_refusal, write_answer};
+
+use crate::kinds::Read;
+use crate::refusal::{Refusal, refusal_body};
+use an_base::{Bytes, Code, Name, Prefer, Steps, Text};
+use an_http::{Allow, Extra, Media, Reply, Status};
+use an_machine::{Look, Object, Refused, WriteReply};
+use an_pages::{PageError, annotation, manifest_answer};
+use an_policy::{Caller, Who};
+use an_search::{AskError, Settings, note_iri, search};
+use std::alloc::{AllocError, Global};
+use std::sync::ledger::Ledger;
+
+/// The answer to a read, from what the caller may read alone: 401 where nobody has its token or
+/// name, what is shown, or why it isn't. No read that is answered so far depends on `Prefer`.
+pub fn answer<T: Look, L: Ledger>(
+    alloc: Global,
+    look: &T,
+    settings: &Settings,
+    caller: &Caller,
+    _prefer: Prefer,
+    read: &Read,
+    steps: &mut Steps<L>,
+) -> Result<Reply, AllocError>
+    ensures answer { IfOk result (λ reply. reply ≡ answer_of settings.now
+        (view_by (T.state look.now) caller.now) read.now) }
+{
+    match look.who(caller) {
+        Some(who) => answer_to(alloc, look, settings, &who, read, steps),
+        None => refusal_reply(alloc, read.methods(), Refusal::Code(Code::NotSigned)),
+    }
+}
+
+/// The answer to a read whose query is refused; 401 comes before that.
+pub fn query_answer<T: Look>(
+    alloc: Global,
+    look: &T,
+    caller: &Caller,
+    allow: Allow,
+    refusal: Refusal,
+) -> Result<Reply, AllocError>
+    ensures answer { IfOk result (λ reply. reply ≡ query_answer
+        (view_by (T.state look.now) caller.now) allow refusal) }
+{
+    match look.who(caller) {
+        Some(_) => refusal_reply(alloc, allow, refusal),
+        None => refusal_reply(alloc, allow, Refusal::Code(Code::NotSigned)),
+    }
+}
+
+/// The answer to a write that was decided: the object's IRI and number, or the refusal.
+pub fn write_answer(
+    alloc: Global,
+    settings: &Settings,
+    allow: Allow,
+    written: &Result<WriteReply, Refused>,
+) -> Result<Reply, AllocError>
+    ensures answer { IfOk result (λ reply. reply ≡ write_answer settings.now allow written.now) }
+{
+    match written {
+        Ok(reply) => written_reply(alloc, settings.base(), allow, reply),
+        Err(refused) => refusal_reply(alloc, allow, write_refusal(*refused)),
+    }
+}
+
+/// The reply that tells a refusal, at a route with these methods.
+pub fn refusal_reply(alloc: Global, allow: Allow, refusal: Refusal) -> Result<Reply, AllocError>
+    ensures reply { IfOk result (λ reply. reply ≡ refusal_reply allow refusal) }
+{
+    let status = refusal.status();
+    let body = refusal_body(alloc, refusal)?;
+    Ok(Reply {
+        status,
+        allow,
+        media: Media::Json,
+        extra: challenge(status),
+        body,
+    })
+}
+
+/// A token is asked for with 401.
+fn challenge(status: Status) -> Extra
+    ensures { result ≡ challenge status }
+{
+    match status {
+        Status::Unauthorized => Extra::Bearer,
+        _ => Extra::Absent,
+    }
+}
+
+// ---- reads
+
+fn answer_to<T: Look, L: Ledger>(
+    alloc: Global,
+    look: &T,
+    settings: &Settings,
+    who: &Who<'_>,
+    read: &Read,
+    steps: &mut Steps<L>,
+) -> Result<Reply, AllocError>
+    ensures { IfOk result (λ reply. reply ≡ read_reply settings.now
+        (view_of (T.state look.now) (identity who.now)) read.now) }
+{
+    match read {
+        Read::Manifest { name } => answer_manifest(alloc, look, settings, who, name),
+        Read::Note { owner, name } => answer_note(alloc, look, settings, who, owner, name),
+        Read::Search { manifest, word } => {
+            answer_search(alloc, look, settings, who, manifest, word, steps)
+        }
+    }
+}
+
+fn answer_manifest<T: Look>(
+    alloc: Global,
+    look: &T,
+    settings: &Settings,
+    who: &Who<'_>,
+    name: &Name,
+) -> Result<Reply, AllocError>
+    ensures { IfOk result (λ reply. reply ≡ manifest_reply (manifest_of_view settings.now
+        (view_of (T.state look.now) (identity who.now)) name.now)) }
+{
+    match manifest_answer(alloc, look, who, name, settings) {
+        Ok(body) => Ok(shown_reply(Allow::Full, Media::Manifest, Extra::Absent, body)),
+        Err(error) => page_refused(alloc, error),
+    }
+}
+
+fn answer_note<T: Look>(
+    alloc: Global,
+    look: &T,
+    settings: &Settings,
+    who: &Who<'_>,
+    owner: &Name,
+    name: &Name,
+) -> Result<Reply, AllocError>
+    ensures { IfOk result (λ reply. reply ≡ note_reply (annotation_of_view settings.now
+        (view_of (T.state look.now) (identity who.now)) owner.now name.now)) }
+{
+    match annotation(alloc, look, who, owner, name, settings) {
+        Ok(body) => Ok(shown_reply(Allow::Full, Media::Annotation, Extra::Resource, body)),
+        Err(error) => page_refused(alloc, error),
+    }
+}
+
+fn answer_search<T: Look, L: Ledger>(
+    alloc: Global,
+    look: &T,
+    settings: &Settings,
+    who: &Who<'_>,
+    manifest: &Name,
+    word: &Text,
+    steps: &mut Steps<L>,
+) -> Result<Reply, AllocError>
+    ensures { IfOk result (λ reply. reply ≡ search_reply (search_of settings.now
+        (view_of (T.state look.now) (identity who.now)) manifest.now word.now)) }
+{
+    match search(alloc, look, who, manifest, word.as_str(), settings, steps) {
+        Ok(body) => Ok(shown_reply(Allow::ReadOnly, Media::Search, Extra::Absent, body)),
+        Err(error) => match error {
+            AskError::NoManifest => {
+                refusal_reply(alloc, Allow::ReadOnly, Refusal::Code(Code::Absent))
+            }
+            AskError::Memory => Err(AllocError),
+        },
+    }
+}
+
+fn shown_reply(allow: Allow, media: Media, extra: Extra, body: Bytes) -> Reply
+    ensures { result ≡ shown_reply allow media extra body }
+{
+    Reply {
+        status: Status::Ok,
+        allow,
+        media,
+        extra,
+        body,
+    }
+}
+
+fn page_refused(alloc: Global, error: PageError) -> Result<Reply, AllocError>
+    ensures refused { IfOk result (λ reply. reply ≡ refusal_reply Allow.Full (page_refusal error)) }
+    ensures memory { IfOk result (λ _. ¬ (error ≡ PageError.Memory)) }
+{
+    match error {
+        PageError::Absent => refusal_reply(alloc, Allow::Full, Refusal::Code(Code::Absent)),
+        PageError::Gone => refusal_reply(alloc, Allow::Full, Refusal::Code(Code::Gone)),
+        PageError::Memory => Err(AllocError),
+    }
+}
+
+// ---- writes
+
+fn written_reply(
+    alloc: Global,
+    base: &str,
+    allow: Allow,
+    reply: &WriteReply,
+) -> Result<Reply, AllocError>
+    ensures { IfOk result (λ r. r ≡ record {
+      status = write_status reply.now.made;
+      allow = allow;
+      media = Media.Json;
+      extra = Extra.Absent;
+      body = write_body base.now reply.now;
+    }) }
+{
+    let iri = object_iri(alloc, base, &reply.object)?;
+    let body = write_body(alloc, iri.as_str(), reply.repeat, reply.version)?;
+    Ok(Reply {
+        status: write_status(reply.made),
+        allow,
+        media: Media::Json,
+        extra: Extra::Absent,
+        body: Bytes::from_vec(body.into_bytes()),
+    })
+}
+
+fn write_status(made: bool) -> Status
+    ensures { result ≡ write_status made }
+{
+    if made { Status::Created } else { Status::Ok }
+}
+
+fn write_body(alloc: Global, iri: &str, repeat: bool, version: u32) -> Result<String, AllocError>
+    ensures { IfOk result (λ text. string_bytes text ≡ write_text iri.now repeat version) }
+{
+    let repeat = bool_text(repeat);
+    format!(in alloc; "{{\"object\":\"{iri}\",\"repeat\":{repeat},\"version\":{version}}}")
+}
+
+fn bool_text(b: bool) -> &'static str
+    ensures { result.now ≡ bool_text b }
+{
+    if b { "true" } else { "false" }
+}
+
+/// The IRI of what was written.
+fn object_iri(alloc: Global, base: &str, object: &Object) -> Result<String, AllocError>
+    ensures { IfOk result (λ iri. string_bytes iri ≡ object_iri base.now object.now) }
+{
+    match object {
+        Object::Reader(name) => reader_iri(alloc, base, name.as_str()),
+        Object::Manifest(name) => manifest_iri(alloc, base, name.as_str()),
+        Object::Note { owner, name } => note_iri(alloc, base, owner, name),
+    }
+}
+
+fn reader_iri(alloc: Global, base: &str, name: &str) -> Result<String, AllocError>
+    ensures { IfOk result (λ iri. string_bytes iri ≡ base.now ++ (codes "/readers/" ++ name.now)) }
+{
+    format!(in alloc; "{base}/readers/{name}")
+}
+
+fn manifest_iri(alloc: Global, base: &str, name: &str) -> Result<String, AllocError>
+    ensures { IfOk result (λ iri. string_bytes iri ≡ manifest_iri base.now name.now) }
+{
+    format!(in alloc; "{base}/manifests/{name}")
+}
+
+/// Why the machine refuses a write.
+pub(crate) fn write_refusal(refused: Refused) -> Refusal
+    ensures { result ≡ write_refusal refused }
+{
+    match refused {
+        Refused::Shape(code) => Refusal::Code(code),
+        Refused::NotSigned => Refusal::Code(Code::NotSigned),
+        Refused::NotWriter => Refusal::Code(Code::NotWriter),
+        Refused::NotOwn => Refusal::Code(Code::NotOwn),
+        Refused::NoManifest => Refusal::Code(Code::Absent),
+        Refused::NotMember => Refusal::Code(Code::NotMember),
+        Refused::GroupFixed => Refusal::Code(Code::GroupFixed),
+        Refused::TokenTaken => Refusal::Code(Code::TokenTaken),
+        Refused::Version { current } => Refusal::Code(Code::Version { current }),
+        Refused::Memory => Refusal::Code(Code::Unbuilt),
+    }
+}

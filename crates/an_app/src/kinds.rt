@@ -1,0 +1,124 @@
+ghost use Rattle.std.specs.Prelude.{◌≡◌};
+ghost use Rattle.an_app.specs.Routes.{read_methods, write_methods};
+
+use crate::refusal::Refusal;
+use an_base::{Name, Text};
+use an_http::Allow;
+use an_policy::Group;
+
+/// What is read.
+#[derive(Debug, Drop)]
+pub enum Read {
+    Manifest { name: Name },
+    /// An annotation.
+    Note { owner: Name, name: Name },
+    /// The annotations on a manifest that have a word.
+    Search { manifest: Name, word: Text },
+}
+
+/// What is written: a command without its tree.
+#[derive(Debug, Drop)]
+pub enum WriteRoute {
+    PutReader {
+        name: Name,
+        version: u32,
+    },
+    DropReader {
+        name: Name,
+        version: u32,
+    },
+    PutManifest {
+        name: Name,
+        version: u32,
+        group: Group,
+    },
+    DropManifest {
+        name: Name,
+        version: u32,
+    },
+    PutNote {
+        owner: Name,
+        name: Name,
+        version: u32,
+        manifest: Name,
+        group: Group,
+    },
+    DropNote {
+        owner: Name,
+        name: Name,
+        version: u32,
+    },
+}
+
+/// What a request asks for.
+#[derive(Debug, Drop)]
+pub enum Route {
+    /// The methods of the path.
+    Options(Allow),
+    Read(Read),
+    Write(WriteRoute),
+}
+
+/// Why a request has no route. `allow` has the methods of the path.
+#[derive(Clone, Copy, Debug, PartialEq, Eq)]
+pub enum RouteError {
+    /// The target doesn't begin with `/`.
+    Target,
+    /// The server has no such path.
+    Route,
+    /// The path hasn't this method.
+    Method { allow: Allow },
+    /// The query is refused.
+    Query { allow: Allow, code: Refusal },
+    /// A search for something else than one word of letters isn't answered yet.
+    Unbuilt,
+    Memory,
+}
+
+/// A path of the server.
+#[derive(Debug, Drop)]
+pub(crate) enum Path {
+    Reader { name: Name },
+    Manifest { name: Name },
+    Note { owner: Name, name: Name },
+    Search { manifest: Name },
+}
+
+/// A method that some path has.
+#[derive(Clone, Copy, Debug, PartialEq, Eq)]
+pub(crate) enum Verb {
+    Options,
+    /// GET or HEAD.
+    Read,
+    Put,
+    Delete,
+}
+
+impl Read {
+    /// The methods of its path.
+    pub fn methods(&self) -> Allow
+        ensures methods { result ≡ read_methods self.now }
+    {
+        match self {
+            Read::Manifest { .. } => Allow::Full,
+            Read::Note { .. } => Allow::Full,
+            Read::Search { .. } => Allow::ReadOnly,
+        }
+    }
+}
+
+impl WriteRoute {
+    /// The methods of its path.
+    pub fn methods(&self) -> Allow
+        ensures methods { result ≡ write_methods self.now }
+    {
+        match self {
+            WriteRoute::PutReader { .. } => Allow::WriteOnly,
+            WriteRoute::DropReader { .. } => Allow::WriteOnly,
+            WriteRoute::PutManifest { .. } => Allow::Full,
+            WriteRoute::DropManifest { .. } => Allow::Full,
+            WriteRoute::PutNote { .. } => Allow::Full,
+            WriteRoute::DropNote { .. } => Allow::Full,
+        }
+    }
+}
