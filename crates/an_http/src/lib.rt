@@ -21,5 +21,3 @@ mod put;
 mod reply;
 mod request;
 mod status;
-#[cfg(test)]
-mod tests;

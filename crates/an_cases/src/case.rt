@@ -1,0 +1,60 @@
+use crate::call::{Call, call_named};
+use std::alloc::Global;
+
+/// What a case plays.
+#[derive(Clone, Copy, Debug, PartialEq, Eq)]
+pub enum Kind {
+    /// A run of the server over a link in memory, which is given the input.
+    Run,
+    /// A call of one of the crates below, once for each row that is due.
+    Rows(Call),
+    /// Writes, which one machine does one after the other, a row each.
+    Writes,
+}
+
+/// What rows with this name play.
+pub fn rows_named(name: &str) -> Option<Kind> {
+    match name {
+        "write" => Some(Kind::Writes),
+        _ => call_named(name).map(Kind::Rows),
+    }
+}
+
+/// One case of a table: what is played, and what is due from it.
+#[derive(Drop)]
+pub struct Case {
+    pub name: String,
+    pub kind: Kind,
+    /// The words of a run.
+    pub words: Vec<String>,
+    pub input: Vec<u8>,
+    /// How many bytes each read of the input gives at most.
+    pub cut: Vec<usize>,
+    /// The numbers, from 1, of the reads and the writes that fail.
+    pub fail_reads: Vec<u64>,
+    pub fail_writes: Vec<u64>,
+    /// How many bytes can be written, where it isn't more than enough.
+    pub room: Option<usize>,
+    /// The status that is due from a run.
+    pub status: u8,
+    /// What is due: the whole output of a run, or the rows, each an argument before its answer.
+    pub output: Vec<u8>,
+}
+
+impl Case {
+    /// A run without words over an empty input, from which nothing is due.
+    pub fn new(alloc: Global, name: String) -> Case {
+        Case {
+            name,
+            kind: Kind::Run,
+            words: Vec::new(alloc),
+            input: Vec::new(alloc),
+            cut: Vec::new(alloc),
+            fail_reads: Vec::new(alloc),
+            fail_writes: Vec::new(alloc),
+            room: None,
+            status: 0,
+            output: Vec::new(alloc),
+        }
+    }
+}

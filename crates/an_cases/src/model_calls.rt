@@ -1,0 +1,148 @@
+//! Rows on annotations and manifests.
+use crate::rows::RowError;
+use crate::shown::{copy_differs, is_copied, written};
+use crate::tree_calls::read;
+use an_base::{Span, Text, Tree};
+use an_manifest::{Sheet, manifest_refusal, read_manifest};
+use an_model::{Note, NoteOccurrence, Target, note_refusal, read_note};
+use an_selectors::Xywh;
+use std::alloc::Global;
+
+#[derive(Clone, Copy, Debug, PartialEq, Eq)]
+pub enum ModelCall {
+    /// What is kept of an annotation.
+    Note,
+    /// What an annotation says.
+    Parts,
+    /// The canvases of a manifest.
+    Sheet,
+}
+
+impl ModelCall {
+    pub fn named(name: &str) -> Option<ModelCall> {
+        Some(match name {
+            "note" => ModelCall::Note,
+            "parts" => ModelCall::Parts,
+            "sheet" => ModelCall::Sheet,
+            _ => return None,
+        })
+    }
+
+    pub fn answer(self, alloc: Global, argument: &str) -> Result<String, RowError> {
+        match self {
+            ModelCall::Note => kept_note(alloc, argument),
+            ModelCall::Parts => note_parts(alloc, argument),
+            ModelCall::Sheet => sheet(alloc, argument),
+        }
+    }
+}
+
+/// The text of the tree that is kept of an annotation, or its refusal with its place.
+fn kept_note(alloc: Global, text: &str) -> Result<String, RowError> {
+    let tree = read(alloc, text)?;
+    match note_refusal(tree.as_value()) {
+        Some(refusal) => written(alloc, &refusal),
+        None => note_shown(alloc, &note_of(alloc, &tree)?),
+    }
+}
+
+fn note_of(alloc: Global, tree: &Tree) -> Result<Note, RowError> {
+    match read_note(alloc, tree.as_value()) {
+        Ok(note) => Ok(note),
+        Err(_) => Err(RowError::Form),
+    }
+}
+
+fn note_shown(alloc: Global, note: &Note) -> Result<String, RowError> {
+    if !is_copied(note)? {
+        return copy_differs(alloc);
+    }
+    Ok(note.tree().to_string(alloc)?)
+}
+
+/// What an annotation says.
+fn note_parts(alloc: Global, text: &str) -> Result<String, RowError> {
+    let tree = read(alloc, text)?;
+    let note = note_of(alloc, &tree)?;
+    parts_shown(alloc, &note)
+}
+
+fn parts_shown(alloc: Global, note: &Note) -> Result<String, RowError> {
+    let mut found = String::new(alloc);
+    add_parts(&mut found, note)?;
+    Ok(found)
+}
+
+/// Adds each part behind its mark: motivations, texts, body IRIs, targets with the number of their
+/// selectors and their region, and the words of the texts with their terms.
+fn add_parts(found: &mut String, note: &Note) -> Result<(), RowError> {
+    add_texts(found, "m", note.motivations())?;
+    add_texts(found, "t", note.texts())?;
+    add_texts(found, "i", note.iris())?;
+    add_targets(found, note.targets())?;
+    add_words(found, note.occurrences())
+}
+
+fn add_texts(found: &mut String, mark: &str, texts: &[Text]) -> Result<(), RowError> {
+    for text in texts {
+        write!(found, "{mark} {}|", text.as_str())?;
+    }
+    Ok(())
+}
+
+fn add_targets(found: &mut String, targets: &[Target]) -> Result<(), RowError> {
+    for target in targets {
+        let count = target.selectors.as_slice().len();
+        write!(found, "s {} {count}", target.source.as_str())?;
+        add_region(found, &target.region)?;
+    }
+    Ok(())
+}
+
+fn add_region(found: &mut String, region: &Option<Xywh>) -> Result<(), RowError> {
+    match region {
+        Some(Xywh { x, y, w, h }) => write!(found, " {x},{y},{w},{h}|")?,
+        None => write!(found, "|")?,
+    }
+    Ok(())
+}
+
+fn add_words(found: &mut String, words: &[NoteOccurrence]) -> Result<(), RowError> {
+    for word in words {
+        let Span { start, end } = word.span;
+        write!(
+            found,
+            "w {} {} {start} {end}|",
+            word.text,
+            word.term.as_str()
+        )?;
+    }
+    Ok(())
+}
+
+/// The canvases of a manifest, each before a `;`, or its refusal with its place.
+fn sheet(alloc: Global, text: &str) -> Result<String, RowError> {
+    let tree = read(alloc, text)?;
+    match manifest_refusal(tree.as_value()) {
+        Some(refusal) => written(alloc, &refusal),
+        None => sheet_shown(alloc, &sheet_of(alloc, &tree)?),
+    }
+}
+
+fn sheet_of(alloc: Global, tree: &Tree) -> Result<Sheet, RowError> {
+    match read_manifest(alloc, tree.as_value()) {
+        Ok(sheet) => Ok(sheet),
+        Err(_) => Err(RowError::Form),
+    }
+}
+
+fn sheet_shown(alloc: Global, sheet: &Sheet) -> Result<String, RowError> {
+    if !is_copied(sheet)? {
+        return copy_differs(alloc);
+    }
+    let mut found = String::new(alloc);
+    for canvas in sheet.canvases() {
+        write!(found, "{};", canvas.as_str())?;
+    }
+    Ok(found)
+}
