@@ -1,6 +1,6 @@
 # Sourced by the benchmarks: builds the program, and measures its runs.
 top=$(cd "$(dirname "$0")/.." && pwd)
-"$top/anno" - find http://a.example 10 </dev/null
+"$top/build"
 program=$top/crates/anno/out/anno
 work=$(mktemp -d)
 trap 'rm -rf "$work"' EXIT

@@ -1,0 +1,76 @@
+#!/usr/bin/env bash
+# Runs the merge gate from nothing, or that of the crates that are named and of those below them, and
+# prints a table: each crate's lines of code (its tests apart), definitions and proofs, and the minutes
+# of a processor that its proof, its tests and its must-fail edits took, as the processes of the prover
+# tell them twice a second. What the gate says goes to standard error, and its status is the status.
+set -eu
+cd "$(dirname "$0")/.."
+
+# For each process of the prover that no other one started: its number, when it started, and how much
+# of a processor it and all below it have used, in clock ticks.
+provers() {
+  awk '{
+    pid = $1; name = $0; sub(/^[^(]*\(/, "", name); sub(/\).*/, "", name); sub(/.*\) /, "")
+    parent[pid] = $2; used[pid] = $12 + $13 + $14 + $15; start[pid] = $20; is_prover[pid] = name == "rattle"
+  } END {
+    for (pid in parent) {
+      top = 0
+      for (at = pid; at in parent; at = parent[at]) if (is_prover[at]) top = at
+      if (top) total[top] += used[pid]
+    }
+    for (top in total) print top, start[top], total[top]
+  }' /proc/[0-9]*/stat 2>/dev/null || true
+}
+
+# The crate that a process of this gate is at, and what it does there.
+task_of() {
+  local words crate kind=proof
+  tr '\0' '\n' <"/proc/$1/environ" | grep -qx "ANNO_GATE=$$" || return 0
+  words=$(tr '\0' ' ' <"/proc/$1/cmdline")
+  [[ $words =~ --crate-name\ ([^ ]+) ]] || return 0
+  crate=${BASH_REMATCH[1]}
+  if [[ $words == *' --test '* ]]; then kind=tests; fi
+  if [[ $(readlink "/proc/$1/cwd") == */rt-edit-* ]]; then kind=edits; fi
+  echo "$crate $kind"
+}
+
+declare -A tasks=() ticks=() minutes=()
+ANNO_GATE=$$ rt ci --anew "$@" >&2 &
+gate=$!
+while kill -0 "$gate" 2>/dev/null; do
+  while read -r pid start used; do
+    key=$pid.$start
+    if [ ! -v "tasks[$key]" ]; then tasks[$key]=$(task_of "$pid" 2>/dev/null || true); fi
+    ticks[$key]=$used
+  done < <(provers)
+  sleep 0.5
+done
+status=0
+wait "$gate" || status=$?
+
+# Minutes of so many clock ticks, with one decimal.
+in_minutes() { awk -v t="$1" -v s="$(getconf CLK_TCK)" 'BEGIN { printf "%.1f", t / s / 60 }'; }
+
+# The lines of a crate's files of a kind.
+lines() { find "$@" -type f ! -name '*tests.rt' -exec cat {} + 2>/dev/null | wc -l; }
+
+for key in "${!tasks[@]}"; do
+  task=${tasks[$key]}
+  if [ -n "$task" ]; then minutes[$task]=$((${minutes[$task]:-0} + ticks[$key])); fi
+done
+echo '| Crate | Code | Definitions | Proofs | Minutes for its proof | its tests | its edits |'
+echo '|---|---|---|---|---|---|---|'
+total=0
+while IFS=': ' read -r crate _; do
+  row="| \`$crate\`"
+  for part in src specs proofs; do row+=" | $(lines "crates/$crate/$part")"; done
+  for kind in proof tests edits; do
+    used=${minutes["$crate $kind"]:-0}
+    total=$((total + used))
+    row+=" | $(in_minutes "$used")"
+  done
+  echo "$row |"
+done < <(grep -v '^#' crates.txt)
+echo
+echo "$(in_minutes "$total") minutes of a processor, $((SECONDS / 60)) on the clock, $(nproc) processors, $(rt version)"
+exit "$status"
