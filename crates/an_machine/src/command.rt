@@ -67,11 +67,7 @@ impl TryCopy for Command {
                 name,
                 version,
                 tree,
-            } => Ok(Command::PutReader {
-                name: name.copy()?,
-                version: *version,
-                tree: tree.copy()?,
-            }),
+            } => copy_put_reader(name, *version, tree),
             Command::DropReader { name, version } => Ok(Command::DropReader {
                 name: name.copy()?,
                 version: *version,
@@ -81,22 +77,8 @@ impl TryCopy for Command {
                 version,
                 group,
                 tree,
-            } => Ok(Command::PutManifest {
-                name: name.copy()?,
-                version: *version,
-                group: group.copy()?,
-                tree: tree.copy()?,
-            }),
+            } => copy_put_manifest(name, *version, group, tree),
             Command::DropManifest { name, version } => Ok(Command::DropManifest {
-                name: name.copy()?,
-                version: *version,
-            }),
-            Command::DropNote {
-                owner,
-                name,
-                version,
-            } => Ok(Command::DropNote {
-                owner: owner.copy()?,
                 name: name.copy()?,
                 version: *version,
             }),
@@ -107,16 +89,80 @@ impl TryCopy for Command {
                 manifest,
                 group,
                 tree,
-            } => Ok(Command::PutNote {
-                owner: owner.copy()?,
-                name: name.copy()?,
-                version: *version,
-                manifest: manifest.copy()?,
-                group: group.copy()?,
-                tree: tree.copy()?,
-            }),
+            } => copy_put_note(owner, name, *version, manifest, group, tree),
+            Command::DropNote {
+                owner,
+                name,
+                version,
+            } => copy_drop_note(owner, name, *version),
         }
     }
+}
+
+fn copy_put_reader(name: &Name, version: u32, tree: &Tree) -> Result<Command, AllocError>
+    ensures { IfOk result (λ copy. copy ≡ Command.PutReader name.now version tree.now) }
+{
+    let name = name.copy()?;
+    Ok(Command::PutReader {
+        name,
+        version,
+        tree: tree.copy()?,
+    })
+}
+
+fn copy_put_manifest(
+    name: &Name,
+    version: u32,
+    group: &Group,
+    tree: &Tree,
+) -> Result<Command, AllocError>
+    ensures { IfOk result
+        (λ copy. copy ≡ Command.PutManifest name.now version group.now tree.now) }
+{
+    let name = name.copy()?;
+    let group = group.copy()?;
+    Ok(Command::PutManifest {
+        name,
+        version,
+        group,
+        tree: tree.copy()?,
+    })
+}
+
+fn copy_put_note(
+    owner: &Name,
+    name: &Name,
+    version: u32,
+    manifest: &Name,
+    group: &Group,
+    tree: &Tree,
+) -> Result<Command, AllocError>
+    ensures { IfOk result (λ copy. copy
+        ≡ Command.PutNote owner.now name.now version manifest.now group.now tree.now) }
+{
+    let owner = owner.copy()?;
+    let name = name.copy()?;
+    let manifest = manifest.copy()?;
+    let group = group.copy()?;
+    Ok(Command::PutNote {
+        owner,
+        name,
+        version,
+        manifest,
+        group,
+        tree: tree.copy()?,
+    })
+}
+
+fn copy_drop_note(owner: &Name, name: &Name, version: u32) -> Result<Command, AllocError>
+    ensures { IfOk result (λ copy. copy ≡ Command.DropNote owner.now name.now version) }
+{
+    let owner = owner.copy()?;
+    Ok(Command::DropNote {
+        owner,
+        name: name.copy()?,
+        version,
+    })
 }
 
 /// What is written.

@@ -2,11 +2,12 @@ ghost use Rattle.std.specs.Prelude.{◌≡◌, IfOk, option_and_then, option_map
 ghost use Rattle.std.specs.Option.{option_copied};
 ghost use Rattle.an_base.specs.Outcome.{Gives};
 ghost use Rattle.an_policy.specs.Audience.{identity};
-ghost use Rattle.an_machine.specs.Accepted.{decided, effect_of, moment_of_write};
+ghost use Rattle.an_machine.specs.Accepted.{by_whom, decided, effect_of, moment_of_write};
 ghost use Rattle.an_machine.specs.Asked.{manifest_asked, object_of, version_of};
 ghost use Rattle.an_machine.specs.Refusals.{signer_of};
 ghost use Rattle.an_machine.specs.State.{manifest_row};
 ghost use Rattle.an_machine.specs.Step.{judged, step, step_by};
+ghost use Rattle.an_machine.specs.declared.entry.Entry.TheVariants.{Done};
 
 use crate::asked::{Asked, asked_of};
 use crate::book::Book;
@@ -14,7 +15,7 @@ use crate::changes::by_whom;
 use crate::command::{Command, Decided, Object, Refused, WriteReply, object_of};
 use crate::deletion::delete;
 use crate::effect::Effect;
-use crate::entry::Entry;
+use crate::entry::{Entry, done};
 use crate::look::Look;
 use crate::put_manifest::put_manifest;
 use crate::put_note::put_note;
@@ -128,21 +129,19 @@ fn decided(
 {
     let version = command.version();
     match effect {
-        Some(effect) => Ok(Decided {
-            entry: Some(Entry::Done {
-                command: command.copy()?,
-                moment: at,
-                by: by_whom(who)?,
-                rows: effect.rows,
-                activities: effect.activities,
-            }),
-            reply: WriteReply {
-                object,
-                version,
-                made: effect.made,
-                repeat: false,
-            },
-        }),
+        Some(effect) => {
+            let made = effect.made;
+            let entry = entry_of(who, at, command, effect)?;
+            Ok(Decided {
+                entry: Some(entry),
+                reply: WriteReply {
+                    object,
+                    version,
+                    made,
+                    repeat: false,
+                },
+            })
+        }
         None => Ok(Decided {
             entry: None,
             reply: WriteReply {
@@ -153,4 +152,17 @@ fn decided(
             },
         }),
     }
+}
+
+fn entry_of(
+    who: &Who<'_>,
+    at: Moment,
+    command: &Command,
+    effect: Effect,
+) -> Result<Entry, AllocError>
+    ensures { IfOk result (λ entry. entry ≡ Done
+        command.now at (by_whom (identity who.now)) effect.rows effect.activities) }
+{
+    let by = by_whom(who)?;
+    done(command, at, by, effect.rows, effect.activities)
 }

@@ -1,5 +1,6 @@
-ghost use Rattle.std.specs.Prelude.{◌≡◌};
+ghost use Rattle.std.specs.Prelude.{◌≡◌, IfOk};
 ghost use Rattle.an_machine.specs.Entries.{needs};
+ghost use Rattle.an_machine.specs.declared.entry.Entry.TheVariants.{Done};
 
 use crate::activity::Activity;
 use crate::command::Command;
@@ -56,15 +57,32 @@ impl TryCopy for Entry {
                 by,
                 rows,
                 activities,
-            } => Ok(Entry::Done {
-                command: command.copy()?,
-                moment: *moment,
-                by: by.copy()?,
-                rows: rows.copy()?,
-                activities: activities.copy()?,
-            }),
+            } => {
+                let rows = rows.copy()?;
+                let activities = activities.copy()?;
+                done(command, *moment, by.copy()?, rows, activities)
+            }
         }
     }
+}
+
+/// The entry of this command, of which the entry has a copy.
+pub(crate) fn done(
+    command: &Command,
+    moment: Moment,
+    by: Option<Name>,
+    rows: List<Row>,
+    activities: List<Activity>,
+) -> Result<Entry, AllocError>
+    ensures entry { IfOk result (λ entry. entry ≡ Done command.now moment by rows activities) }
+{
+    Ok(Entry::Done {
+        command: command.copy()?,
+        moment,
+        by,
+        rows,
+        activities,
+    })
 }
 
 impl Entry {
