@@ -12,3 +12,7 @@ pub mod ValidTreeLemmas
 pub mod OpenedLemmas
 pub mod PartLemmas
 pub mod FieldLemmas
+pub mod SettledLemmas
+pub mod FormatLemmas
+pub mod AcceptedLemmas
+pub mod PlaceLemmas

@@ -1,6 +1,6 @@
 -- How the cells change with an entry.
-use Rattle.std.specs.Prelude.{ℕ, List, [], ◌∷◌, ◌++◌, map, Some}
-use Rattle.std.specs.List.{position_or_len}
+use Rattle.std.specs.Prelude.{ℕ, List, [], ◌∷◌, ◌++◌, Bool, true, false, map, Some}
+use Rattle.std.specs.List.{list_all, position_or_len}
 use Rattle.an_keyed.specs.Key.{Key, same_key}
 use Rattle.an_keep.specs.declared.cell.Cell.{Cell}
 use Rattle.an_keep.specs.declared.cell.Change.{Change}
@@ -10,7 +10,7 @@ use Rattle.an_machine.specs.declared.entry.Entry.{Entry}
 use Rattle.an_machine.specs.declared.entry.Entry.TheVariants.{Restored, Done}
 use Rattle.an_machine.specs.declared.entry.Row.{Row}
 use Rattle.an_machine.specs.declared.entry.Row.TheVariants as kept
-use Rattle.an_rows.specs.Cells.{cell_of, cells, first_cell, rows_before}
+use Rattle.an_rows.specs.Cells.{cell_of, cells, first_cell, has_key, rows_before}
 
 -- where the row with this key stands, or the next place where there is none
 abbrev pub place_among : {R : Type 0} → (R → Key) → R → List R → ℕ
@@ -46,3 +46,22 @@ with_format (cell ∷ others) changes = changes
 -- what an entry changes of the cells of a state
 unfoldable pub changes_of : State → Entry → List Change
 changes_of s entry = with_format (cells s) (row_changes s (rows_of entry))
+
+-- ---- rows that stand already
+
+-- a row with the key of this one stands in its list; an activity has no key
+abbrev pub stands_in : State → Row → Bool
+stands_in s (kept.Reader row) = has_key reader_key row s.readers
+stands_in s (kept.Manifest row) = has_key manifest_key row s.manifests
+stands_in s (kept.Note row) = has_key note_key row s.notes
+stands_in s (kept.Activity row) = false
+
+abbrev pub all_but_first_stand : State → List Row → Bool
+all_but_first_stand s [] = true
+all_but_first_stand s (row ∷ rows) = list_all (stands_in s) rows
+
+-- Of the rows that an entry puts at most the first is new. A write makes one row, or changes one
+-- and buries others that stand.
+abbrev pub is_settled : State → Entry → Bool
+is_settled s (Restored row) = true
+is_settled s (Done command moment by rows activities) = all_but_first_stand s rows

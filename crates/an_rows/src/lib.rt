@@ -1,13 +1,17 @@
-//! How rows are written into cells and read from them.
+//! Which cells stand for a state, how rows are written into them and read from them, and which
+//! cells an entry changes.
 #![tactic(auto)]
 
+pub use changes::cells_of;
 pub use laws::{
-    cells_read_back, changes_lead_on, opened_states_are_valid, rows_have_one_text, rows_read_back,
+    accepted_writes_are_settled, cells_read_back, changes_lead_on, opened_states_are_valid,
+    rows_have_one_text, rows_read_back,
 };
 pub use refusal::RowError;
 pub use row::{read_row, row_text};
 
 mod activities;
+mod changes;
 mod fields;
 mod laws;
 mod manifests;

@@ -14,7 +14,7 @@ use crate::notes::{note_row_in, push_note};
 use crate::readers::{push_reader, reader_row_in};
 use crate::refusal::RowError;
 use an_base::{Bytes, TreeError, close_members, read_value};
-use an_machine::Row;
+use an_machine::{Activity, Row};
 use serde_json::Value;
 use std::alloc::{AllocError, Global};
 
@@ -24,6 +24,16 @@ pub fn row_text(alloc: Global, row: &Row) -> Result<Bytes, AllocError>
     ensures text { IfOk result (λ text. text ≡ row_text row.now) }
 {
     let out = push_row(alloc, Vec::new(alloc), row)?;
+    let out = close_members(out, 0)?;
+    Ok(Bytes::from_vec(out))
+}
+
+/// The text of an activity's row.
+#[tactic(auto, unfolding(crate::specs::RowTree::row_text))]
+pub(crate) fn activity_text(alloc: Global, activity: &Activity) -> Result<Bytes, AllocError>
+    ensures text { IfOk result (λ text. text ≡ row_text (Row.Activity activity.now)) }
+{
+    let out = push_activity(Vec::new(alloc), activity)?;
     let out = close_members(out, 0)?;
     Ok(Bytes::from_vec(out))
 }
