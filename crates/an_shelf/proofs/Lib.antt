@@ -1,0 +1,4 @@
+pub mod NextLemmas
+pub mod ReadingLemmas
+pub mod RestoringLemmas
+pub mod WritingLemmas

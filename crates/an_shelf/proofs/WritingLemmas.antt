@@ -1,0 +1,95 @@
+-- What is decided of a write, and what keeping it does to the cells.
+use Rattle.std.proofs.Common.{◌≡◌, ℤ, true, Option, Some, None, Result, Ok, Err, refl, sym, ap, ◌∙◌}
+use Rattle.std.specs.Prelude.{IfOk, IfSome, OnOk}
+use Rattle.std.proofs.lemmas.Bool.{false≢true}
+use Rattle.an_keep.specs.Cells.{put_changes}
+use Rattle.an_keep.specs.Keeper.{Told, Stays, Turns}
+use Rattle.an_policy.specs.declared.who.Caller.{Caller}
+use Rattle.an_policy.specs.Audience.{Identity}
+use Rattle.an_machine.specs.Accepted.{decided, effect_of, moment_of_write}
+use Rattle.an_machine.specs.Asked.{asked_of}
+use Rattle.an_machine.specs.Entries.{after}
+use Rattle.an_machine.specs.Refusals.{signer_of, refusals_before}
+use Rattle.an_machine.specs.State.{State}
+use Rattle.an_machine.specs.Step.{refused_or, and_then, judged, step_if_signed, step}
+use Rattle.an_base.specs.Outcome.{first_of}
+use Rattle.an_machine.specs.declared.command.Command.{Command}
+use Rattle.an_machine.specs.declared.command.Decided.{Decided}
+use Rattle.an_machine.specs.declared.command.Refused.{Refused}
+use Rattle.an_machine.specs.declared.command.WriteReply.{WriteReply}
+use Rattle.an_machine.specs.declared.effect.Effect.{Effect}
+use Rattle.an_machine.specs.declared.entry.Entry.{Entry}
+use Rattle.an_rows.specs.Cells.{cells}
+use Rattle.an_rows.specs.Changes.{changes_of, is_settled}
+use Rattle.an_rows.proofs.AcceptedLemmas.{accepted-settled}
+use Rattle.an_rows.proofs.ChangeLemmas.{changes-lead}
+use Rattle.an_shelf.specs.Writing.{state_after}
+use Rattle.an_shelf.specs.declared.error.WriteError.{WriteError}
+
+-- ---- a write that had been done
+
+then-ok : {A B : Type 0} (r : Result A Refused) (next : A → Result B Refused) (y : B) → and_then r next ≡ Ok y → (x : A) × (r ≡ Ok x) × (next x ≡ Ok y)
+then-ok (Ok x) next y is = (x, refl, is)
+then-ok (Err e) next y is = absurd (cc)
+
+not_refused : {A : Type 0} (refusal : Option Refused) (otherwise : Result A Refused) (y : A) → refused_or refusal otherwise ≡ Ok y → otherwise ≡ Ok y
+not_refused None otherwise y is = is
+not_refused (Some refusal) otherwise y is = absurd (cc)
+
+decided-repeat : (who : Identity) (at : ℤ) (command : Command) (effect : Option Effect) (d : Decided) → decided who at command effect ≡ d → d.reply.repeat ≡ true → d.entry ≡ None
+decided-repeat who at command None d is again = ap (λ d. d.entry) (sym is)
+decided-repeat who at command (Some effect) d is again = absurd (false≢true (ap (λ d. d.reply.repeat) is ∙ again))
+
+same_Ok : (d e : Decided) → ◌≡◌ {A = Result Decided Refused} (Ok d) (Ok e) → d ≡ e
+same_Ok d e is = cc
+
+-- it has no entry
+pub repeat-none : (s : State) (moment : ℤ) (caller : Caller) (command : Command) (d : Decided) → step s moment caller command ≡ Ok d → d.reply.repeat ≡ true → d.entry ≡ None
+unfolding step
+repeat-none s moment caller command d is again = by_signer (signer_of s caller) is
+  where
+    by_signer : (signer : Option Identity) → step_if_signed s moment command signer ≡ Ok d → d.entry ≡ None
+    by_signer None h = absurd (cc)
+    by_signer (Some who) h =
+        let at = moment_of_write s moment in
+        let open_to = not_refused (first_of (refusals_before s who command)) _ d h in
+        let asked = then-ok (asked_of command) _ d open_to in
+        let effect = then-ok (judged s asked.0 (effect_of s who at asked.0)) _ d asked.2 in
+        decided-repeat who at command effect.0 d (same_Ok _ d effect.2) again
+
+-- ---- the cells behind a write
+
+-- they are those of the state behind the entry
+pub cells-turn : (s t : State) (entry : Entry) (old new : Told) → IfSome old (λ found. found ≡ cells s) → Turns (put_changes (changes_of s entry)) old new → t ≡ after s entry → Turns (λ found. cells t) old new
+cells-turn s t entry None None before turns is = tt
+cells-turn s t entry None (Some new) before turns is = absurd turns
+cells-turn s t entry (Some old) None before turns is = tt
+cells-turn s t entry (Some old) (Some new) before turns is = turns ∙ ap (put_changes (changes_of s entry)) before ∙ changes-lead s entry ∙ ap cells (sym is)
+
+pub cells-stay : (s t : State) (old new : Told) → IfSome old (λ found. found ≡ cells s) → Stays old new → t ≡ s → Turns (λ found. cells t) old new
+cells-stay s t None None before stays is = tt
+cells-stay s t None (Some new) before stays is = absurd stays
+cells-stay s t (Some old) None before stays is = tt
+cells-stay s t (Some old) (Some new) before stays is = stays ∙ before ∙ ap cells (sym is)
+
+-- ---- what is decided
+
+-- the entry of what is decided is settled
+pub entry-settled : (s : State) (moment : ℤ) (caller : Caller) (command : Command) (d : Decided) → step s moment caller command ≡ Ok d → IfSome d.entry (λ entry. is_settled s entry ≡ true)
+entry-settled s moment caller command d is = by_entry d.entry refl
+  where
+    by_entry : (found : Option Entry) → d.entry ≡ found → IfSome found (λ entry. is_settled s entry ≡ true)
+    by_entry None at = tt
+    by_entry (Some entry) at = accepted-settled s moment caller command d entry is at
+
+-- ---- a repeat
+
+module _ (s : State) (moment : ℤ) (caller : Caller) (command : Command) (d : Decided) (is : step s moment caller command ≡ Ok d) where
+  -- what holds where there is no entry holds of a repeat
+  pub repeat-keeps : (P : Type 0) (result : Result WriteReply WriteError) → IfOk result (λ reply. reply ≡ d.reply) → (d.entry ≡ None → P) → IfOk result (λ reply. reply.repeat ≡ true → P)
+  repeat-keeps P (Err e) replies keeps = tt
+  repeat-keeps P (Ok reply) replies keeps = λ again. keeps (repeat-none s moment caller command d is (ap (λ (r : WriteReply). r.repeat) (sym replies) ∙ again))
+
+  pub repeat-still : (t : State) (result : Result WriteReply WriteError) → IfOk result (λ reply. reply ≡ d.reply) → OnOk result (t ≡ state_after s d.entry) → IfOk result (λ reply. reply.repeat ≡ true → t ≡ s)
+  repeat-still t (Err e) replies leads = tt
+  repeat-still t (Ok reply) replies leads = λ again. leads ∙ ap (state_after s) (repeat-none s moment caller command d is (ap (λ (r : WriteReply). r.repeat) (sym replies) ∙ again))

@@ -1,0 +1,13 @@
+use Rattle.std.proofs.Common.{ap, ◌∙◌}
+use Rattle.an_machine.specs.Entries.{after}
+use Rattle.an_shelf.proofs.WritingLemmas.{cells-turn, cells-stay}
+use Rattle.an_shelf.proofs.desk.put.Goals as goal
+
+pub returns-in-Ok-clause-told : goal.returns-in-Ok-clause-told
+returns-in-Ok-clause-told g c =
+    cells-turn c.args.book.now.state c.apply.new.self.state c.args.entry (g.K.Keeper.told c.args.keeper.now) (g.K.Keeper.told c.keep.new.keeper) c.requires.cells c.in-Ok.ensures.kept
+    (c.apply.ensures.state ∙ ap (λ s. after s c.args.entry) c.keep.ensures.still)
+
+pub returns-in-Err-clause-told : goal.returns-in-Err-clause-told
+returns-in-Err-clause-told g c =
+    cells-stay c.args.book.now.state c.keep.new.book.state (g.K.Keeper.told c.args.keeper.now) (g.K.Keeper.told c.keep.new.keeper) c.requires.cells c.in-Err.ensures.stays c.keep.ensures.still

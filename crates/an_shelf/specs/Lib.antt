@@ -1,0 +1,6 @@
+pub mod Failure
+pub mod Opening
+pub mod Reading
+pub mod Restoring
+pub mod Store
+pub mod Writing

@@ -1,0 +1,35 @@
+-- What a write at a desk does.
+use Rattle.std.specs.Prelude.{◌≡◌, Option, Some, None, Result, Ok, Err, ⊤}
+use Rattle.an_machine.specs.Entries.{after}
+use Rattle.an_machine.specs.State.{State}
+use Rattle.an_machine.specs.declared.command.Decided.{Decided}
+use Rattle.an_machine.specs.declared.command.Refused.{Refused}
+use Rattle.an_machine.specs.declared.command.Refused.TheVariants as machine
+use Rattle.an_machine.specs.declared.command.WriteReply.{WriteReply}
+use Rattle.an_machine.specs.declared.entry.Entry.{Entry}
+use Rattle.an_shelf.specs.declared.error.WriteError.{WriteError}
+use Rattle.an_shelf.specs.declared.error.WriteError.TheVariants as error
+
+-- a write that had been done already changes nothing
+abbrev pub state_after : State → Option Entry → State
+state_after s None = s
+state_after s (Some entry) = after s entry
+
+-- the machine decided so: this is the reply, and the state behind the write
+pub record Writes (decided : Result Decided Refused) (old : State) (reply : WriteReply)
+    (new : State) : Type 0 where
+  pub write : Decided
+  pub is : decided ≡ Ok write
+  pub replies : reply ≡ write.reply
+  pub leads : new ≡ state_after old write.entry
+
+-- of a refusal: the machine refused so
+abbrev pub IsRefused : Result Decided Refused → WriteError → Type 0
+IsRefused decided (error.Refused refusal) = decided ≡ Err refusal
+IsRefused decided error.Keeper = ⊤
+IsRefused decided error.Memory = ⊤
+
+-- want of memory is no refusal of the machine
+abbrev pub refusal_error : Refused → WriteError
+refusal_error machine.Memory = error.Memory
+refusal_error refused = error.Refused refused

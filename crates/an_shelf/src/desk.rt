@@ -1,0 +1,262 @@
+ghost use Rattle.std.specs.Prelude.{◌≡◌, ◌≤◌, IfErr, IfOk, IfSome, IsTrue, None, OnErr, OnOk};
+ghost use Rattle.an_keep.specs.Cells.{put_changes};
+ghost use Rattle.an_keep.specs.Keeper.{Rises, Stays, StaysOrBegins, Turns};
+ghost use Rattle.an_machine.specs.Entries.{after, needs};
+ghost use Rattle.an_machine.specs.Sound.{is_sound};
+ghost use Rattle.an_machine.specs.Step.{step};
+ghost use Rattle.an_rows.specs.Cells.{cells};
+ghost use Rattle.an_rows.specs.Changes.{changes_of, is_settled};
+ghost use Rattle.an_rows.specs.Valid.{is_valid};
+ghost use Rattle.an_shelf.specs.Opening.{StandFor, WasDamagedBy};
+ghost use Rattle.an_shelf.specs.Writing.{IsRefused, Writes, refusal_error, state_after};
+
+use crate::error::{OpenError, WriteError};
+use crate::opening::load;
+use an_base::Moment;
+use an_keep::{KeepError, Keeper};
+use an_machine::{Book, Command, Decided, Entry, Refused, WriteReply};
+use an_policy::Caller;
+use an_rows::cells_of;
+use std::alloc::Global;
+use std::marker::Model;
+
+/// A store that one caller after the other reads and writes. Where its keeper tells its cells, they
+/// are those of the state.
+#[derive(Drop)]
+pub struct Desk<K: Keeper> {
+    keeper: K,
+    book: Book,
+}
+
+impl<K: Keeper> Model for Desk<K> {
+    ghost use Rattle.std.specs.Prelude.{◌≡◌, IfSome};
+    ghost use Rattle.std.specs.Coded.{codes};
+    ghost use Rattle.an_base.specs.TreeCode.{tree_code};
+    ghost use Rattle.an_rows.specs.Cells.{cells};
+    ghost use Rattle.an_shelf.specs.Store.{Store};
+
+    ghost Value = { Store };
+
+    ghost coded = { Prim.hlevel (codes, tree_code) };
+
+    ghost view = { λ d. record {
+      state = d.book.state;
+      told = K.told d.keeper;
+      faults = K.faults d.keeper;
+    } };
+
+    ghost invariant = { λ d. IfSome (K.told d.keeper) (λ found. found ≡ cells d.book.state) };
+}
+
+impl<K: Keeper> Desk<K> {
+    /// Opens a keeper: the state is the one that its cells stand for. Where it is refused, the
+    /// keeper is gone, and no cell of it was changed.
+    pub fn open(alloc: Global, mut keeper: K) -> Result<Desk<K>, OpenError>
+        ensures state { IfOk result (λ desk. StandFor desk.told desk.state) }
+        ensures stays { IfOk result (λ desk. StaysOrBegins (K.told keeper) desk.told) }
+        ensures cells { IfOk result (λ desk. IfSome desk.told (λ found. found
+            ≡ cells desk.state)) }
+        ensures damaged { IfErr result (WasDamagedBy K.told (K.told keeper)) }
+        ensures sure { IsTrue K.is_sure → ¬ (result ≡ Err OpenError.Keeper) }
+
+        // Whether the cells are told or not.
+        ensures valid { IfOk result (λ desk. IsTrue (is_valid desk.state)) }
+        ensures sound { IfOk result (λ desk. IsTrue (is_sound desk.state)) }
+    {
+        let book = load(alloc, &mut keeper)?;
+        Ok(Desk { keeper, book })
+    }
+
+    /// Does a write: it is decided, kept, and then applied. All memory is taken before it is kept.
+    pub fn write(
+        &mut self,
+        alloc: Global,
+        moment: Moment,
+        caller: &Caller,
+        command: Command,
+    ) -> Result<WriteReply, WriteError>
+        ensures written { IfOk result (λ reply. Writes
+            (step self.old.state moment caller.now command) self.old.state reply self.new.state) }
+        ensures refused { IfErr result
+            (IsRefused (step self.old.state moment caller.now command)) }
+        ensures no_memory { ¬ (result ≡ Err (WriteError.Refused Refused.Memory)) }
+
+        // The cells follow the state, and a write that isn't done changes neither.
+        ensures told { Turns (λ found. cells self.new.state) self.old.told self.new.told }
+        ensures still { OnErr result (self.new.state ≡ self.old.state) }
+        ensures stays { OnErr result (Stays self.old.told self.new.told) }
+
+        // Without an entry the keeper isn't called.
+        ensures repeated { IfOk result (λ reply. IsTrue reply.repeat → self.new ≡ self.old) }
+        ensures passed { (refusal : Refused) → result ≡ Err (WriteError.Refused refusal)
+            → self.new ≡ self.old }
+        ensures counted { result ≡ Err WriteError.Keeper → Rises self.old.faults self.new.faults }
+        ensures faults_kept { self.old.faults ≤ self.new.faults }
+    {
+        write(
+            alloc,
+            &mut self.keeper,
+            &mut self.book,
+            moment,
+            caller,
+            &command,
+        )
+    }
+
+    /// What the state is. It takes no memory.
+    pub fn look(&self) -> &Book
+        ensures state { result.now.state ≡ self.now.state }
+        ensures cells { IfSome self.now.told (λ found. found ≡ cells self.now.state) }
+    {
+        &self.book
+    }
+
+    /// Gives the keeper back, whose cells are those of the state. It takes no memory.
+    pub fn into_keeper(self) -> K
+        ensures told { K.told result ≡ self.told }
+        ensures faults { K.faults result ≡ self.faults }
+        ensures cells { IfSome self.told (λ found. found ≡ cells self.state) }
+    {
+        self.keeper
+    }
+}
+
+/// Does a write on a keeper and the book of its cells.
+fn write<K: Keeper>(
+    alloc: Global,
+    keeper: &mut K,
+    book: &mut Book,
+    moment: Moment,
+    caller: &Caller,
+    command: &Command,
+) -> Result<WriteReply, WriteError>
+    requires cells { IfSome (K.told keeper.old) (λ found. found ≡ cells book.old.state) }
+    ensures written { IfOk result (λ reply. Writes
+        (step book.old.state moment caller.now command.now) book.old.state reply book.new.state) }
+    ensures refused { IfErr result
+        (IsRefused (step book.old.state moment caller.now command.now)) }
+    ensures no_memory { ¬ (result ≡ Err (WriteError.Refused Refused.Memory)) }
+    ensures told { Turns (λ found. cells book.new.state) (K.told keeper.old) (K.told keeper.new) }
+    ensures still { OnErr result (book.new.state ≡ book.old.state) }
+    ensures stays { OnErr result (Stays (K.told keeper.old) (K.told keeper.new)) }
+    ensures repeated { IfOk result (λ reply. IsTrue reply.repeat → keeper.new ≡ keeper.old) }
+    ensures repeats { IfOk result
+        (λ reply. IsTrue reply.repeat → book.new.state ≡ book.old.state) }
+    ensures passed { (refusal : Refused) → result ≡ Err (WriteError.Refused refusal)
+        → keeper.new ≡ keeper.old }
+    ensures counted { result ≡ Err WriteError.Keeper
+        → Rises (K.faults keeper.old) (K.faults keeper.new) }
+    ensures faults_kept { K.faults keeper.old ≤ K.faults keeper.new }
+{
+    let decided = decide(alloc, book, moment, caller, command)?;
+    settle(alloc, keeper, book, decided)
+}
+
+/// Decides a write. Want of memory is no refusal of the machine.
+fn decide(
+    alloc: Global,
+    book: &Book,
+    moment: Moment,
+    caller: &Caller,
+    command: &Command,
+) -> Result<Decided, WriteError>
+    ensures decided { IfOk result (λ write. step book.now.state moment caller.now command.now
+        ≡ Ok write) }
+    ensures refused { IfErr result
+        (IsRefused (step book.now.state moment caller.now command.now)) }
+    ensures no_memory { ¬ (result ≡ Err (WriteError.Refused Refused.Memory)) }
+    ensures no_keeper { ¬ (result ≡ Err WriteError.Keeper) }
+{
+    match book.decide(alloc, moment, caller, command) {
+        Ok(decided) => Ok(decided),
+        Err(refused) => Err(refusal_error(refused)),
+    }
+}
+
+fn refusal_error(refused: Refused) -> WriteError
+    ensures { result ≡ refusal_error refused }
+{
+    if matches!(refused, Refused::Memory) {
+        WriteError::Memory
+    } else {
+        WriteError::Refused(refused)
+    }
+}
+
+/// Does what was decided.
+fn settle<K: Keeper>(
+    alloc: Global,
+    keeper: &mut K,
+    book: &mut Book,
+    decided: Decided,
+) -> Result<WriteReply, WriteError>
+    requires settled { IfSome decided.entry (λ entry. IsTrue (is_settled book.old.state entry)) }
+    requires cells { IfSome (K.told keeper.old) (λ found. found ≡ cells book.old.state) }
+    ensures replies { IfOk result (λ reply. reply ≡ decided.reply) }
+    ensures leads { OnOk result (book.new.state ≡ state_after book.old.state decided.entry) }
+    ensures no_refusal { (refusal : Refused) → ¬ (result ≡ Err (WriteError.Refused refusal)) }
+    ensures told { Turns (λ found. cells book.new.state) (K.told keeper.old) (K.told keeper.new) }
+    ensures still { OnErr result (book.new.state ≡ book.old.state) }
+    ensures stays { OnErr result (Stays (K.told keeper.old) (K.told keeper.new)) }
+    ensures repeated { decided.entry ≡ None → keeper.new ≡ keeper.old }
+    ensures counted { result ≡ Err WriteError.Keeper
+        → Rises (K.faults keeper.old) (K.faults keeper.new) }
+    ensures faults_kept { K.faults keeper.old ≤ K.faults keeper.new }
+{
+    let Decided { entry, reply } = decided;
+    match entry {
+        Some(entry) => {
+            put(alloc, keeper, book, entry)?;
+            Ok(reply)
+        }
+        None => Ok(reply),
+    }
+}
+
+/// Keeps what an entry changes, and then applies it.
+fn put<K: Keeper>(
+    alloc: Global,
+    keeper: &mut K,
+    book: &mut Book,
+    entry: Entry,
+) -> Result<(), KeepError>
+    requires settled { IsTrue (is_settled book.old.state entry) }
+    requires cells { IfSome (K.told keeper.old) (λ found. found ≡ cells book.old.state) }
+    ensures told { Turns (λ found. cells book.new.state) (K.told keeper.old) (K.told keeper.new) }
+    ensures applied { OnOk result (book.new.state ≡ after book.old.state entry) }
+    ensures stays { OnErr result (Stays (K.told keeper.old) (K.told keeper.new)) }
+    ensures still { OnErr result (book.new.state ≡ book.old.state) }
+    ensures counted { result ≡ Err KeepError.Failed
+        → Rises (K.faults keeper.old) (K.faults keeper.new) }
+    ensures faults_kept { K.faults keeper.old ≤ K.faults keeper.new }
+{
+    match keep(alloc, keeper, book, &entry) {
+        Ok(()) => {
+            book.apply(entry);
+            Ok(())
+        }
+        Err(error) => Err(error),
+    }
+}
+
+/// Keeps what an entry changes, once there is the memory to apply it.
+fn keep<K: Keeper>(
+    alloc: Global,
+    keeper: &mut K,
+    book: &mut Book,
+    entry: &Entry,
+) -> Result<(), KeepError>
+    requires settled { IsTrue (is_settled book.old.state entry.now) }
+    ensures kept { OnOk result (Turns (put_changes (changes_of book.old.state entry.now))
+        (K.told keeper.old) (K.told keeper.new)) }
+    ensures room { OnOk result (needs entry.now ≤ book.new.room) }
+    ensures stays { OnErr result (Stays (K.told keeper.old) (K.told keeper.new)) }
+    ensures still { book.new.state ≡ book.old.state }
+    ensures counted { result ≡ Err KeepError.Failed
+        → Rises (K.faults keeper.old) (K.faults keeper.new) }
+    ensures faults_kept { K.faults keeper.old ≤ K.faults keeper.new }
+{
+    let changes = cells_of(alloc, entry, book)?;
+    book.room(entry)?;
+    keeper.commit(changes.as_slice())
+}

@@ -1,0 +1,97 @@
+ghost use Rattle.std.specs.Prelude.{◌≡◌, ◌≤◌, IfErr, IfOk, IfSome, IsTrue, Some, []};
+ghost use Rattle.an_keep.specs.Cells.{Ascend, first_of};
+ghost use Rattle.an_keep.specs.Keeper.{Rises, Stays, StaysOrBegins};
+ghost use Rattle.an_machine.specs.Sound.{is_sound};
+ghost use Rattle.an_rows.specs.Cells.{cells, is_first};
+ghost use Rattle.an_rows.specs.Valid.{is_valid};
+ghost use Rattle.an_shelf.specs.Opening.{IsDamagedBy, StandFor};
+ghost use Rattle.an_shelf.specs.Reading.{ComesNext};
+
+use crate::error::OpenError;
+use crate::restoring::{damage, restore};
+use an_keep::{Cell, Keeper};
+use an_machine::Book;
+use std::alloc::Global;
+
+/// The keys of a table end below this, so that no store has as many rows.
+const MOST_ROWS: u64 = 4_611_686_018_427_387_904;
+
+/// The state that a keeper's cells stand for, or which of them is damaged, the first in their
+/// order. It calls `first` once, and `next_after` once for each cell, and commits nothing.
+pub fn load<K: Keeper>(alloc: Global, keeper: &mut K) -> Result<Book, OpenError>
+    ensures state { IfOk result (λ book. StandFor (K.told keeper.new) book.state) }
+    ensures damaged { IfErr result (IsDamagedBy (K.told keeper.new)) }
+    ensures stays { StaysOrBegins (K.told keeper.old) (K.told keeper.new) }
+    ensures counted { result ≡ Err OpenError.Keeper
+        → Rises (K.faults keeper.old) (K.faults keeper.new) }
+    ensures faults_kept { K.faults keeper.old ≤ K.faults keeper.new }
+
+    // The cells are those of the state, and whether they are told or not it is valid and sound.
+    ensures cells { IfOk result (λ book. IfSome (K.told keeper.new)
+        (λ found. found ≡ cells book.state)) }
+    ensures valid { IfOk result (λ book. IsTrue (is_valid book.state)) }
+    ensures sound { IfOk result (λ book. IsTrue (is_sound book.state)) }
+{
+    match keeper.first()? {
+        Some(cell) => load_from(alloc, keeper, &cell),
+        None => Ok(Book::new(alloc)),
+    }
+}
+
+/// The state that the cells stand for of which this is the first.
+fn load_from<K: Keeper>(alloc: Global, keeper: &mut K, first: &Cell) -> Result<Book, OpenError>
+    requires first { IfSome (K.told keeper.old) (λ cells. Some first.now ≡ first_of cells) }
+    requires ascend { IfSome (K.told keeper.old) Ascend }
+    ensures state { IfOk result (λ book. StandFor (K.told keeper.new) book.state) }
+    ensures cells { IfOk result (λ book. IfSome (K.told keeper.new)
+        (λ found. found ≡ cells book.state)) }
+    ensures valid { IfOk result (λ book. IsTrue (is_valid book.state)) }
+    ensures sound { IfOk result (λ book. IsTrue (is_sound book.state)) }
+    ensures damaged { IfErr result (IsDamagedBy (K.told keeper.new)) }
+    ensures stays { Stays (K.told keeper.old) (K.told keeper.new) }
+    ensures counted { result ≡ Err OpenError.Keeper
+        → Rises (K.faults keeper.old) (K.faults keeper.new) }
+    ensures faults_kept { K.faults keeper.old ≤ K.faults keeper.new }
+{
+    if !is_first(first) {
+        return Err(damage(first));
+    }
+    match keeper.next_after(first.tab, first.key)? {
+        Some(cell) => load_rows(alloc, keeper, cell),
+        None => Err(damage(first)),
+    }
+}
+
+/// Whether the cell says how the others are written.
+#[tactic(auto, unfolding(an_rows::specs::Cells::is_first))]
+fn is_first(cell: &Cell) -> bool
+    ensures { result ≡ is_first cell.now }
+{
+    cell.tab == 0 && cell.key == 0 && cell.val.as_slice() == "{\"format\":1}".as_bytes()
+}
+
+/// The state of the rows from this cell on, which stands behind the first.
+fn load_rows<K: Keeper>(alloc: Global, keeper: &mut K, cell: Cell) -> Result<Book, OpenError>
+    requires next { IfSome (K.told keeper.old) (ComesNext [] cell) }
+    ensures state { IfOk result (λ book. StandFor (K.told keeper.new) book.state) }
+    ensures cells { IfOk result (λ book. IfSome (K.told keeper.new)
+        (λ found. found ≡ cells book.state)) }
+    ensures valid { IfOk result (λ book. IsTrue (is_valid book.state)) }
+    ensures sound { IfOk result (λ book. IsTrue (is_sound book.state)) }
+    ensures damaged { IfErr result (IsDamagedBy (K.told keeper.new)) }
+    ensures stays { Stays (K.told keeper.old) (K.told keeper.new) }
+    ensures counted { result ≡ Err OpenError.Keeper
+        → Rises (K.faults keeper.old) (K.faults keeper.new) }
+    ensures faults_kept { K.faults keeper.old ≤ K.faults keeper.new }
+{
+    let mut book = Book::new(alloc);
+    let mut cell = cell;
+    for _ in 0..MOST_ROWS {
+        restore(alloc, &mut book, &cell)?;
+        match keeper.next_after(cell.tab, cell.key)? {
+            Some(next) => cell = next,
+            None => return Ok(book),
+        }
+    }
+    Err(OpenError::Memory)
+}
