@@ -1,0 +1,4 @@
+pub mod Due
+pub mod Run
+pub mod Session
+pub mod Turn

@@ -1,0 +1,13 @@
+//! One connection: requests are read, answered and replied to in turn, up to its end.
+#![tactic(auto)]
+
+pub use ended::Ended;
+pub use laws::{dues_are_requests, dues_are_unique};
+pub use serve::serve_link;
+pub use service::Service;
+
+mod ended;
+mod laws;
+mod serve;
+mod service;
+mod turn;
