@@ -2,4 +2,6 @@ mod SplitLemmas
 mod SplitRows
 pub mod StatusLemmas
 pub mod FollowLemmas
+pub mod ImportLemmas
+pub mod RunLemmas
 pub mod QueryLemmas

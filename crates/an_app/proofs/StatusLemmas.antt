@@ -1,16 +1,17 @@
 -- How the calls of a run add up to its end.
-use Rattle.std.proofs.Common.{◌≡◌, ℕ, ◌+◌, ◌-◌, ◌^◌, ◌<◌, ◌≤◌, ◌⊎◌, inl, inr, ⊎_elim, Bool, true, false, cond, List, [], ◌++◌, length, take, drop, Option, Some, None, IfSome, IfNone, refl, sym, ap, ◌∙◌, append-nil, nat_lt, arith}
+use Rattle.std.proofs.Common.{◌≡◌, ℕ, ◌+◌, ◌-◌, ◌^◌, ◌<◌, ◌≤◌, ◌⊎◌, inl, inr, ⊎_elim, Bool, true, false, cond, List, [], ◌++◌, length, take, drop, Option, Some, None, refl, sym, ap, subst, ◌∙◌, append-nil, nat_lt, arith}
 use Rattle.std.proofs.lemmas.Bool.{cases_lt}
 use Rattle.std.proofs.lemmas.List.{take-append-drop}
 use Rattle.an_world.specs.Link.{Traffic, Reads, Writes, WritesFront, Rises, IsAtEnd, ReadsAtMost}
 use Rattle.an_machine.specs.State.{empty}
 use Rattle.an_search.specs.Site.{Site}
-use Rattle.an_app.specs.Find.{Played, Stop, Report, play, report_of, report_played}
+use Rattle.an_app.specs.Find.{Played, Report, play, report_of, report_played}
 use Rattle.an_app.specs.Split.{lines_of}
 use Rattle.an_app.specs.Input.{input_limit, IsReadWhole}
-use Rattle.an_app.specs.Status.{Exchanges, Finds, Misunderstands, PrintsFront, Reports, ReadsLittle, read_fault_text}
+use Rattle.an_app.specs.Status.{Exchanges, Finds, IsUnfailing, PrintsFront, Reports, ReadsLittle, read_fault_text}
 use Rattle.an_app.specs.declared.status.Status.{Status}
 use Rattle.an_app.specs.declared.status.Status.TheVariants as status
+use Rattle.an_app.specs.declared.stop.Stop.{Stop}
 
 -- ---- what is read and written
 
@@ -32,13 +33,13 @@ exchange-read read None (Some new) r = absurd r
 exchange-read read (Some old) None r = absurd r
 exchange-read read (Some old) (Some new) r = record { left = r.left; read = r.read; written = r.written ∙ sym (append-nil _) }
 
-IsAtEnd-written : (written : List ℕ) (mid new : Option Traffic) → Writes written mid new → IsAtEnd mid → IsAtEnd new
+pub IsAtEnd-written : (written : List ℕ) (mid new : Option Traffic) → Writes written mid new → IsAtEnd mid → IsAtEnd new
 IsAtEnd-written written None None w e = tt
 IsAtEnd-written written None (Some new) w e = absurd w
 IsAtEnd-written written (Some mid) None w e = absurd w
 IsAtEnd-written written (Some mid) (Some new) w e = w.left ∙ e
 
-reads-nothing : (traffic : Option Traffic) → Reads [] traffic traffic
+pub reads-nothing : (traffic : Option Traffic) → Reads [] traffic traffic
 reads-nothing None = tt
 reads-nothing (Some traffic) = record { left = refl; read = sym (append-nil _); written = refl }
 
@@ -80,10 +81,10 @@ report_of-ends site input =
     let played = play site (lines_of input) 1 empty in
     cond-ends (nat_lt input_limit (length input)) _ _ (inr refl) (report_played-ends played played.stop)
 
-pub ends_of_report : (site : Site) (input : List ℕ) (report : Report) → report ≡ report_of site input
-    → (report.status ≡ status.Played) ⊎ ((report.status ≡ status.Refused) ⊎ (report.status ≡ status.Memory))
-ends_of_report site input report is =
-    ⊎_elim (λ e. inl (ap (λ r. r.status) is ∙ e)) (λ e. inr (inl (ap (λ r. r.status) is ∙ e))) (report_of-ends site input)
+pub report_unfailing : (site : Site) (input : List ℕ) (report : Report) → report ≡ report_of site input → IsUnfailing report.status
+report_unfailing site input report is =
+    let ends : report.status ≡ (report_of site input).status = ap (λ r. r.status) is in
+    ⊎_elim (λ e. subst IsUnfailing (sym (ends ∙ e)) tt) (λ e. subst IsUnfailing (sym (ends ∙ e)) tt) (report_of-ends site input)
 
 -- ---- the ends of `find`
 
@@ -116,8 +117,10 @@ module _ (site : Site) (Unread Failed : Type 0) where
   reported old new status.Refused either reports = reports
   reported old new status.WriteFault either reports = absurd (⊎_elim (λ e. cc) (λ e. cc) either)
   reported old new status.Misunderstood either reports = absurd (⊎_elim (λ e. cc) (λ e. cc) either)
+  reported old new status.KeeperFailed either reports = absurd (⊎_elim (λ e. cc) (λ e. cc) either)
   reported old new status.ReadFault either reports = absurd (⊎_elim (λ e. cc) (λ e. cc) either)
   reported old new status.Memory either reports = absurd (⊎_elim (λ e. cc) (λ e. cc) either)
+  reported old new (status.Damaged tab key) either reports = absurd (⊎_elim (λ e. cc) (λ e. cc) either)
 
   pub Finds-reported : (input : List ℕ) (report : Report) (old mid new : Option Traffic) → report ≡ report_of site input → Reads input old mid
       → IsReadWhole input mid → Writes report.text mid new → Finds site Unread Failed old new report.status
@@ -155,15 +158,5 @@ module _ (site : Site) (Unread Failed : Type 0) where
       → Finds site Unread Failed old new status.WriteFault
   unfolding Finds
   Finds-nothing_told old mid new r unread w failed = (failed, inr (unread, (r.0, prints-front r.0 read_fault_text old mid new r.1 w)))
-
--- memory ran out before anything was read
-pub Finds-nothing_read : (Unread Failed : Type 0) (traffic : Option Traffic) (o : Option Site) → IfSome o (λ site. Finds site Unread Failed traffic traffic status.Memory)
-Finds-nothing_read Unread Failed traffic None = tt
-Finds-nothing_read Unread Failed traffic (Some site) = Finds-no_memory site Unread Failed traffic traffic ([], reads-nothing traffic, omega arith)
-
-pub Misunderstands-nothing_read : (Failed : Type 0) (traffic : Option Traffic) (o : Option Site) → IfNone o (Misunderstands Failed traffic traffic status.Memory)
-unfolding Misunderstands
-Misunderstands-nothing_read Failed traffic None = exchange-read [] traffic traffic (reads-nothing traffic)
-Misunderstands-nothing_read Failed traffic (Some site) = tt
 
 pub ruleset ends_of_find = (Finds-no_memory, reads_little-only)

@@ -1,36 +1,28 @@
 -- What lines do, one after another: writes change the state, reads print an answer, and the first
 -- refusal of what is not old ends the run.
-use Rattle.std.specs.Prelude.{ℕ, ◌+◌, ℤ, List, [], ◌∷◌, ◌++◌, length, codes, decimal, Bool, false}
-use Rattle.std.specs.Prelude.{nat_lt, if◌then◌else◌, Option, Some, None, Result, Ok, Err}
+use Rattle.std.specs.Prelude.{ℕ, ◌+◌, List, [], ◌∷◌, ◌++◌, length, codes, decimal, nat_lt}
+use Rattle.std.specs.Prelude.{if◌then◌else◌, Option, Some, None, Result, Ok, Err}
 use Rattle.an_base.specs.declared.code.Code.TheVariants as code
 use Rattle.an_http.specs.Status.{number_of}
 use Rattle.an_http.specs.declared.reply.Reply.{Reply}
 use Rattle.an_policy.specs.declared.who.Caller.{Caller}
 use Rattle.an_policy.specs.declared.who.Caller.TheVariants as caller
-use Rattle.an_machine.specs.Asked.{version_of}
-use Rattle.an_machine.specs.Entries.{after}
 use Rattle.an_machine.specs.State.{State, empty}
-use Rattle.an_machine.specs.Step.{step}
-use Rattle.an_machine.specs.declared.command.Command.{Command}
-use Rattle.an_machine.specs.declared.command.Decided.{Decided}
-use Rattle.an_machine.specs.declared.command.Refused.{Refused}
-use Rattle.an_machine.specs.declared.command.Refused.TheVariants.{NotSigned, NotWriter, NotOwn}
-use Rattle.an_machine.specs.declared.command.Refused.TheVariants.{NoManifest, NotMember, Shape}
-use Rattle.an_machine.specs.declared.command.Refused.TheVariants.{GroupFixed, TokenTaken, Version}
-use Rattle.an_machine.specs.declared.command.Refused.TheVariants.{Memory}
-use Rattle.an_machine.specs.declared.entry.Entry.{Entry}
 use Rattle.an_search.specs.Site.{Site}
-use Rattle.an_app.specs.Answer.{answer_of, query_answer, view_by, write_refusal}
+use Rattle.an_app.specs.Answer.{answer_of, query_answer, view_by}
 use Rattle.an_app.specs.Asked.{asked_of}
 use Rattle.an_app.specs.Input.{input_limit}
-use Rattle.an_app.specs.Refusal.{refusal_text}
 use Rattle.an_app.specs.Split.{lines_of}
+use Rattle.an_app.specs.Stop.{refusal_line}
+use Rattle.an_app.specs.Written as written
+use Rattle.an_app.specs.Written.{Written, written_of}
 use Rattle.an_app.specs.declared.asked.Asked.{Asked}
 use Rattle.an_app.specs.declared.asked.Asked.TheVariants as asked
 use Rattle.an_app.specs.declared.refusal.Refusal.{Refusal}
 use Rattle.an_app.specs.declared.refusal.Refusal.TheVariants as refusal
 use Rattle.an_app.specs.declared.status.Status.{Status}
 use Rattle.an_app.specs.declared.status.Status.TheVariants as status
+use Rattle.an_app.specs.declared.stop.Stop.{Stop}
 
 -- what a line comes to: nothing, a printed answer, another state, or the end of the run
 pub data Turn : Type 0 where
@@ -41,38 +33,10 @@ pub data Turn : Type 0 where
 
 -- ---- a line that writes
 
--- a line by nobody's name is written by the operator
-abbrev pub writer : Option (List ℕ) → Caller
-writer None = caller.Operator
-writer (Some name) = caller.Named name
-
--- a write that had been done already changes nothing
-abbrev pub state_after : State → Option Entry → State
-state_after s None = s
-state_after s (Some entry) = after s entry
-
--- a write whose number is below the current one is old, and passed over
-abbrev pub is_old : ℕ → Refused → Bool
-is_old version (Version current) = nat_lt version current
-is_old version NotSigned = false
-is_old version NotWriter = false
-is_old version NotOwn = false
-is_old version NoManifest = false
-is_old version NotMember = false
-is_old version (Shape shape) = false
-is_old version GroupFixed = false
-is_old version TokenTaken = false
-is_old version Memory = false
-
-abbrev pub decided_turn : State → ℕ → Result Decided Refused → Turn
-decided_turn s version (Ok decided) = writes (state_after s decided.entry)
-decided_turn s version (Err refused) =
-    if is_old version refused then passes else stops (write_refusal refused)
-
--- a command of this caller, at the line's moment
-abbrev pub command_turn : State → ℤ → Option (List ℕ) → Command → Turn
-command_turn s moment by command =
-    decided_turn s (version_of command) (step s moment (writer by) command)
+abbrev pub write_turn : Written → Turn
+write_turn (written.done repeat t) = writes t
+write_turn written.old = passes
+write_turn (written.refused why) = stops why
 
 -- ---- a line that reads
 
@@ -94,18 +58,14 @@ asked_turn site s (Ok (asked.Read by read)) =
     prints (reply_line (answer_of site (view_by s (reader by)) read))
 asked_turn site s (Ok (asked.Unread by methods refusal)) =
     prints (reply_line (query_answer (view_by s (reader by)) methods refusal))
-asked_turn site s (Ok (asked.Write moment by command)) = command_turn s moment by command
+asked_turn site s (Ok (asked.Write moment by command)) =
+    write_turn (written_of s moment by command)
 asked_turn site s (Err refusal) = stops refusal
 
 unfoldable pub turn_of : Site → State → List ℕ → Turn
 turn_of site s line = asked_turn site s (asked_of line)
 
 -- ---- all lines
-
--- the number of a line, from 1, and why it is refused
-pub record Stop : Type 0 where
-  pub line : ℕ
-  pub why : Refusal
 
 -- what is printed for the lines, and where they stop, if they do
 pub record Played : Type 0 where
@@ -127,12 +87,6 @@ follow number s go (stops why) =
 abbrev pub play : Site → List (List ℕ) → ℕ → State → Played
 play site [] number s = record { output = []; stop = None }
 play site (line ∷ lines) number s = follow number s (play site lines) (turn_of site s line)
-
--- the refusal of a line, as it is printed
-abbrev pub refusal_line : Stop → List ℕ
-refusal_line stop =
-    codes "line " ++ (decimal stop.line ++ (codes " refused: " ++ (refusal_text stop.why
-    ++ codes "\n")))
 
 -- how the run ends, and what is printed
 pub record Report : Type 0 where

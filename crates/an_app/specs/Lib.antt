@@ -7,8 +7,14 @@ pub mod Query
 pub mod Routes
 pub mod Answer
 pub mod Asked
+pub mod Stop
+pub mod Written
 pub mod Find
+pub mod Import
 pub mod Turned
 pub mod Status
+pub mod ImportEnds
+pub mod Words
 pub mod StatusCode
 pub mod Shown
+pub mod Told

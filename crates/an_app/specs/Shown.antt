@@ -1,11 +1,26 @@
--- For private clauses: what was played, as the definition says it.
-use Rattle.std.specs.Prelude.{option_map}
+-- For private clauses: what was played or imported, as the definitions say it.
+use Rattle.an_machine.specs.State.{State}
+use Rattle.std.specs.Prelude.{◌≡◌, Result, Ok, Err}
 use Rattle.an_app.specs.Find as find
+use Rattle.an_app.specs.Import as import
+use Rattle.an_app.specs.declared.counts.Counts.{Counts}
+use Rattle.an_app.specs.declared.importing.Imported.{Imported}
 use Rattle.an_app.specs.declared.lines.Played.{Played}
-use Rattle.an_app.specs.declared.lines.Stop.{Stop}
-
-abbrev pub shown_stop : Stop → find.Stop
-shown_stop stop = record { line = stop.line; why = stop.why }
+use Rattle.an_app.specs.declared.refusal.Refusal.{Refusal}
 
 abbrev pub shown : Played → find.Played
-shown played = record { output = played.output.items; stop = option_map shown_stop played.stop }
+shown played = record { output = played.output.items; stop = played.stop }
+
+-- the lines led to this state
+abbrev pub shown_import : State → Imported → import.Imported
+shown_import s i = record {
+  progress = record { state = s; counts = i.counts };
+  stop = i.stop;
+}
+
+-- a line led to this state and these counts, or was refused and left the state
+abbrev pub Leads : Result import.Progress Refusal → State → State → Result Counts Refusal → Type 0
+Leads (Ok p) s t (Ok counts) = (t ≡ p.state) × (counts ≡ p.counts)
+Leads (Ok p) s t (Err why) = ⊥
+Leads (Err why) s t (Ok counts) = ⊥
+Leads (Err why) s t (Err other) = (other ≡ why) × (t ≡ s)

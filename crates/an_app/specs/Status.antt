@@ -1,16 +1,13 @@
 -- How a run ends: its status, what it has read and printed, and why.
-use Rattle.std.specs.Prelude.{◌≡◌, ℕ, ◌+◌, ◌≤◌, ◌⊎◌, List, [], ◌∷◌, ◌++◌, length, codes, Option}
-use Rattle.std.specs.Prelude.{None}
-use Rattle.std.specs.Prelude.{◌&&◌, bytes_eq, if◌then◌else◌}
-use Rattle.std.specs.Result.{result_ok}
+use Rattle.std.specs.Prelude.{◌≡◌, ℕ, ◌+◌, ◌≤◌, ◌⊎◌, List, [], ◌++◌, length, codes, Option, ⊤}
 use Rattle.an_world.specs.Link.{Traffic, Tells}
-use Rattle.an_search.specs.Settings.{settings_of}
 use Rattle.an_search.specs.Site.{Site}
 use Rattle.an_app.specs.Find.{report_of}
 use Rattle.an_app.specs.Input.{input_limit, IsReadWhole}
 use Rattle.an_app.specs.declared.status.Status.{Status}
 use Rattle.an_app.specs.declared.status.Status.TheVariants.{Played, WriteFault, Misunderstood}
-use Rattle.an_app.specs.declared.status.Status.TheVariants.{Refused, ReadFault, Memory}
+use Rattle.an_app.specs.declared.status.Status.TheVariants.{Refused, KeeperFailed, ReadFault}
+use Rattle.an_app.specs.declared.status.Status.TheVariants.{Memory, Damaged}
 
 -- bytes were read, and others written, and nothing else moved
 pub record Moves (input output : List ℕ) (old new : Traffic) : Type 0 where
@@ -30,20 +27,23 @@ read_fault_text = codes "read failed\n"
 abbrev pub misunderstood_text : List ℕ
 misunderstood_text = codes "words not understood\n"
 
--- the settings that the words give: `-`, `find`, the base of all IRIs, and the size of a page
-abbrev pub find_site : List (List ℕ) → Option Site
-find_site (store ∷ name ∷ base ∷ size ∷ []) =
-    if bytes_eq store (codes "-") && bytes_eq name (codes "find") then result_ok
-    (settings_of base size)
-    else None
-find_site _ = None
-
 -- this was read, and a front of the text was printed
 pub record PrintsFront (input text : List ℕ) (old new : Option Traffic) : Type 0 where
   pub front : List ℕ
   pub rest : List ℕ
   pub is : text ≡ front ++ rest
   pub exchanged : Exchanges input front old new
+
+-- no call of the link failed
+abbrev pub IsUnfailing : Status → Type 0
+IsUnfailing WriteFault = ⊥
+IsUnfailing ReadFault = ⊥
+IsUnfailing Played = ⊤
+IsUnfailing Misunderstood = ⊤
+IsUnfailing Refused = ⊤
+IsUnfailing KeeperFailed = ⊤
+IsUnfailing Memory = ⊤
+IsUnfailing (Damaged tab key) = ⊤
 
 -- ---- words of no form; nothing is read
 
@@ -54,7 +54,9 @@ Misunderstands Failed old new WriteFault = Failed × PrintsFront [] misunderstoo
 Misunderstands Failed old new Memory = Exchanges [] [] old new
 Misunderstands Failed old new Played = ⊥
 Misunderstands Failed old new Refused = ⊥
+Misunderstands Failed old new KeeperFailed = ⊥
 Misunderstands Failed old new ReadFault = ⊥
+Misunderstands Failed old new (Damaged tab key) = ⊥
 
 -- ---- `find`
 
@@ -83,6 +85,8 @@ Finds site Unread Failed old new ReadFault =
     Unread × ((input : List ℕ) × Exchanges input read_fault_text old new)
 Finds site Unread Failed old new Memory = (input : List ℕ) × Exchanges input [] old new
 Finds site Unread Failed old new Misunderstood = ⊥
+Finds site Unread Failed old new KeeperFailed = ⊥
+Finds site Unread Failed old new (Damaged tab key) = ⊥
 
 -- little more is read than an input may have
 pub record ReadsLittle (old new : Option Traffic) : Type 0 where

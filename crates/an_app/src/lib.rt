@@ -4,6 +4,7 @@
 
 pub use answers::{answer, query_answer, refusal_reply, write_answer};
 pub use asked::command_of;
+pub use importing::import;
 pub use kinds::{Read, Route, RouteError, WriteRoute};
 pub use lines::find;
 pub use program::run;
@@ -13,6 +14,9 @@ pub use status::Status;
 
 mod answers;
 mod asked;
+mod counts;
+mod import_line;
+mod importing;
 mod kinds;
 mod line;
 mod lines;
@@ -22,5 +26,8 @@ mod refusal;
 mod routes;
 mod split;
 mod status;
+mod stop;
 mod target;
+mod told;
 mod turn;
+mod written;

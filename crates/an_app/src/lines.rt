@@ -1,36 +1,28 @@
-ghost use Rattle.std.specs.Prelude.{◌≡◌, ◌⊎◌, IfOk, IsTrue, string_bytes};
+ghost use Rattle.std.specs.Prelude.{◌≡◌, IfOk, IsTrue};
 ghost use Rattle.an_world.specs.Link.{Rises};
 ghost use Rattle.an_machine.specs.State.{empty};
-ghost use Rattle.an_app.specs.Find.{play, report_of, report_played, refusal_line};
+ghost use Rattle.an_app.specs.Find.{play, report_of, report_played};
 ghost use Rattle.an_app.specs.Shown.{shown};
 ghost use Rattle.an_app.specs.Split.{lines_of};
-ghost use Rattle.an_app.specs.Status.{Finds, ReadsLittle};
+ghost use Rattle.an_app.specs.Status.{Finds, IsUnfailing, ReadsLittle};
 
-use crate::refusal::Refusal;
 use crate::split::first_line;
 use crate::status::Status;
+use crate::stop::{Stop, TOO_LARGE, refusal_line};
 use crate::turn::turn;
-use an_base::Code;
 use an_machine::Book;
 use an_search::Settings;
 use an_world::{Link, LinkError, read_to, write_all};
 use std::alloc::{AllocError, Global};
 
 /// How many bytes an input may have.
-const INPUT_LIMIT: usize = 268_435_456;
+pub(crate) const INPUT_LIMIT: usize = 268_435_456;
 
 /// How the run ends, and what is to be printed.
 #[derive(Drop)]
-struct Report {
-    status: Status,
-    text: Vec<u8>,
-}
-
-/// The number of a line, from 1, and why it is refused.
-#[derive(Clone, Copy)]
-struct Stop {
-    line: usize,
-    why: Refusal,
+pub(crate) struct Report {
+    pub status: Status,
+    pub text: Vec<u8>,
 }
 
 /// What is to be printed for the lines, and where they stop, if they do.
@@ -53,8 +45,7 @@ pub fn find<L: Link>(alloc: Global, link: &mut L, settings: &Settings) -> Status
     ensures bounded { ReadsLittle (L.traffic link.old) (L.traffic link.new) }
 
     // Over a link that never fails the whole report is printed, unless memory runs out.
-    ensures sure { IsTrue L.is_sure
-        → (result ≡ Status.Played) ⊎ ((result ≡ Status.Refused) ⊎ (result ≡ Status.Memory)) }
+    ensures sure { IsTrue L.is_sure → IsUnfailing result }
 {
     match read_to(alloc, link, INPUT_LIMIT + 1) {
         Ok(input) => match report_of(alloc, input.as_slice(), settings) {
@@ -81,7 +72,7 @@ fn report_of(alloc: Global, input: &[u8], settings: &Settings) -> Result<Report,
         ≡ report_of settings.now input.now) }
 {
     if input.len() > INPUT_LIMIT {
-        let text = refusal_line(alloc, 0, Refusal::Code(Code::Input))?;
+        let text = refusal_line(alloc, TOO_LARGE)?;
         return Ok(Report {
             status: Status::Refused,
             text: text.into_bytes(),
@@ -98,7 +89,7 @@ fn report_played(alloc: Global, played: Played) -> Result<Report, AllocError>
     let Played { output, stop } = played;
     match stop {
         Some(stop) => {
-            let text = refusal_line(alloc, stop.line, stop.why)?;
+            let text = refusal_line(alloc, stop)?;
             let mut output = output;
             output.extend_from_slice(text.as_bytes())?;
             Ok(Report {
@@ -111,15 +102,6 @@ fn report_played(alloc: Global, played: Played) -> Result<Report, AllocError>
             text: output,
         }),
     }
-}
-
-/// The refusal of a line, as it is printed.
-fn refusal_line(alloc: Global, line: usize, why: Refusal) -> Result<String, AllocError>
-    ensures { IfOk result (λ text. string_bytes text ≡ refusal_line
-        (record { line = line; why = why })) }
-{
-    let code = why.text();
-    format!(in alloc; "line {line} refused: {code}\n")
 }
 
 /// Plays all lines of an input, from the empty state.

@@ -12,10 +12,14 @@ pub enum Status {
     Misunderstood,
     /// A line was refused, or the input is too large.
     Refused,
+    /// The keeper of the store failed.
+    KeeperFailed,
     /// A read failed.
     ReadFault,
     /// Memory ran out, and nothing was printed.
     Memory,
+    /// The cells of the store stand for no state. This one is the first that is damaged.
+    Damaged { tab: u8, key: u64 },
 }
 
 impl Status {
@@ -28,8 +32,10 @@ impl Status {
             Status::WriteFault => 1,
             Status::Misunderstood => 2,
             Status::Refused => 3,
+            Status::KeeperFailed => 4,
             Status::ReadFault => 5,
             Status::Memory => 6,
+            Status::Damaged { .. } => 7,
         }
     }
 }

@@ -1,16 +1,19 @@
 ghost use Rattle.std.specs.Prelude.{◌≡◌, ◌<◌, ◌++◌, ℕ, List, IfOk, None, Some, Ok, OnOk, codes};
 ghost use Rattle.std.specs.Prelude.{decimal, if◌then◌else◌, string_bytes};
 ghost use Rattle.an_http.specs.Status.{number_of};
-ghost use Rattle.an_app.specs.Answer.{answer_of, query_answer, view_by, write_refusal};
+ghost use Rattle.an_app.specs.Answer.{answer_of, query_answer, view_by};
 ghost use Rattle.an_app.specs.Asked.{asked_of};
-ghost use Rattle.an_app.specs.Find.{turn_of, asked_turn, prints, writes, state_after, reply_line};
-ghost use Rattle.an_app.specs.Find.{command_turn, is_old, writer, reader};
+ghost use Rattle.an_shelf.specs.Writing.{state_after};
+ghost use Rattle.an_app.specs.Find.{turn_of, asked_turn, write_turn, prints, writes, reply_line};
+ghost use Rattle.an_app.specs.Find.{reader};
 ghost use Rattle.an_app.specs.Turned.{Takes};
+ghost use Rattle.an_app.specs.Written.{written_of};
 
-use crate::answers::{answer, query_answer, write_refusal};
+use crate::answers::{answer, query_answer};
 use crate::asked::{Asked, asked_of};
 use crate::kinds::Read;
 use crate::refusal::Refusal;
+use crate::written::{stop_of, writer};
 use an_base::{Moment, Name, Prefer, Steps};
 use an_http::{Allow, Reply};
 use an_machine::{Book, Command, Decided, Refused};
@@ -80,7 +83,7 @@ fn write(
     command: Command,
 ) -> Result<Option<Refusal>, AllocError>
     ensures { IfOk result (λ stop. (output : List ℕ) → Takes
-        (command_turn book.old.state moment by command)
+        (write_turn (written_of book.old.state moment by command))
         book.old.state book.new.state output output stop) }
 {
     let caller = writer(by);
@@ -91,35 +94,6 @@ fn write(
         } else {
             Ok(stop_of(command.version(), refused))
         },
-    }
-}
-
-/// The refusal that ends the run; an old write is passed over.
-fn stop_of(version: u32, refused: Refused) -> Option<Refusal>
-    ensures { result ≡ (if is_old version refused then None else Some (write_refusal refused)) }
-{
-    if is_old(version, refused) {
-        None
-    } else {
-        Some(write_refusal(refused))
-    }
-}
-
-fn is_old(version: u32, refused: Refused) -> bool
-    ensures { result ≡ is_old version refused }
-{
-    match refused {
-        Refused::Version { current } => version < current,
-        _ => false,
-    }
-}
-
-fn writer(by: Option<Name>) -> Caller
-    ensures { result ≡ writer by }
-{
-    match by {
-        Some(name) => Caller::Named(name),
-        None => Caller::Operator,
     }
 }
 

@@ -1,8 +1,9 @@
-use crate::call::{Call, call_named};
+use an_calls::{Call, call_named};
+use an_keep::Cell;
 use std::alloc::Global;
 
 /// What a case plays.
-#[derive(Clone, Copy, Debug, PartialEq, Eq)]
+#[derive(Clone, Copy)]
 pub enum Kind {
     /// A run of the server over a link in memory, which is given the input.
     Run,
@@ -10,12 +11,21 @@ pub enum Kind {
     Rows(Call),
     /// Writes, which one machine does one after the other, a row each.
     Writes,
+    /// Runs over a link that never fails, each over a line, of which a row has the status.
+    SureRuns,
+    /// The calls of a keeper in memory, one after the other, a row each.
+    Keeper,
+    /// What is done with a store in memory, one after the other, a row each.
+    Store,
 }
 
 /// What rows with this name play.
 pub fn rows_named(name: &str) -> Option<Kind> {
     match name {
         "write" => Some(Kind::Writes),
+        "sure_run" => Some(Kind::SureRuns),
+        "keeper" => Some(Kind::Keeper),
+        "store" => Some(Kind::Store),
         _ => call_named(name).map(Kind::Rows),
     }
 }
@@ -33,6 +43,10 @@ pub struct Case {
     /// The numbers, from 1, of the reads and the writes that fail.
     pub fail_reads: Vec<u64>,
     pub fail_writes: Vec<u64>,
+    /// The cells of the store that a run is given.
+    pub cells: Vec<Cell>,
+    /// The numbers, from 1, of the calls of the keeper that fail; the first ones put these cells.
+    pub fail_keeps: Vec<u64>,
     /// How many bytes can be written, where it isn't more than enough.
     pub room: Option<usize>,
     /// The status that is due from a run.
@@ -52,6 +66,8 @@ impl Case {
             cut: Vec::new(alloc),
             fail_reads: Vec::new(alloc),
             fail_writes: Vec::new(alloc),
+            cells: Vec::new(alloc),
+            fail_keeps: Vec::new(alloc),
             room: None,
             status: 0,
             output: Vec::new(alloc),

@@ -4,23 +4,13 @@
 
 ghost use Rattle.std.specs.Prelude.{◌≡◌, ◌↔◌, IsTrue};
 
-mod call;
 mod case;
-mod hex;
-mod http_calls;
-mod link_calls;
-mod model_calls;
-mod number;
 mod play;
-mod policy_calls;
 mod report;
 mod rows;
-mod selector_calls;
-mod shown;
+mod stores;
+mod sure_runs;
 mod table;
-mod text_calls;
-mod tree_calls;
-mod write_calls;
 
 use case::Case;
 use play::play;

@@ -1,7 +1,11 @@
 use crate::case::{Case, Kind};
-use crate::rows::{Answers, answer_rows};
+use crate::rows::answer_rows;
+use crate::stores::Stores;
+use crate::sure_runs::SureRuns;
 use an_app::run;
-use an_base::Bytes;
+use an_base::{Bytes, TryCopy};
+use an_calls::Answers;
+use an_keep::{Cell, Change, KeepError, Keeper, MemKeeper};
 use an_machine::Book;
 use an_world::MemLink;
 use std::alloc::{AllocError, Global};
@@ -22,6 +26,9 @@ pub fn play(alloc: Global, case: &Case) -> Result<Played, AllocError> {
         Kind::Run => play_run(alloc, case),
         Kind::Rows(call) => play_rows(alloc, call, case),
         Kind::Writes => play_rows(alloc, Book::new(alloc), case),
+        Kind::SureRuns => play_rows(alloc, SureRuns, case),
+        Kind::Keeper => play_rows(alloc, keeper_of(alloc, case)?, case),
+        Kind::Store => play_rows(alloc, Stores::new(keeper_of(alloc, case)?), case),
     }
 }
 
@@ -37,13 +44,43 @@ fn play_rows<A: Answers + Drop>(
 /// Runs the server over a link in memory.
 fn play_run(alloc: Global, case: &Case) -> Result<Played, AllocError> {
     let mut link = link_of(alloc, case)?;
-    let status = run(alloc, case.words.as_slice(), &mut link).code();
+    let keeper = keeper_with_cells(alloc, case)?;
+    let status = run(alloc, case.words.as_slice(), &mut link, keeper).code();
     what_came(alloc, status, link.written())
 }
 
 fn what_came(alloc: Global, status: u8, written: &[u8]) -> Result<Played, AllocError> {
     let output = Vec::from_slice(alloc, written)?;
     Ok(Played { status, output })
+}
+
+/// A keeper without cells.
+fn keeper_of(alloc: Global, case: &Case) -> Result<MemKeeper, AllocError> {
+    let failing = Vec::from_slice(alloc, case.fail_keeps.as_slice())?;
+    Ok(MemKeeper::new(Vec::new(alloc), failing))
+}
+
+/// The same with the cells of the case.
+fn keeper_with_cells(alloc: Global, case: &Case) -> Result<MemKeeper, AllocError> {
+    let mut keeper = keeper_of(alloc, case)?;
+    for cell in case.cells.as_slice() {
+        put_cell(&mut keeper, cell)?;
+    }
+    Ok(keeper)
+}
+
+/// A call that is to fail puts nothing.
+fn put_cell(keeper: &mut MemKeeper, cell: &Cell) -> Result<(), AllocError> {
+    let change = Change {
+        tab: cell.tab,
+        key: cell.key,
+        val: Some(cell.val.copy()?),
+    };
+    match keeper.commit(&[change]) {
+        Ok(()) => Ok(()),
+        Err(KeepError::Failed) => Ok(()),
+        Err(KeepError::Memory) => Err(AllocError),
+    }
 }
 
 fn link_of(alloc: Global, case: &Case) -> Result<MemLink, AllocError> {

@@ -1,55 +1,9 @@
 //! The rows of a case, each an argument, ` -> ` and an answer.
 ghost use Rattle.std.specs.Prelude.{◌≡◌, ◌++◌, codes, OnOk};
 
-use crate::table::LineError;
-use std::alloc::{AllocError, AllocFailed, Global};
+use an_calls::{Answers, RowError};
+use std::alloc::{AllocError, Global};
 use std::str::from_utf8;
-
-/// Why a row has no answer.
-#[derive(Clone, Copy, Debug, PartialEq, Eq)]
-pub enum RowError {
-    /// What stands before the answer is no argument of the call.
-    Form,
-    /// Memory ran out.
-    Memory,
-}
-
-impl RowError {
-    fn text(self) -> &'static str {
-        match self {
-            RowError::Form => "no argument of the call",
-            RowError::Memory => "memory ran out",
-        }
-    }
-}
-
-impl From<AllocError> for RowError {
-    fn from(_error: AllocError) -> RowError {
-        RowError::Memory
-    }
-}
-
-impl<T: Drop> From<AllocFailed<T>> for RowError {
-    fn from(_error: AllocFailed<T>) -> RowError {
-        RowError::Memory
-    }
-}
-
-/// What can't be read of a row is no argument of its call.
-impl From<LineError> for RowError {
-    fn from(error: LineError) -> RowError {
-        if error == LineError::Memory {
-            RowError::Memory
-        } else {
-            RowError::Form
-        }
-    }
-}
-
-/// What answers the rows of a case, one after the other.
-pub trait Answers {
-    fn answer(&mut self, alloc: Global, argument: &str) -> Result<String, RowError>;
-}
 
 /// The rows again, each with the answer that it is given.
 pub fn answer_rows<A: Answers>(
@@ -99,14 +53,4 @@ fn add_row(rows: &mut Vec<u8>, argument: &str, answer: &str) -> Result<(), Alloc
     rows.extend_from_slice(" -> ".as_bytes())?;
     rows.extend_from_slice(answer.as_bytes())?;
     rows.extend_from_slice("\n".as_bytes())
-}
-
-/// The parts of an argument, which stand between bars.
-pub fn two_parts(argument: &str) -> Result<(&str, &str), RowError> {
-    argument.split_once(" | ").ok_or(RowError::Form)
-}
-
-/// The first word of a text, and what stands behind it.
-pub fn two_words(text: &str) -> Result<(&str, &str), RowError> {
-    text.split_once(" ").ok_or(RowError::Form)
 }

@@ -1,10 +1,11 @@
 use crate::case::{Case, rows_named};
-use crate::hex::hex_bytes;
-use crate::number::{add_numbers, number};
+use an_base::Bytes;
+use an_calls::{RowError, add_numbers, hex_bytes, number};
+use an_keep::Cell;
 use std::alloc::{AllocError, AllocFailed, Global};
 
 /// Why a line can't stand in a table.
-#[derive(Clone, Copy, Debug, PartialEq, Eq)]
+#[derive(Clone, Copy)]
 pub enum LineError {
     /// Its first word is none that a table knows.
     Unknown,
@@ -18,7 +19,7 @@ pub enum LineError {
     NoCall,
     /// A number is missing, or is none.
     Number,
-    /// A call that fails is neither a read nor a write.
+    /// A call that fails is neither a read, nor a write, nor one of the keeper.
     Fails,
     /// Its bytes aren't written as pairs of digits and letters from a to f.
     Hex,
@@ -35,7 +36,7 @@ impl LineError {
             LineError::NoText => "no text above it has this name",
             LineError::NoCall => "no call has this name",
             LineError::Number => "no number",
-            LineError::Fails => "neither `read` nor `write`",
+            LineError::Fails => "neither `read`, `write` nor `keeper`",
             LineError::Hex => "no bytes",
             LineError::Memory => "memory ran out",
         }
@@ -54,6 +55,16 @@ impl<T: Drop> From<AllocFailed<T>> for LineError {
     }
 }
 
+/// What can't be read where numbers are due is none.
+impl From<RowError> for LineError {
+    fn from(error: RowError) -> LineError {
+        match error {
+            RowError::Form => LineError::Number,
+            RowError::Memory => LineError::Memory,
+        }
+    }
+}
+
 /// A text that cases share.
 #[derive(Drop)]
 struct Named {
@@ -62,7 +73,7 @@ struct Named {
 }
 
 /// What the marked lines add to.
-#[derive(Clone, Copy, Debug, PartialEq, Eq)]
+#[derive(Clone, Copy)]
 enum Part {
     None,
     Text,
@@ -100,10 +111,7 @@ impl Table {
             "" | "#" => Ok(()),
             "|" => self.add_line(rest),
             "+" => self.add(rest.as_bytes()),
-            "x" => {
-                let bytes = hex_bytes(self.alloc, rest)?;
-                self.add(bytes.as_slice())
-            }
+            "x" => self.add_hex(rest),
             "text" => self.open_text(rest),
             "case" => self.open_case(rest),
             _ => self.read_member(word, rest),
@@ -132,6 +140,15 @@ impl Table {
     fn add_line(&mut self, line: &str) -> Result<(), LineError> {
         self.add(line.as_bytes())?;
         self.add("\n".as_bytes())
+    }
+
+    /// Adds bytes that no text can show.
+    fn add_hex(&mut self, pairs: &str) -> Result<(), LineError> {
+        match hex_bytes(self.alloc, pairs) {
+            Ok(bytes) => self.add(bytes.as_slice()),
+            Err(RowError::Form) => Err(LineError::Hex),
+            Err(RowError::Memory) => Err(LineError::Memory),
+        }
     }
 
     fn add(&mut self, bytes: &[u8]) -> Result<(), LineError> {
@@ -206,8 +223,9 @@ fn read_setting(alloc: Global, case: &mut Case, word: &str, rest: &str) -> Resul
     match word {
         "words" => add_words(alloc, &mut case.words, rest),
         "word" => Ok(case.words.push(String::from_str(alloc, rest)?)?),
-        "cut" => add_numbers(&mut case.cut, rest),
+        "cut" => Ok(add_numbers(&mut case.cut, rest)?),
         "fail" => add_failing(case, rest),
+        "cell" => add_cell(alloc, case, rest),
         "room" => {
             case.room = Some(number(rest)?);
             Ok(())
@@ -228,11 +246,22 @@ fn add_words(alloc: Global, words: &mut Vec<String>, text: &str) -> Result<(), L
     Ok(())
 }
 
-/// `read` or `write`, and the numbers of the calls that fail.
+/// A table, a key and what is kept there.
+fn add_cell(alloc: Global, case: &mut Case, text: &str) -> Result<(), LineError> {
+    let (tab, rest) = text.split_once(" ").ok_or(LineError::Number)?;
+    let (key, val) = rest.split_once(" ").ok_or(LineError::Number)?;
+    let val = Bytes::new(alloc, val.as_bytes())?;
+    let (tab, key) = (number(tab)?, number(key)?);
+    case.cells.push(Cell { tab, key, val })?;
+    Ok(())
+}
+
+/// `read`, `write` or `keeper`, and the numbers of the calls that fail.
 fn add_failing(case: &mut Case, text: &str) -> Result<(), LineError> {
     match text.split_once(" ") {
-        Some(("read", numbers)) => add_numbers(&mut case.fail_reads, numbers),
-        Some(("write", numbers)) => add_numbers(&mut case.fail_writes, numbers),
+        Some(("read", numbers)) => Ok(add_numbers(&mut case.fail_reads, numbers)?),
+        Some(("write", numbers)) => Ok(add_numbers(&mut case.fail_writes, numbers)?),
+        Some(("keeper", numbers)) => Ok(add_numbers(&mut case.fail_keeps, numbers)?),
         _ => Err(LineError::Fails),
     }
 }

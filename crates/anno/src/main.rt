@@ -4,6 +4,7 @@
 mod link;
 
 use an_app::{Status, run};
+use an_keep::SureKeeper;
 use link::StdLink;
 use std::process::ExitCode;
 use std::rt::Env;
@@ -14,12 +15,13 @@ use std::{env, io};
 fn main(rt: HostRuntime) -> ExitCode {
     let alloc = rt.alloc();
     let mut link = StdLink::new(rt.reader(), io::writer(&rt));
+    let keeper = SureKeeper::new(Vec::new(alloc));
     let status = match words_of(&rt) {
-        Ok(words) => run(alloc, words.as_slice(), &mut link),
+        Ok(words) => run(alloc, words.as_slice(), &mut link, keeper),
         Err(error) => if error.kind() == io::ErrorKind::OutOfMemory {
             Status::Memory
         } else {
-            run(alloc, &[], &mut link)
+            run(alloc, &[], &mut link, keeper)
         },
     };
     ExitCode::from(status.code())

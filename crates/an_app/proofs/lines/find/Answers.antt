@@ -1,5 +1,5 @@
 use Rattle.std.proofs.Common.{Err, ap, ◌∙◌, arith}
-use Rattle.an_app.proofs.StatusLemmas.{Finds-reported, Finds-part_told, Finds-read_failed, Finds-nothing_told, rises_and_stays, stays_and_rises, ends_of_report, reads_little, reads_little-front}
+use Rattle.an_app.proofs.StatusLemmas.{Finds-reported, Finds-part_told, Finds-read_failed, Finds-nothing_told, rises_and_stays, stays_and_rises, report_unfailing, reads_little, reads_little-front}
 use Rattle.an_app.proofs.lines.find.Goals as goal
 
 pub returns-in-Ok-write_all-clause-finds : goal.returns-in-Ok-write_all-clause-finds
@@ -9,7 +9,7 @@ returns-in-Ok-write_all-clause-finds g c =
     Finds-reported _ _ _ c.in-Ok.input.items _ _ _ _ is c.in-Ok.ensures.bytes (λ h. c.in-Ok.ensures.whole (omega arith)) whole
 
 pub returns-in-Ok-write_all-clause-sure : goal.returns-in-Ok-write_all-clause-sure
-returns-in-Ok-write_all-clause-sure g c = λ _. ends_of_report c.args.settings.now c.as_slice.result.now _ c.in-Ok-report_of.ensures
+returns-in-Ok-write_all-clause-sure g c = λ _. report_unfailing c.args.settings.now c.as_slice.result.now _ c.in-Ok-report_of.ensures
 
 pub returns-in-Ok-report_of-clause-finds : goal.returns-in-Ok-report_of-clause-finds
 returns-in-Ok-report_of-clause-finds g c =

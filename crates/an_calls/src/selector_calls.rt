@@ -1,5 +1,5 @@
 //! Rows on selectors, regions, and places in a text.
-use crate::number::number;
+use crate::numbers::number;
 use crate::rows::{RowError, two_parts, two_words};
 use crate::shown::{copy_differs, is_copied, or_none, written};
 use crate::tree_calls::read;
@@ -10,7 +10,7 @@ use an_selectors::{
 };
 use std::alloc::Global;
 
-#[derive(Clone, Copy, Debug, PartialEq, Eq)]
+#[derive(Clone, Copy)]
 pub enum SelectorCall {
     /// The selector that a tree is.
     Selector,

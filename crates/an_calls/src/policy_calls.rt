@@ -7,7 +7,7 @@ use an_policy::{Audience, Caller, Group, Reader, Who, as_seen, group_named, may,
 use an_search::read_settings;
 use std::alloc::Global;
 
-#[derive(Clone, Copy, Debug, PartialEq, Eq)]
+#[derive(Clone, Copy)]
 pub enum PolicyCall {
     /// The reader that a tree is.
     Reader,

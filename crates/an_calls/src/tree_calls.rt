@@ -5,7 +5,7 @@ use crate::shown::{copy_differs, is_copied, written};
 use an_base::{Bytes, Tree, one_or_many, read_tree, tree_text, with_member, without_member};
 use std::alloc::Global;
 
-#[derive(Clone, Copy, Debug, PartialEq, Eq)]
+#[derive(Clone, Copy)]
 pub enum TreeCall {
     /// The text of the tree that a JSON text is.
     Tree,

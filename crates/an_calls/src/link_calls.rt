@@ -1,21 +1,17 @@
 //! Rows on links in memory.
-use crate::number::{add_numbers, number};
+use crate::numbers::{add_numbers, number};
 use crate::rows::{RowError, two_parts};
-use crate::shown::written;
-use an_app::run;
 use an_base::Bytes;
 use an_world::{Link, LinkFault, MemLink, SureLink, write_all};
-use std::alloc::{AllocError, Global};
+use std::alloc::Global;
 use std::str::FromStr;
 
-#[derive(Clone, Copy, Debug, PartialEq, Eq)]
+#[derive(Clone, Copy)]
 pub enum LinkCall {
     /// What the reads of a link in memory give.
     Pieces,
     /// The same for a link that never fails.
     SurePieces,
-    /// The status of a run over a link that never fails.
-    SureRun,
     /// What the writes to a link in memory leave there.
     Writes,
 }
@@ -25,7 +21,6 @@ impl LinkCall {
         Some(match name {
             "pieces" => LinkCall::Pieces,
             "sure_pieces" => LinkCall::SurePieces,
-            "sure_run" => LinkCall::SureRun,
             "writes" => LinkCall::Writes,
             _ => return None,
         })
@@ -35,7 +30,6 @@ impl LinkCall {
         match self {
             LinkCall::Pieces => pieces(alloc, argument),
             LinkCall::SurePieces => sure_pieces(alloc, argument),
-            LinkCall::SureRun => sure_run(alloc, argument),
             LinkCall::Writes => writes(alloc, argument),
         }
     }
@@ -92,21 +86,6 @@ fn sure_read_pieces(alloc: Global, link: &mut SureLink) -> Result<String, RowErr
         Ok(_) => read_pieces(alloc, link),
         Err(LinkFault) => Err(RowError::Form),
     }
-}
-
-/// The status of a run of `find` over a line.
-fn sure_run(alloc: Global, line: &str) -> Result<String, RowError> {
-    let words = words_of_find(alloc)?;
-    let mut link = SureLink::new(Bytes::new(alloc, line.as_bytes())?, Vec::new(alloc));
-    written(alloc, &run(alloc, words.as_slice(), &mut link).code())
-}
-
-fn words_of_find(alloc: Global) -> Result<Vec<String>, AllocError> {
-    let mut words = Vec::new(alloc);
-    for word in ["-", "find", "http://a.example", "10"] {
-        words.push(String::from_str(alloc, word)?)?;
-    }
-    Ok(words)
 }
 
 /// What the reads give, each followed by a bar. A failed read is `!`.

@@ -1,6 +1,6 @@
 //! Rows on requests and replies of HTTP. In their texts `\r` and `\n` stand for the two signs that
 //! end a line.
-use crate::number::number;
+use crate::numbers::number;
 use crate::rows::{RowError, two_parts, two_words};
 use an_base::Bytes;
 use an_http::{
@@ -11,7 +11,7 @@ use an_world::{MemLink, SureLink};
 use std::alloc::{AllocError, Global};
 use std::str::from_utf8;
 
-#[derive(Clone, Copy, Debug, PartialEq, Eq)]
+#[derive(Clone, Copy)]
 pub enum HttpCall {
     /// The requests that an input begins with, and what ends them.
     Requests,

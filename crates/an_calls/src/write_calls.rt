@@ -1,49 +1,76 @@
 //! Rows on writes, which the machine does one after the other, and on what it then holds.
-use crate::number::number;
+ghost use Rattle.std.specs.Prelude.{◌≤◌, IfOk};
+
+use crate::keep_calls::row_shown as row_text_shown;
+use crate::numbers::number;
 use crate::policy_calls::{group, name};
 use crate::rows::{Answers, RowError, two_parts, two_words};
 use crate::shown::{
     all_are_written_alike, copy_differs, is_copied, is_written_alike, none, written,
 };
 use crate::tree_calls::read;
-use an_base::{Name, TryCopy, moment_of, moment_text};
+use an_base::{Moment, Name, TryCopy, moment_of, moment_text};
 use an_machine::{Activity, Book, Command, Decided, Entry, Look, NoteRow, Object, Row, WriteReply};
 use an_policy::{Caller, Group};
 use std::alloc::{AllocError, Global};
 
-/// A row is a look at the machine, as `note ivo o1` and `copies m1`, or a write: its moment, who
-/// writes, and what, as `2024-05-01T10:02:00Z ivo | drop note ivo o1 2`.
+/// A row is a look at the machine, or a write of it.
 impl Answers for Book {
     fn answer(&mut self, alloc: Global, argument: &str) -> Result<String, RowError> {
-        match argument.split_once(" ") {
-            Some(("note", names)) => note(alloc, self, names),
-            Some(("copies", manifest)) => copies(alloc, self, manifest),
-            _ => write(alloc, self, argument),
+        match look_at(alloc, self, argument)? {
+            Some(seen) => Ok(seen),
+            None => write(alloc, self, argument),
         }
     }
 }
 
-// ---- writes
-
-fn write(alloc: Global, book: &mut Book, argument: &str) -> Result<String, RowError> {
-    let (signed, asked) = two_parts(argument)?;
-    let command = command(alloc, asked)?;
-    if !is_written_alike(alloc, &command)? {
-        return copy_differs(alloc);
-    }
-    write_signed(alloc, book, signed, &command)
+/// What a look at the machine shows, where a row is one: `note ivo o1`, `copies m1`, `length 1`,
+/// `place note ivo o1` or `row 1 0`.
+pub fn look_at(alloc: Global, book: &Book, argument: &str) -> Result<Option<String>, RowError> {
+    let seen = match argument.split_once(" ") {
+        Some(("note", names)) => note(alloc, book, names)?,
+        Some(("copies", manifest)) => copies(alloc, book, manifest)?,
+        Some(("length", list)) => length(alloc, book, list)?,
+        Some(("place", object)) => place(alloc, book, object)?,
+        Some(("row", place)) => row_at(alloc, book, place)?,
+        _ => return Ok(None),
+    };
+    Ok(Some(seen))
 }
 
-fn write_signed(
-    alloc: Global,
-    book: &mut Book,
-    signed: &str,
-    command: &Command,
-) -> Result<String, RowError> {
+// ---- writes
+
+/// A write, as a row says it: its moment, who writes, and what.
+#[derive(Drop)]
+pub struct Sent {
+    pub moment: Moment,
+    pub caller: Caller,
+    pub command: Command,
+}
+
+/// `2024-05-01T10:02:00Z ivo | drop note ivo o1 2`
+pub fn read_write(alloc: Global, argument: &str) -> Result<Sent, RowError> {
+    let (signed, asked) = two_parts(argument)?;
     let (moment, by) = two_words(signed)?;
     let moment = moment_of(moment).map_err(|_| RowError::Form)?;
     let caller = caller(alloc, by)?;
-    match book.decide(alloc, moment, &caller, command) {
+    Ok(Sent {
+        moment,
+        caller,
+        command: command(alloc, asked)?,
+    })
+}
+
+fn write(alloc: Global, book: &mut Book, argument: &str) -> Result<String, RowError> {
+    let sent = read_write(alloc, argument)?;
+    if !is_written_alike(alloc, &sent.command)? {
+        return copy_differs(alloc);
+    }
+    write_sent(alloc, book, &sent)
+}
+
+fn write_sent(alloc: Global, book: &mut Book, sent: &Sent) -> Result<String, RowError> {
+    match book.decide(alloc, sent.moment, &sent.caller, &sent.command) {
         Ok(Decided { entry, reply }) => done(alloc, book, entry, &reply),
         Err(refused) => written(alloc, &refused),
     }
@@ -94,28 +121,25 @@ fn apply_entry(book: &mut Book, entry: Entry) -> Result<(), AllocError> {
 }
 
 /// The object and its number, whether it is made, and whether the write had been done already.
-fn reply_shown(alloc: Global, reply: &WriteReply) -> Result<String, RowError> {
-    let mut found = String::new(alloc);
-    add_object(&mut found, &reply.object)?;
-    write!(found, " {}", reply.version)?;
-    if reply.made {
-        write!(found, " made")?;
-    }
-    if reply.repeat {
-        write!(found, " repeat")?;
-    }
-    Ok(found)
+pub fn reply_shown(alloc: Global, reply: &WriteReply) -> Result<String, RowError> {
+    let object = object_shown(alloc, &reply.object)?;
+    let made = if_set(reply.made, " made");
+    let repeat = if_set(reply.repeat, " repeat");
+    Ok(format!(in alloc; "{} {}{made}{repeat}", object.as_str(), reply.version)?)
 }
 
-fn add_object(found: &mut String, object: &Object) -> Result<(), RowError> {
+fn object_shown(alloc: Global, object: &Object) -> Result<String, AllocError> {
     match object {
-        Object::Reader(name) => write!(found, "reader {}", name.as_str())?,
-        Object::Manifest(name) => write!(found, "manifest {}", name.as_str())?,
+        Object::Reader(name) => format!(in alloc; "reader {}", name.as_str()),
+        Object::Manifest(name) => format!(in alloc; "manifest {}", name.as_str()),
         Object::Note { owner, name } => {
-            write!(found, "note {} {}", owner.as_str(), name.as_str())?;
+            format!(in alloc; "note {} {}", owner.as_str(), name.as_str())
         }
     }
-    Ok(())
+}
+
+fn if_set(is_set: bool, text: &str) -> &str {
+    if is_set { text } else { "" }
 }
 
 // ---- what is written
@@ -294,4 +318,64 @@ fn activity_is_copied(alloc: Global, activity: &Activity) -> Result<bool, RowErr
 fn row_is_copied(alloc: Global, activity: Activity) -> Result<bool, RowError> {
     let row = Row::Activity(activity);
     is_written_alike(alloc, &row)
+}
+
+// ---- lists
+
+/// How many rows the list with this number has.
+fn length(alloc: Global, book: &Book, list: &str) -> Result<String, RowError> {
+    let list = list_numbered(list)?;
+    written(alloc, &book.length(list))
+}
+
+fn list_numbered(list: &str) -> Result<u8, RowError>
+    ensures first { IfOk result (λ list. 1 ≤ list) }
+    ensures last { IfOk result (λ list. list ≤ 4) }
+{
+    match list {
+        "1" => Ok(1),
+        "2" => Ok(2),
+        "3" => Ok(3),
+        "4" => Ok(4),
+        _ => Err(RowError::Form),
+    }
+}
+
+/// Where an object's row stands in its list: `note ivo o1`.
+fn place(alloc: Global, book: &Book, object: &str) -> Result<String, RowError> {
+    let object = object_named(alloc, object)?;
+    match book.place(&object) {
+        Some(place) => written(alloc, &place),
+        None => none(alloc),
+    }
+}
+
+fn object_named(alloc: Global, object: &str) -> Result<Object, RowError> {
+    match object.split_once(" ") {
+        Some(("reader", named)) => Ok(Object::Reader(name(alloc, named)?)),
+        Some(("manifest", named)) => Ok(Object::Manifest(name(alloc, named)?)),
+        Some(("note", names)) => note_named(alloc, names),
+        _ => Err(RowError::Form),
+    }
+}
+
+fn note_named(alloc: Global, names: &str) -> Result<Object, RowError> {
+    let (owner, named) = two_words(names)?;
+    let owner = name(alloc, owner)?;
+    Ok(Object::Note {
+        owner,
+        name: name(alloc, named)?,
+    })
+}
+
+/// The text of the row at a place of a list: `1 0`.
+fn row_at(alloc: Global, book: &Book, place: &str) -> Result<String, RowError> {
+    let (list, place) = two_words(place)?;
+    let list = list_numbered(list)?;
+    let place = number(place)?;
+    if place < book.length(list) {
+        row_text_shown(alloc, &book.row_at(list, place)?)
+    } else {
+        none(alloc)
+    }
 }

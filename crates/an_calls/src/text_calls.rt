@@ -1,12 +1,12 @@
 //! Rows on names, numbers, moments and words.
-use crate::number::number;
+use crate::numbers::number;
 use crate::rows::{RowError, two_parts};
 use crate::shown::{copy_differs, is_copied, none, or_none, quoted, written};
 use an_base::{Moment, Name, Span, moment_of, moment_text, read_decimal};
 use an_terms::{Occurrence, occurrences, plain_of_html, term_of};
 use std::alloc::Global;
 
-#[derive(Clone, Copy, Debug, PartialEq, Eq)]
+#[derive(Clone, Copy)]
 pub enum TextCall {
     /// The name that a text is.
     Name,

@@ -1,14 +1,14 @@
 ghost use Rattle.std.specs.Prelude.{◌≡◌, ◌∷◌, [], ◌<◌, ◌/◌, ◌%◌, IfSome};
-ghost use Rattle.an_cases.specs.Hex.{hex_sign};
+ghost use Rattle.an_calls.specs.Hex.{hex_sign};
 
-use crate::table::LineError;
+use crate::rows::RowError;
 use std::alloc::Global;
 
 /// The bytes that are written as pairs of digits and letters from a to f, with spaces between them.
-pub fn hex_bytes(alloc: Global, text: &str) -> Result<Vec<u8>, LineError> {
+pub fn hex_bytes(alloc: Global, text: &str) -> Result<Vec<u8>, RowError> {
     let mut bytes = Vec::new(alloc);
     for pair in text.split_ascii_whitespace() {
-        bytes.push(hex_byte(pair.as_bytes()).ok_or(LineError::Hex)?)?;
+        bytes.push(hex_byte(pair.as_bytes()).ok_or(RowError::Form)?)?;
     }
     Ok(bytes)
 }

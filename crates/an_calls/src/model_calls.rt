@@ -8,7 +8,7 @@ use an_model::{Note, NoteOccurrence, Target, note_refusal, read_note};
 use an_selectors::Xywh;
 use std::alloc::Global;
 
-#[derive(Clone, Copy, Debug, PartialEq, Eq)]
+#[derive(Clone, Copy)]
 pub enum ModelCall {
     /// What is kept of an annotation.
     Note,

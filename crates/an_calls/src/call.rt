@@ -1,4 +1,5 @@
 use crate::http_calls::HttpCall;
+use crate::keep_calls::row;
 use crate::link_calls::LinkCall;
 use crate::model_calls::ModelCall;
 use crate::policy_calls::PolicyCall;
@@ -9,7 +10,7 @@ use crate::tree_calls::TreeCall;
 use std::alloc::Global;
 
 /// A call of a crate below the server's, which is made for each row of a case.
-#[derive(Clone, Copy, Debug, PartialEq, Eq)]
+#[derive(Clone, Copy)]
 pub enum Call {
     /// On names, numbers, moments and words.
     Text(TextCall),
@@ -25,10 +26,15 @@ pub enum Call {
     Link(LinkCall),
     /// On requests and replies of HTTP.
     Http(HttpCall),
+    /// On the texts of rows.
+    Row,
 }
 
 /// The call of this name.
 pub fn call_named(name: &str) -> Option<Call> {
+    if name == "row" {
+        return Some(Call::Row);
+    }
     if let Some(call) = TextCall::named(name) {
         return Some(Call::Text(call));
     }
@@ -60,6 +66,7 @@ impl Answers for Call {
             Call::Policy(call) => call.answer(alloc, argument),
             Call::Link(call) => call.answer(alloc, argument),
             Call::Http(call) => call.answer(alloc, argument),
+            Call::Row => row(alloc, argument),
         }
     }
 }

@@ -1,0 +1,149 @@
+-- How a run of `import` ends: its status, what it has read and printed, the state that it leaves,
+-- and why.
+use Rattle.std.specs.Prelude.{◌≡◌, ℕ, ◌⊎◌, List, [], ◌++◌, take, codes, decimal, Option}
+use Rattle.an_keep.specs.Keeper.{Told}
+use Rattle.an_machine.specs.State.{State}
+use Rattle.an_shelf.specs.Opening.{StandFor, IsDamagedBy}
+use Rattle.an_shelf.specs.declared.error.OpenError.TheVariants as error
+use Rattle.an_world.specs.Link.{Traffic}
+use Rattle.an_app.specs.Import.{import_lines, import_report, imported_of, start}
+use Rattle.an_app.specs.Input.{IsReadWhole}
+use Rattle.an_app.specs.Split.{lines_of}
+use Rattle.an_app.specs.Status.{Exchanges, PrintsFront, read_fault_text}
+use Rattle.an_app.specs.declared.status.Status.{Status}
+use Rattle.an_app.specs.declared.status.Status.TheVariants.{Played, WriteFault, Misunderstood}
+use Rattle.an_app.specs.declared.status.Status.TheVariants.{Refused, KeeperFailed, ReadFault}
+use Rattle.an_app.specs.declared.status.Status.TheVariants.{Memory, Damaged}
+
+-- what is printed where the keeper failed
+abbrev pub keeper_fault_text : List ℕ
+keeper_fault_text = codes "keeper failed\n"
+
+-- what is printed where the cells stand for no state, and this one is the first damaged one
+abbrev pub damage_text : ℕ → ℕ → List ℕ
+damage_text tab key =
+    codes "store damaged: table " ++ (decimal tab ++ (codes " key " ++ (decimal key
+    ++ codes "\n")))
+
+-- ---- the lines of an input
+
+-- so many of the first lines of an input lead from one state to another
+pub record LeavesFront (old : State) (input : List ℕ) (new : State) : Type 0 where
+  pub count : ℕ
+  pub leads : new ≡ (import_lines (take count (lines_of input)) 1 (start old)).progress.state
+
+-- all lines of an input, up to the one that is refused, if one is, lead to this status, text and
+-- state
+pub record LeavesAll (old : State) (input : List ℕ) (status : Status) (text : List ℕ)
+    (new : State) : Type 0 where
+  pub ends : (import_report (imported_of old input)).status ≡ status
+  pub tells : (import_report (imported_of old input)).text ≡ text
+  pub leads : new ≡ (imported_of old input).progress.state
+
+-- ---- what a run comes to, and what of it is told
+
+-- it was told whole
+pub record TellsWhole (Comes : List ℕ → Status → List ℕ → Type 0) (old new : Option Traffic)
+    (status : Status) : Type 0 where
+  pub input : List ℕ
+  pub text : List ℕ
+  pub comes : Comes input status text
+  pub exchanged : Exchanges input text old new
+
+-- a front of it was told
+pub record TellsFront (Comes : List ℕ → Status → List ℕ → Type 0) (old new : Option Traffic)
+    : Type 0 where
+  pub meant : Status
+  pub input : List ℕ
+  pub text : List ℕ
+  pub comes : Comes input meant text
+  pub printed : PrintsFront input text old new
+
+-- ---- `import` at a store that is open
+
+-- What an import comes to that read this input: the status, and the text to be printed. `Unread`
+-- and `Unkept` say that the counts of read faults and of the keeper's faults rose. The states
+-- before and behind it come first, and the link's bytes behind it.
+abbrev pub Comes : Type 0 → Type 0 → State → State → Option Traffic → List ℕ → Status → List ℕ
+    → Type 0
+Comes Unread Unkept s t new input Played text =
+    IsReadWhole input new × LeavesAll s input Played text t
+Comes Unread Unkept s t new input Refused text =
+    IsReadWhole input new × LeavesAll s input Refused text t
+Comes Unread Unkept s t new input KeeperFailed text =
+    Unkept × IsReadWhole input new × (text ≡ keeper_fault_text) × LeavesFront s input t
+Comes Unread Unkept s t new input ReadFault text = Unread × (text ≡ read_fault_text) × (t ≡ s)
+Comes Unread Unkept s t new input WriteFault text = ⊥
+Comes Unread Unkept s t new input Misunderstood text = ⊥
+Comes Unread Unkept s t new input Memory text = ⊥
+Comes Unread Unkept s t new input (Damaged tab key) text = ⊥
+
+-- memory ran out behind some of the lines, and nothing was printed
+pub record RunsOut (s t : State) (old new : Option Traffic) : Type 0 where
+  pub input : List ℕ
+  pub exchanged : Exchanges input [] old new
+  pub leaves : LeavesFront s input t
+
+-- how a run of `import` ends, where `Failed` says that the count of write faults rose
+unfoldable pub Imports : Type 0 → Type 0 → Type 0 → Option Traffic → Option Traffic → State → State
+    → Status → Type 0
+Imports Unread Failed Unkept old new s t Played =
+    TellsWhole (Comes Unread Unkept s t new) old new Played
+Imports Unread Failed Unkept old new s t Refused =
+    TellsWhole (Comes Unread Unkept s t new) old new Refused
+Imports Unread Failed Unkept old new s t KeeperFailed =
+    TellsWhole (Comes Unread Unkept s t new) old new KeeperFailed
+Imports Unread Failed Unkept old new s t ReadFault =
+    TellsWhole (Comes Unread Unkept s t new) old new ReadFault
+Imports Unread Failed Unkept old new s t WriteFault =
+    Failed × TellsFront (Comes Unread Unkept s t new) old new
+Imports Unread Failed Unkept old new s t Memory = RunsOut s t old new
+Imports Unread Failed Unkept old new s t Misunderstood = ⊥
+Imports Unread Failed Unkept old new s t (Damaged tab key) = ⊥
+
+-- ---- `import` at a keeper, which is opened first
+
+-- What is told of a store that isn't opened. No input is read. Damage is that of the cells, where
+-- each keeper of this kind tells its cells.
+abbrev pub Unopened : Type 0 → Type 0 → Told → List ℕ → Status → List ℕ → Type 0
+Unopened Unkept Telling told input KeeperFailed text =
+    Unkept × (input ≡ []) × (text ≡ keeper_fault_text)
+Unopened Unkept Telling told input (Damaged tab key) text =
+    (Telling → IsDamagedBy told (error.Damaged tab key)) × (input ≡ []) × (text ≡ damage_text tab key)
+Unopened Unkept Telling told input Played text = ⊥
+Unopened Unkept Telling told input Refused text = ⊥
+Unopened Unkept Telling told input ReadFault text = ⊥
+Unopened Unkept Telling told input WriteFault text = ⊥
+Unopened Unkept Telling told input Memory text = ⊥
+Unopened Unkept Telling told input Misunderstood text = ⊥
+
+-- From a state the input was imported. The cells stand for it, where each keeper of this kind tells
+-- its cells.
+pub record ImportsOpened (Unread Failed Unkept Telling : Type 0) (told : Told)
+    (old new : Option Traffic) (status : Status) : Type 0 where
+  pub before : State
+  pub behind : State
+  pub stand : Telling → StandFor told before
+  pub imports : Imports Unread Failed Unkept old new before behind status
+
+-- How a run of `import` ends at a keeper that told this. `Unkept` says that the keeper can fail,
+-- and `Telling` that each keeper of this kind tells its cells.
+unfoldable pub ImportsAt : Type 0 → Type 0 → Type 0 → Type 0 → Told → Option Traffic
+    → Option Traffic → Status → Type 0
+ImportsAt Unread Failed Unkept Telling told old new Played =
+    ImportsOpened Unread Failed Unkept Telling told old new Played
+ImportsAt Unread Failed Unkept Telling told old new Refused =
+    ImportsOpened Unread Failed Unkept Telling told old new Refused
+ImportsAt Unread Failed Unkept Telling told old new ReadFault =
+    ImportsOpened Unread Failed Unkept Telling told old new ReadFault
+ImportsAt Unread Failed Unkept Telling told old new KeeperFailed =
+    ImportsOpened Unread Failed Unkept Telling told old new KeeperFailed
+    ⊎ TellsWhole (Unopened Unkept Telling told) old new KeeperFailed
+ImportsAt Unread Failed Unkept Telling told old new WriteFault =
+    ImportsOpened Unread Failed Unkept Telling told old new WriteFault
+    ⊎ (Failed × TellsFront (Unopened Unkept Telling told) old new)
+ImportsAt Unread Failed Unkept Telling told old new Memory =
+    ImportsOpened Unread Failed Unkept Telling told old new Memory ⊎ Exchanges [] [] old new
+ImportsAt Unread Failed Unkept Telling told old new (Damaged tab key) =
+    TellsWhole (Unopened Unkept Telling told) old new (Damaged tab key)
+ImportsAt Unread Failed Unkept Telling told old new Misunderstood = ⊥

@@ -1,0 +1,22 @@
+ghost use Rattle.std.specs.Prelude.{◌≤◌};
+ghost use Rattle.an_world.specs.Link.{Rises, WritesFront};
+ghost use Rattle.an_app.specs.Told.{Tells};
+
+use crate::status::Status;
+use an_world::{Link, write_all};
+
+/// Prints the text with which a run ends. Answers how it ends.
+pub(crate) fn tell<L: Link>(link: &mut L, status: Status, text: &[u8]) -> Status
+    ensures tells { Tells (Rises (L.write_faults link.old) (L.write_faults link.new))
+        text.now (L.traffic link.old) (L.traffic link.new) status result }
+
+    // Whatever the answer is.
+    ensures front { WritesFront text.now (L.traffic link.old) (L.traffic link.new) }
+    ensures read_faults_kept { L.read_faults link.old ≤ L.read_faults link.new }
+    ensures write_faults_kept { L.write_faults link.old ≤ L.write_faults link.new }
+{
+    match write_all(link, text) {
+        Ok(_) => status,
+        Err(_) => Status::WriteFault,
+    }
+}

@@ -1,0 +1,197 @@
+use an_app::{Status, import};
+use an_base::Bytes;
+use an_calls::{Answers, RowError, Sent, cell_shown, look_at, read_write, reply_shown};
+use an_keep::{KeepError, Keeper, MemKeeper};
+use an_shelf::{Desk, WriteError};
+use an_world::MemLink;
+use std::alloc::{AllocError, Global};
+use std::str::from_utf8;
+
+/// A store in memory, closed or open.
+#[derive(Drop)]
+pub enum Store {
+    Closed(MemKeeper),
+    Open(Desk<MemKeeper>),
+    /// A store that isn't opened is gone.
+    Gone,
+}
+
+/// Answers rows on a store, one after the other.
+#[derive(Drop)]
+pub struct Stores {
+    store: Store,
+}
+
+impl Stores {
+    pub fn new(keeper: MemKeeper) -> Stores {
+        Stores {
+            store: Store::Closed(keeper),
+        }
+    }
+}
+
+/// Of a store that is gone a row is `new`. Of a closed one it is `open`, `cells`, which shows them
+/// all, or a call of its keeper, as `put 1 0 | {}`. Of an open one it is `close`, a look at its state,
+/// as `length 1`, a write, as `2024-05-01T10:02:00Z ivo | drop note ivo o1 2`, or `import TEXT`, whose
+/// lines end in `\n`.
+impl Answers for Stores {
+    fn answer(&mut self, alloc: Global, argument: &str) -> Result<String, RowError> {
+        match argument {
+            "open" => self.open(alloc),
+            "close" => self.close(alloc),
+            "new" => self.begin(alloc),
+            _ => self.call(alloc, argument),
+        }
+    }
+}
+
+impl Stores {
+    fn take(&mut self) -> Store {
+        std::mem::replace(&mut self.store, Store::Gone)
+    }
+
+    /// An empty store takes the place of one that is gone.
+    fn begin(&mut self, alloc: Global) -> Result<String, RowError> {
+        match self.take() {
+            Store::Gone => {
+                let keeper = MemKeeper::new(Vec::new(alloc), Vec::new(alloc));
+                self.store = Store::Closed(keeper);
+                shown(alloc, "new")
+            }
+            _ => Err(RowError::Form),
+        }
+    }
+
+    fn open(&mut self, alloc: Global) -> Result<String, RowError> {
+        match self.take() {
+            Store::Closed(keeper) => match Desk::open(alloc, keeper) {
+                Ok(desk) => {
+                    self.store = Store::Open(desk);
+                    shown(alloc, "opened")
+                }
+                Err(error) => Ok(format!(in alloc; "{error:?}")?),
+            },
+            _ => Err(RowError::Form),
+        }
+    }
+
+    fn close(&mut self, alloc: Global) -> Result<String, RowError> {
+        match self.take() {
+            Store::Open(desk) => {
+                self.store = Store::Closed(desk.into_keeper());
+                shown(alloc, "closed")
+            }
+            _ => Err(RowError::Form),
+        }
+    }
+
+    fn call(&mut self, alloc: Global, argument: &str) -> Result<String, RowError> {
+        match &mut self.store {
+            Store::Closed(keeper) => call_of_keeper(alloc, keeper, argument),
+            Store::Open(desk) => call_of_desk(alloc, desk, argument),
+            Store::Gone => Err(RowError::Form),
+        }
+    }
+}
+
+fn shown(alloc: Global, text: &str) -> Result<String, RowError> {
+    Ok(String::from_str(alloc, text)?)
+}
+
+// ---- a closed store
+
+fn call_of_keeper(
+    alloc: Global,
+    keeper: &mut MemKeeper,
+    argument: &str,
+) -> Result<String, RowError> {
+    match argument {
+        "cells" => cells(alloc, keeper),
+        _ => keeper.answer(alloc, argument),
+    }
+}
+
+/// How many cells are shown at most.
+const CELLS: usize = 20;
+
+/// The cells in their order.
+fn cells(alloc: Global, keeper: &mut MemKeeper) -> Result<String, RowError> {
+    let mut found = String::new(alloc);
+    let mut next = keeper.first();
+    for _ in 0..CELLS {
+        match add_cell(alloc, &mut found, &next)? {
+            Some((tab, key)) => next = keeper.next_after(tab, key),
+            None => break,
+        }
+    }
+    Ok(found)
+}
+
+/// Adds a cell, and tells where it stands.
+fn add_cell(
+    alloc: Global,
+    found: &mut String,
+    cell: &Result<Option<an_keep::Cell>, KeepError>,
+) -> Result<Option<(u8, u64)>, RowError> {
+    match cell {
+        Ok(Some(cell)) => {
+            found.push_str(cell_shown(alloc, cell)?.as_str())?;
+            found.push_str("; ")?;
+            Ok(Some((cell.tab, cell.key)))
+        }
+        Ok(None) => Ok(None),
+        Err(_) => Err(RowError::Form),
+    }
+}
+
+// ---- an open store
+
+fn call_of_desk(
+    alloc: Global,
+    desk: &mut Desk<MemKeeper>,
+    argument: &str,
+) -> Result<String, RowError> {
+    if let Some(lines) = argument.strip_prefix("import ") {
+        return import_lines(alloc, desk, lines);
+    }
+    match look_at(alloc, desk.look(), argument)? {
+        Some(seen) => Ok(seen),
+        None => write(alloc, desk, argument),
+    }
+}
+
+fn write(alloc: Global, desk: &mut Desk<MemKeeper>, argument: &str) -> Result<String, RowError> {
+    let Sent {
+        moment,
+        caller,
+        command,
+    } = read_write(alloc, argument)?;
+    match desk.write(alloc, moment, &caller, command) {
+        Ok(reply) => reply_shown(alloc, &reply),
+        Err(WriteError::Refused(refused)) => Ok(format!(in alloc; "{refused:?}")?),
+        Err(error) => Ok(format!(in alloc; "{error:?}")?),
+    }
+}
+
+/// The status of an import, and what it prints.
+fn import_lines(
+    alloc: Global,
+    desk: &mut Desk<MemKeeper>,
+    lines: &str,
+) -> Result<String, RowError> {
+    let input = lines.replace(alloc, "\\n", "\n")?;
+    let mut link = link_with(alloc, input.as_str())?;
+    let status = import(alloc, &mut link, desk);
+    status_shown(alloc, status, &link)
+}
+
+fn link_with(alloc: Global, input: &str) -> Result<MemLink, AllocError> {
+    let input = Bytes::new(alloc, input.as_bytes())?;
+    let (cut, reads, writes) = (Vec::new(alloc), Vec::new(alloc), Vec::new(alloc));
+    MemLink::new(alloc, input, cut, reads, writes, 1000)
+}
+
+fn status_shown(alloc: Global, status: Status, link: &MemLink) -> Result<String, RowError> {
+    let printed = from_utf8(link.written()).unwrap_or("?").trim_end();
+    Ok(format!(in alloc; "{} {printed}", status.code())?)
+}
