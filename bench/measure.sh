@@ -5,6 +5,9 @@ program=$top/crates/anno/out/anno
 work=$(mktemp -d)
 trap 'rm -rf "$work"' EXIT
 
+# A search for a word in all annotations on the manifest.
+search='2024-05-01T11:00:00Z - GET /search/m1?q=heron'
+
 # Two lines that every input begins with: a reader and a manifest.
 beginning() {
   printf '%s\n' \
@@ -12,11 +15,14 @@ beginning() {
     '2024-05-01T10:00:00Z - PUT /manifests/m1?version=1&group=public {"items":[{"height":100,"id":"http://a.example/c1","type":"Canvas","width":80}],"label":{"en":["Log"]},"type":"Manifest"}'
 }
 
+# The words of the runs that are measured.
+words=(- find http://a.example 10)
+
 # Runs the program on the input, and sets `status`, `micros` and `peak`, the most memory in KiB that it
 # used. It is asked again and again, since a short run is over before another program could look.
 measure() {
   local start=${EPOCHREALTIME/./} end=$((SECONDS + 120)) job state
-  "$program" - find http://a.example 10 <"$work/input" >"$work/output" &
+  "$program" "${words[@]}" <"$work/input" >"$work/output" &
   job=$!
   peak=0
   status=0

@@ -1,48 +1,15 @@
 #!/usr/bin/env bash
-# Times `anno - find` on 1,000, 10,000 and 100,000 mixed writes on annotations: of ten of them six make
-# an annotation, one changes an earlier one, one is sent again, one moves an annotation to another
-# manifest and group, and one deletes one. One search stands at the end. Then it times as many writes on
-# readers, each of whom is made, and changed with the token that it has.
+# Times `anno - find` on 1,000, 10,000 and 100,000 mixed writes on annotations, with one search at the
+# end, and then on as many writes on readers.
 set -eu
 . "$(dirname "$0")/measure.sh"
-
-annotations() {
-  beginning
-  printf '%s\n' '2024-05-01T10:00:00Z - PUT /manifests/m2?version=1 {"items":[{"height":100,"id":"http://a.example/c1","type":"Canvas","width":80}],"label":{"en":["Log"]},"type":"Manifest"}'
-  awk -v n="$1" '
-    function target(i) { return "/annotations/mara/n" i "?version=" number[i] }
-    function put(i, place, text) {
-      last = "2024-05-01T10:01:00Z mara PUT " target(i) "&" place " {\"body\":{\"type\":\"TextualBody\",\"value\":\"" text "\"},\"target\":\"http://a.example/c1\",\"type\":\"Annotation\"}"
-      print last
-    }
-    BEGIN {
-      count = split("heron swan gull tern crane stork ibis egret", words, " ")
-      for (k = 0; k < n; k++) {
-        text = words[k % count + 1] " " words[int(k / 8) % count + 1]
-        earlier = made > 0 ? k * 7919 % made + 1 : 0
-        turn = k % 10
-        if (turn < 6) { number[++made] = 1; put(made, "manifest=m1&group=public", text) }
-        else if (turn == 6) { number[earlier]++; put(earlier, "manifest=m1&group=public", text " changed") }
-        else if (turn == 7) print last
-        else if (turn == 8) { number[earlier]++; put(earlier, "manifest=m2&group=a", text " moved") }
-        else { number[made]++; print "2024-05-01T10:01:00Z mara DELETE " target(made) }
-      }
-      print "2024-05-01T11:00:00Z - GET /search/m1?q=heron"
-    }'
-}
-
-readers() {
-  awk -v n="$1" 'BEGIN {
-    for (k = 0; k < n; k++)
-      printf "2024-05-01T10:00:00Z - PUT /readers/r%d?version=%d {\"groups\":[\"g%d\"],\"role\":\"writer\",\"token\":\"token-%06d\",\"user\":\"http://a.example/u/%d\"}\n", k % (n / 2), 1 + (k >= n / 2), k, k % (n / 2), k % (n / 2)
-  }'
-}
+. "$(dirname "$0")/inputs.sh"
 
 # Plays 1,000, 10,000 and 100,000 writes of this input.
 sizes() {
   local before=0 writes
   for writes in 1000 10000 100000; do
-    "$1" "$writes" >"$work/input"
+    { "$1" "$writes"; echo "$3"; } >"$work/input"
     measure
     report "$writes $2" "$before"
     before=$micros
@@ -50,5 +17,5 @@ sizes() {
 }
 
 echo "processors: $(nproc)"
-sizes annotations "writes on annotations"
-sizes readers "writes on readers"
+sizes annotations "writes on annotations" "$search"
+sizes readers "writes on readers" ""
