@@ -1,7 +1,9 @@
-# Sourced by the benchmarks: builds the program, and measures its runs.
+# Sourced by the benchmarks: builds the program `anno`, or the one that `tool` names, and measures its
+# runs.
 top=$(cd "$(dirname "$0")/.." && pwd)
-"$top/build"
-program=$top/crates/anno/out/anno
+tool=${tool:-anno}
+"$top/build" "$tool"
+program=$top/crates/$tool/out/$tool
 work=$(mktemp -d)
 trap 'rm -rf "$work"' EXIT
 
@@ -46,4 +48,11 @@ report() {
     if (f > 0) printf ", %.1f times the time of a tenth", t / f
     print ""
   }'
+}
+
+# Runs the program on the input, and sets `used`, the microseconds of a processor that it used.
+measure_used() {
+  local TIMEFORMAT='%3U %3S' spent
+  spent=$({ time "$program" "${words[@]}" <"$work/input" >"$work/output"; } 2>&1)
+  used=$(awk '{ printf "%d", ($1 + $2) * 1e6 }' <<<"$spent")
 }

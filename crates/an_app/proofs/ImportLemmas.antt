@@ -1,6 +1,7 @@
 -- The lines of an import, and how the calls of a run add up to its end.
 use Rattle.std.proofs.Common.{◌≡◌, ℕ, suc, ◌+◌, ◌≤◌, ◌⊎◌, inl, inr, ⊎_elim, Bool, true, false, cond, nat_lt, List, [], ◌∷◌, length, take, Option, Some, None, Result, Ok, Err, IfOk, OnErr, refl, sym, ap, subst, ◌∙◌, arith}
 use Rattle.std.proofs.Math.Seq.{take-length}
+use Rattle.an_base.specs.declared.code.Code.{Code}
 use Rattle.an_machine.specs.State.{State}
 use Rattle.an_world.specs.Link.{Traffic, Reads, WritesFront}
 use Rattle.an_app.specs.Asked.{asked_of}
@@ -15,7 +16,6 @@ use Rattle.an_app.specs.Written.{Written, written_of}
 use Rattle.an_app.specs.declared.asked.Asked.{Asked}
 use Rattle.an_app.specs.declared.asked.Asked.TheVariants as asked
 use Rattle.an_app.specs.declared.counts.Counts.{Counts}
-use Rattle.an_app.specs.declared.refusal.Refusal.{Refusal}
 use Rattle.an_app.specs.declared.status.Status.{Status}
 use Rattle.an_app.specs.declared.status.Status.TheVariants as status
 use Rattle.an_app.specs.declared.stop.Stop.{Stop}
@@ -75,11 +75,11 @@ on_err (Err e) P p = p
 
 -- ---- one line
 
-pub leads-ok : (r : Result Progress Refusal) (s t : State) (counts : Counts) → Leads r s t (Ok counts) → r ≡ Ok (record { state = t; counts = counts })
+pub leads-ok : (r : Result Progress Code) (s t : State) (counts : Counts) → Leads r s t (Ok counts) → r ≡ Ok (record { state = t; counts = counts })
 leads-ok (Ok p) s t counts l = rw (l.0, l.1) refl
 leads-ok (Err why) s t counts l = absurd l
 
-pub leads-err : (r : Result Progress Refusal) (s t : State) (why : Refusal) → Leads r s t (Err why) → (r ≡ Err why) × (t ≡ s)
+pub leads-err : (r : Result Progress Code) (s t : State) (why : Code) → Leads r s t (Err why) → (r ≡ Err why) × (t ≡ s)
 leads-err (Ok p) s t why l = absurd l
 leads-err (Err other) s t why l = (rw l.0 refl, l.1)
 
@@ -98,7 +98,7 @@ counted_written counts s (written.done repeat t) = counted_done repeat counts
 counted_written counts s written.old = omega arith
 counted_written counts s (written.refused why) = tt
 
-counted_asked : (counts : Counts) (s : State) (r : Result Asked Refusal) → IfOk (import_asked counts s r) (λ q. counted q.counts ≤ counted counts + 1)
+counted_asked : (counts : Counts) (s : State) (r : Result Asked Code) → IfOk (import_asked counts s r) (λ q. counted q.counts ≤ counted counts + 1)
 unfolding counted
 counted_asked counts s (Ok asked.Nothing) = omega arith
 counted_asked counts s (Ok (asked.Read by read)) = tt
@@ -125,7 +125,7 @@ module _ (line : List ℕ) (lines left : List (List ℕ)) (number : ℕ) (p : Pr
   line_done-front q t is front = subst (λ xs. Front xs number p t) (sym first) (front_more line lines number p q t is front)
 
   -- the line was refused
-  pub line_stops : (why : Refusal) → import_line p line ≡ Err why → record { progress = p; stop = Some (record { line = number; why = why }) } ≡ import_lines left number p
+  pub line_stops : (why : Code) → import_line p line ≡ Err why → record { progress = p; stop = Some (record { line = number; why = why }) } ≡ import_lines left number p
   line_stops why is = sym (ap (λ next. import_on number p (import_lines lines) next) is) ∙ sym (ap (λ xs. import_lines xs number p) first)
 
 -- ---- what a run comes to
@@ -134,13 +134,13 @@ module _ (line : List ℕ) (lines left : List (List ℕ)) (number : ℕ) (p : Pr
 pub whole_behind : (input text : List ℕ) (mid new : Option Traffic) → IsReadWhole input mid → WritesFront text mid new → IsReadWhole input new
 whole_behind input text mid new whole front = λ h. IsAtEnd-written _ mid new front.writes (whole h)
 
-report_of-ends : (counts : Counts) (stop : Option Stop) → ((report_of counts stop).status ≡ status.Played) ⊎ ((report_of counts stop).status ≡ status.Refused)
+report_of-ends : (counts : Counts) (stop : Option Stop) → ((report_of counts stop).status ≡ status.Done) ⊎ ((report_of counts stop).status ≡ status.Refused)
 report_of-ends counts None = inl refl
 report_of-ends counts (Some stop) = inr refl
 
 module _ (Unread Unkept : Type 0) (s t : State) (new : Option Traffic) (input text : List ℕ) where
-  comes_as : (end : Status) → (end ≡ status.Played) ⊎ (end ≡ status.Refused) → IsReadWhole input new → LeavesAll s input end text t → Comes Unread Unkept s t new input end text
-  comes_as status.Played either whole all = (whole, all)
+  comes_as : (end : Status) → (end ≡ status.Done) ⊎ (end ≡ status.Refused) → IsReadWhole input new → LeavesAll s input end text t → Comes Unread Unkept s t new input end text
+  comes_as status.Done either whole all = (whole, all)
   comes_as status.Refused either whole all = (whole, all)
   comes_as status.WriteFault either whole all = absurd (⊎_elim (λ e. cc) (λ e. cc) either)
   comes_as status.Misunderstood either whole all = absurd (⊎_elim (λ e. cc) (λ e. cc) either)
@@ -159,7 +159,7 @@ module _ (Unread Unkept : Type 0) (s t : State) (new : Option Traffic) (input te
 module _ (Unread Failed Unkept : Type 0) (s t : State) where
   told_whole : (old new : Option Traffic) (end : Status) → TellsWhole (Comes Unread Unkept s t new) old new end → Imports Unread Failed Unkept old new s t end
   unfolding Imports
-  told_whole old new status.Played told = told
+  told_whole old new status.Done told = told
   told_whole old new status.Refused told = told
   told_whole old new status.KeeperFailed told = told
   told_whole old new status.ReadFault told = told
@@ -190,7 +190,7 @@ module _ (Unread Failed Unkept : Type 0) (s t : State) where
 -- what the keeper's count says is taken for what it means
 comes_kept : (Unread Unkept Unkept' : Type 0) (s t : State) (new : Option Traffic) (input text : List ℕ) (end : Status) → (Unkept → Unkept') → Comes Unread Unkept s t new input end text
     → Comes Unread Unkept' s t new input end text
-comes_kept Unread Unkept Unkept' s t new input text status.Played f comes = comes
+comes_kept Unread Unkept Unkept' s t new input text status.Done f comes = comes
 comes_kept Unread Unkept Unkept' s t new input text status.Refused f comes = comes
 comes_kept Unread Unkept Unkept' s t new input text status.KeeperFailed f comes = (f comes.0, comes.1, comes.2, comes.3)
 comes_kept Unread Unkept Unkept' s t new input text status.ReadFault f comes = comes
@@ -219,7 +219,7 @@ module _ (Unread Failed Unkept Unkept' : Type 0) (old new : Option Traffic) (s t
 
   pub Imports-kept : (end : Status) → Imports Unread Failed Unkept old new s t end → Imports Unread Failed Unkept' old new s t end
   unfolding Imports
-  Imports-kept status.Played i = whole_kept status.Played i
+  Imports-kept status.Done i = whole_kept status.Done i
   Imports-kept status.Refused i = whole_kept status.Refused i
   Imports-kept status.KeeperFailed i = whole_kept status.KeeperFailed i
   Imports-kept status.ReadFault i = whole_kept status.ReadFault i

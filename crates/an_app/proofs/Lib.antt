@@ -5,3 +5,5 @@ pub mod FollowLemmas
 pub mod ImportLemmas
 pub mod RunLemmas
 pub mod QueryLemmas
+pub mod DeskLemmas
+pub mod RespondLemmas

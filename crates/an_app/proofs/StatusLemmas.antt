@@ -2,7 +2,8 @@
 use Rattle.std.proofs.Common.{◌≡◌, ℕ, ◌+◌, ◌-◌, ◌^◌, ◌<◌, ◌≤◌, ◌⊎◌, inl, inr, ⊎_elim, Bool, true, false, cond, List, [], ◌++◌, length, take, drop, Option, Some, None, refl, sym, ap, subst, ◌∙◌, append-nil, nat_lt, arith}
 use Rattle.std.proofs.lemmas.Bool.{cases_lt}
 use Rattle.std.proofs.lemmas.List.{take-append-drop}
-use Rattle.an_world.specs.Link.{Traffic, Reads, Writes, WritesFront, Rises, IsAtEnd, ReadsAtMost}
+use Rattle.an_base.specs.Faults.{Rises}
+use Rattle.an_world.specs.Link.{Traffic, Reads, Writes, WritesFront, IsAtEnd, ReadsAtMost}
 use Rattle.an_machine.specs.State.{empty}
 use Rattle.an_search.specs.Site.{Site}
 use Rattle.an_app.specs.Find.{Played, Report, play, report_of, report_played}
@@ -66,16 +67,16 @@ stays_and_rises a b c s r t = λ h. elim (cases_lt b (2 ^ 64 - 1)) [ inl below �
 
 -- ---- how a report ends
 
-report_played-ends : (played : Played) (stop : Option Stop) → ((report_played played stop).status ≡ status.Played) ⊎ ((report_played played stop).status ≡ status.Refused)
+report_played-ends : (played : Played) (stop : Option Stop) → ((report_played played stop).status ≡ status.Done) ⊎ ((report_played played stop).status ≡ status.Refused)
 report_played-ends played None = inl refl
 report_played-ends played (Some stop) = inr refl
 
-cond-ends : (b : Bool) (x y : Report) → (x.status ≡ status.Played) ⊎ (x.status ≡ status.Refused) → (y.status ≡ status.Played) ⊎ (y.status ≡ status.Refused)
-    → ((cond b x y).status ≡ status.Played) ⊎ ((cond b x y).status ≡ status.Refused)
+cond-ends : (b : Bool) (x y : Report) → (x.status ≡ status.Done) ⊎ (x.status ≡ status.Refused) → (y.status ≡ status.Done) ⊎ (y.status ≡ status.Refused)
+    → ((cond b x y).status ≡ status.Done) ⊎ ((cond b x y).status ≡ status.Refused)
 cond-ends true x y p q = p
 cond-ends false x y p q = q
 
-pub report_of-ends : (site : Site) (input : List ℕ) → ((report_of site input).status ≡ status.Played) ⊎ ((report_of site input).status ≡ status.Refused)
+pub report_of-ends : (site : Site) (input : List ℕ) → ((report_of site input).status ≡ status.Done) ⊎ ((report_of site input).status ≡ status.Refused)
 unfolding report_of
 report_of-ends site input =
     let played = play site (lines_of input) 1 empty in
@@ -111,9 +112,9 @@ module _ (site : Site) (Unread Failed : Type 0) where
   Finds-no_memory old new r = (r.0, exchange-read r.0 old new r.1)
 
   -- a report that ends so was printed
-  reported : (old new : Option Traffic) (end : Status) → (end ≡ status.Played) ⊎ (end ≡ status.Refused) → Reports site old new end → Finds site Unread Failed old new end
+  reported : (old new : Option Traffic) (end : Status) → (end ≡ status.Done) ⊎ (end ≡ status.Refused) → Reports site old new end → Finds site Unread Failed old new end
   unfolding Finds
-  reported old new status.Played either reports = reports
+  reported old new status.Done either reports = reports
   reported old new status.Refused either reports = reports
   reported old new status.WriteFault either reports = absurd (⊎_elim (λ e. cc) (λ e. cc) either)
   reported old new status.Misunderstood either reports = absurd (⊎_elim (λ e. cc) (λ e. cc) either)

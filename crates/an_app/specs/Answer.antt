@@ -1,7 +1,10 @@
 -- The replies to reads and to writes. A read is answered from the caller's view alone.
 use Rattle.std.specs.Prelude.{ℕ, List, ◌++◌, codes, decimal, Bool, true, false, is_none}
 use Rattle.std.specs.Prelude.{if◌then◌else◌, Result, Ok, Err}
+use Rattle.an_base.specs.declared.code.Code.{Code}
 use Rattle.an_base.specs.declared.code.Code.TheVariants as code
+use Rattle.an_http.specs.Errors.{error_body}
+use Rattle.an_http.specs.Status.{status_of}
 use Rattle.an_http.specs.declared.reply.Allow.{Allow}
 use Rattle.an_http.specs.declared.reply.Allow.TheVariants as allow
 use Rattle.an_http.specs.declared.reply.Media.{Media}
@@ -27,10 +30,7 @@ use Rattle.an_search.specs.Listed.{note_iri}
 use Rattle.an_search.specs.Search.{search_of}
 use Rattle.an_search.specs.Site.{Site}
 use Rattle.an_search.specs.declared.hits.AskError.{AskError}
-use Rattle.an_app.specs.Refusal.{refusal_status, refusal_body}
 use Rattle.an_app.specs.Routes.{read_methods}
-use Rattle.an_app.specs.declared.refusal.Refusal.{Refusal}
-use Rattle.an_app.specs.declared.refusal.Refusal.TheVariants as refusal
 use Rattle.an_app.specs.declared.kinds.Read.{Read}
 use Rattle.an_app.specs.declared.kinds.Read.TheVariants as read
 
@@ -42,20 +42,20 @@ challenge status.Unauthorized = extra.Bearer
 challenge _ = extra.Absent
 
 -- the reply that tells a refusal, at a route with these methods
-abbrev pub refusal_reply : Allow → Refusal → Reply
+abbrev pub refusal_reply : Allow → Code → Reply
 refusal_reply methods refusal = record {
-  status = refusal_status refusal;
+  status = status_of refusal;
   allow = methods;
   media = media.Json;
-  extra = challenge (refusal_status refusal);
-  body = refusal_body refusal;
+  extra = challenge (status_of refusal);
+  body = error_body refusal;
 }
 
-abbrev pub not_signed : Refusal
-not_signed = refusal.Code code.NotSigned
+abbrev pub not_signed : Code
+not_signed = code.NotSigned
 
-abbrev pub absent : Refusal
-absent = refusal.Code code.Absent
+abbrev pub absent : Code
+absent = code.Absent
 
 -- ---- reads
 
@@ -69,9 +69,9 @@ shown_reply methods media extra body = record {
 }
 
 -- why one thing isn't shown; want of memory is told otherwise
-abbrev pub page_refusal : PageError → Refusal
+abbrev pub page_refusal : PageError → Code
 page_refusal page.Absent = absent
-page_refusal page.Gone = refusal.Code code.Gone
+page_refusal page.Gone = code.Gone
 page_refusal page.Memory = absent
 
 abbrev pub manifest_reply : Result (List ℕ) PageError → Reply
@@ -108,7 +108,7 @@ abbrev pub answer_of : Site → View → Read → Reply
 answer_of site view read = unless_nobody view (read_methods read) (read_reply site view read)
 
 -- the answer to a read whose query is refused
-abbrev pub query_answer : View → Allow → Refusal → Reply
+abbrev pub query_answer : View → Allow → Code → Reply
 query_answer view methods refusal = unless_nobody view methods (refusal_reply methods refusal)
 
 -- ---- writes
@@ -138,17 +138,17 @@ write_status true = status.Created
 write_status false = status.Ok
 
 -- the refusal of a write that the machine refuses; want of memory is told otherwise
-abbrev pub write_refusal : Refused → Refusal
-write_refusal (refused.Shape shape) = refusal.Code shape
-write_refusal refused.NotSigned = refusal.Code code.NotSigned
-write_refusal refused.NotWriter = refusal.Code code.NotWriter
-write_refusal refused.NotOwn = refusal.Code code.NotOwn
-write_refusal refused.NoManifest = refusal.Code code.Absent
-write_refusal refused.NotMember = refusal.Code code.NotMember
-write_refusal refused.GroupFixed = refusal.Code code.GroupFixed
-write_refusal refused.TokenTaken = refusal.Code code.TokenTaken
-write_refusal (refused.Version current) = refusal.Code (code.Version current)
-write_refusal refused.Memory = refusal.Code code.Unbuilt
+abbrev pub write_refusal : Refused → Code
+write_refusal (refused.Shape shape) = shape
+write_refusal refused.NotSigned = code.NotSigned
+write_refusal refused.NotWriter = code.NotWriter
+write_refusal refused.NotOwn = code.NotOwn
+write_refusal refused.NoManifest = code.Absent
+write_refusal refused.NotMember = code.NotMember
+write_refusal refused.GroupFixed = code.GroupFixed
+write_refusal refused.TokenTaken = code.TokenTaken
+write_refusal (refused.Version current) = code.Version current
+write_refusal refused.Memory = code.Unbuilt
 
 -- the answer to a write that the machine decided
 abbrev pub write_answer : Site → Allow → Result WriteReply Refused → Reply

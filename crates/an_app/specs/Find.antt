@@ -2,6 +2,7 @@
 -- refusal of what is not old ends the run.
 use Rattle.std.specs.Prelude.{ℕ, ◌+◌, List, [], ◌∷◌, ◌++◌, length, codes, decimal, nat_lt}
 use Rattle.std.specs.Prelude.{if◌then◌else◌, Option, Some, None, Result, Ok, Err}
+use Rattle.an_base.specs.declared.code.Code.{Code}
 use Rattle.an_base.specs.declared.code.Code.TheVariants as code
 use Rattle.an_http.specs.Status.{number_of}
 use Rattle.an_http.specs.declared.reply.Reply.{Reply}
@@ -18,8 +19,6 @@ use Rattle.an_app.specs.Written as written
 use Rattle.an_app.specs.Written.{Written, written_of}
 use Rattle.an_app.specs.declared.asked.Asked.{Asked}
 use Rattle.an_app.specs.declared.asked.Asked.TheVariants as asked
-use Rattle.an_app.specs.declared.refusal.Refusal.{Refusal}
-use Rattle.an_app.specs.declared.refusal.Refusal.TheVariants as refusal
 use Rattle.an_app.specs.declared.status.Status.{Status}
 use Rattle.an_app.specs.declared.status.Status.TheVariants as status
 use Rattle.an_app.specs.declared.stop.Stop.{Stop}
@@ -29,7 +28,7 @@ pub data Turn : Type 0 where
   passes : Turn
   prints : List ℕ → Turn
   writes : State → Turn
-  stops : Refusal → Turn
+  stops : Code → Turn
 
 -- ---- a line that writes
 
@@ -52,7 +51,7 @@ reply_line reply =
 
 -- ---- a line
 
-abbrev pub asked_turn : Site → State → Result Asked Refusal → Turn
+abbrev pub asked_turn : Site → State → Result Asked Code → Turn
 asked_turn site s (Ok asked.Nothing) = passes
 asked_turn site s (Ok (asked.Read by read)) =
     prints (reply_line (answer_of site (view_by s (reader by)) read))
@@ -94,7 +93,7 @@ pub record Report : Type 0 where
   pub text : List ℕ
 
 abbrev pub report_played : Played → Option Stop → Report
-report_played played None = record { status = status.Played; text = played.output }
+report_played played None = record { status = status.Done; text = played.output }
 report_played played (Some stop) =
     record { status = status.Refused; text = played.output ++ refusal_line stop }
 
@@ -105,6 +104,6 @@ report_of site input =
     then record {
       status = status.Refused;
       text = refusal_line
-          (record { line = 0; why = refusal.Code code.Input });
+          (record { line = 0; why = code.Input });
     }
     else (let played = play site (lines_of input) 1 empty in report_played played played.stop)

@@ -2,6 +2,7 @@
 -- the first refusal of what is not old ends the run. A read is no line of an import.
 use Rattle.std.specs.Prelude.{ℕ, ◌+◌, List, [], ◌∷◌, ◌++◌, length, codes, decimal, Bool, nat_lt}
 use Rattle.std.specs.Prelude.{if◌then◌else◌, Option, Some, None, Result, Ok, Err}
+use Rattle.an_base.specs.declared.code.Code.{Code}
 use Rattle.an_base.specs.declared.code.Code.TheVariants as code
 use Rattle.an_machine.specs.State.{State}
 use Rattle.an_app.specs.Asked.{asked_of, no_line}
@@ -14,8 +15,6 @@ use Rattle.an_app.specs.Written.{Written, written_of}
 use Rattle.an_app.specs.declared.asked.Asked.{Asked}
 use Rattle.an_app.specs.declared.asked.Asked.TheVariants as asked
 use Rattle.an_app.specs.declared.counts.Counts.{Counts}
-use Rattle.an_app.specs.declared.refusal.Refusal.{Refusal}
-use Rattle.an_app.specs.declared.refusal.Refusal.TheVariants as refusal
 use Rattle.an_app.specs.declared.status.Status.TheVariants as status
 use Rattle.an_app.specs.declared.stop.Stop.{Stop}
 
@@ -40,13 +39,13 @@ with_done repeat counts =
 abbrev pub with_old : Counts → Counts
 with_old counts = record counts { old = counts.old + 1 }
 
-abbrev pub import_written : Counts → State → Written → Result Progress Refusal
+abbrev pub import_written : Counts → State → Written → Result Progress Code
 import_written counts s (written.done repeat t) =
     Ok (record { state = t; counts = with_done repeat counts })
 import_written counts s written.old = Ok (record { state = s; counts = with_old counts })
 import_written counts s (written.refused why) = Err why
 
-abbrev pub import_asked : Counts → State → Result Asked Refusal → Result Progress Refusal
+abbrev pub import_asked : Counts → State → Result Asked Code → Result Progress Code
 import_asked counts s (Ok asked.Nothing) = Ok (record { state = s; counts = counts })
 import_asked counts s (Ok (asked.Read by read)) = Err no_line
 import_asked counts s (Ok (asked.Unread by methods why)) = Err no_line
@@ -55,7 +54,7 @@ import_asked counts s (Ok (asked.Write moment by command)) =
 import_asked counts s (Err why) = Err why
 
 -- what a line leads to, or why it is refused
-unfoldable pub import_line : Progress → List ℕ → Result Progress Refusal
+unfoldable pub import_line : Progress → List ℕ → Result Progress Code
 import_line p line = import_asked p.counts p.state (asked_of line)
 
 -- ---- all lines
@@ -66,7 +65,7 @@ pub record Imported : Type 0 where
   pub stop : Option Stop
 
 -- the lines from this number on; `go` has the lines behind
-abbrev pub import_on : ℕ → Progress → (ℕ → Progress → Imported) → Result Progress Refusal
+abbrev pub import_on : ℕ → Progress → (ℕ → Progress → Imported) → Result Progress Code
     → Imported
 import_on number p go (Ok q) = go (number + 1) q
 import_on number p go (Err why) =
@@ -83,7 +82,7 @@ imported_of s input =
     if nat_lt input_limit (length input)
     then record {
       progress = start s;
-      stop = Some (record { line = 0; why = refusal.Code code.Input });
+      stop = Some (record { line = 0; why = code.Input });
     }
     else import_lines (lines_of input) 1 (start s)
 
@@ -95,7 +94,7 @@ counts_line counts =
     ++ (codes " old " ++ (decimal counts.old ++ codes "\n")))))
 
 abbrev pub report_of : Counts → Option Stop → Report
-report_of counts None = record { status = status.Played; text = counts_line counts }
+report_of counts None = record { status = status.Done; text = counts_line counts }
 report_of counts (Some stop) = record { status = status.Refused; text = refusal_line stop }
 
 -- how the run ends, and what is printed

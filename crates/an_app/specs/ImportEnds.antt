@@ -4,6 +4,7 @@ use Rattle.std.specs.Prelude.{◌≡◌, ℕ, ◌⊎◌, List, [], ◌++◌, tak
 use Rattle.an_keep.specs.Keeper.{Told}
 use Rattle.an_machine.specs.State.{State}
 use Rattle.an_shelf.specs.Opening.{StandFor, IsDamagedBy}
+use Rattle.an_shelf.specs.declared.error.OpenError.{OpenError}
 use Rattle.an_shelf.specs.declared.error.OpenError.TheVariants as error
 use Rattle.an_world.specs.Link.{Traffic}
 use Rattle.an_app.specs.Import.{import_lines, import_report, imported_of, start}
@@ -11,7 +12,7 @@ use Rattle.an_app.specs.Input.{IsReadWhole}
 use Rattle.an_app.specs.Split.{lines_of}
 use Rattle.an_app.specs.Status.{Exchanges, PrintsFront, read_fault_text}
 use Rattle.an_app.specs.declared.status.Status.{Status}
-use Rattle.an_app.specs.declared.status.Status.TheVariants.{Played, WriteFault, Misunderstood}
+use Rattle.an_app.specs.declared.status.Status.TheVariants.{Done, WriteFault, Misunderstood}
 use Rattle.an_app.specs.declared.status.Status.TheVariants.{Refused, KeeperFailed, ReadFault}
 use Rattle.an_app.specs.declared.status.Status.TheVariants.{Memory, Damaged}
 
@@ -66,8 +67,8 @@ pub record TellsFront (Comes : List ℕ → Status → List ℕ → Type 0) (old
 -- before and behind it come first, and the link's bytes behind it.
 abbrev pub Comes : Type 0 → Type 0 → State → State → Option Traffic → List ℕ → Status → List ℕ
     → Type 0
-Comes Unread Unkept s t new input Played text =
-    IsReadWhole input new × LeavesAll s input Played text t
+Comes Unread Unkept s t new input Done text =
+    IsReadWhole input new × LeavesAll s input Done text t
 Comes Unread Unkept s t new input Refused text =
     IsReadWhole input new × LeavesAll s input Refused text t
 Comes Unread Unkept s t new input KeeperFailed text =
@@ -87,8 +88,8 @@ pub record RunsOut (s t : State) (old new : Option Traffic) : Type 0 where
 -- how a run of `import` ends, where `Failed` says that the count of write faults rose
 unfoldable pub Imports : Type 0 → Type 0 → Type 0 → Option Traffic → Option Traffic → State → State
     → Status → Type 0
-Imports Unread Failed Unkept old new s t Played =
-    TellsWhole (Comes Unread Unkept s t new) old new Played
+Imports Unread Failed Unkept old new s t Done =
+    TellsWhole (Comes Unread Unkept s t new) old new Done
 Imports Unread Failed Unkept old new s t Refused =
     TellsWhole (Comes Unread Unkept s t new) old new Refused
 Imports Unread Failed Unkept old new s t KeeperFailed =
@@ -101,21 +102,38 @@ Imports Unread Failed Unkept old new s t Memory = RunsOut s t old new
 Imports Unread Failed Unkept old new s t Misunderstood = ⊥
 Imports Unread Failed Unkept old new s t (Damaged tab key) = ⊥
 
--- ---- `import` at a keeper, which is opened first
+-- ---- a store that isn't opened
 
--- What is told of a store that isn't opened. No input is read. Damage is that of the cells, where
--- each keeper of this kind tells its cells.
-abbrev pub Unopened : Type 0 → Type 0 → Told → List ℕ → Status → List ℕ → Type 0
-Unopened Unkept Telling told input KeeperFailed text =
-    Unkept × (input ≡ []) × (text ≡ keeper_fault_text)
-Unopened Unkept Telling told input (Damaged tab key) text =
-    (Telling → IsDamagedBy told (error.Damaged tab key)) × (input ≡ []) × (text ≡ damage_text tab key)
-Unopened Unkept Telling told input Played text = ⊥
-Unopened Unkept Telling told input Refused text = ⊥
-Unopened Unkept Telling told input ReadFault text = ⊥
-Unopened Unkept Telling told input WriteFault text = ⊥
-Unopened Unkept Telling told input Memory text = ⊥
-Unopened Unkept Telling told input Misunderstood text = ⊥
+-- what is printed where a store isn't opened; of want of memory nothing is
+abbrev pub unopened_text : OpenError → List ℕ
+unopened_text error.Keeper = keeper_fault_text
+unopened_text (error.Damaged tab key) = damage_text tab key
+unopened_text error.Memory = []
+
+-- How a run ends whose store isn't opened, for a cause of which this holds. No input is read.
+unfoldable pub Unopened : (OpenError → Type 0) → Type 0 → Option Traffic → Option Traffic → Status
+    → Type 0
+Unopened Cause Failed old new KeeperFailed =
+    Cause error.Keeper × Exchanges [] (unopened_text error.Keeper) old new
+Unopened Cause Failed old new (Damaged tab key) =
+    Cause (error.Damaged tab key) × Exchanges [] (unopened_text (error.Damaged tab key)) old new
+Unopened Cause Failed old new WriteFault =
+    Failed × ((why : OpenError) × Cause why × PrintsFront [] (unopened_text why) old new)
+Unopened Cause Failed old new Memory = Exchanges [] [] old new
+Unopened Cause Failed old new Done = ⊥
+Unopened Cause Failed old new Refused = ⊥
+Unopened Cause Failed old new ReadFault = ⊥
+Unopened Cause Failed old new Misunderstood = ⊥
+
+-- What may keep a store from being opened whose keeper told this: `Unkept` says that the keeper can
+-- fail, and damage is that of the cells, where each keeper of this kind tells its cells.
+abbrev pub IsCause : Type 0 → Type 0 → Told → OpenError → Type 0
+IsCause Unkept Telling told error.Keeper = Unkept
+IsCause Unkept Telling told (error.Damaged tab key) =
+    Telling → IsDamagedBy told (error.Damaged tab key)
+IsCause Unkept Telling told error.Memory = ⊥
+
+-- ---- `import` at a keeper, which is opened first
 
 -- From a state the input was imported. The cells stand for it, where each keeper of this kind tells
 -- its cells.
@@ -128,22 +146,8 @@ pub record ImportsOpened (Unread Failed Unkept Telling : Type 0) (told : Told)
 
 -- How a run of `import` ends at a keeper that told this. `Unkept` says that the keeper can fail,
 -- and `Telling` that each keeper of this kind tells its cells.
-unfoldable pub ImportsAt : Type 0 → Type 0 → Type 0 → Type 0 → Told → Option Traffic
+abbrev pub ImportsAt : Type 0 → Type 0 → Type 0 → Type 0 → Told → Option Traffic
     → Option Traffic → Status → Type 0
-ImportsAt Unread Failed Unkept Telling told old new Played =
-    ImportsOpened Unread Failed Unkept Telling told old new Played
-ImportsAt Unread Failed Unkept Telling told old new Refused =
-    ImportsOpened Unread Failed Unkept Telling told old new Refused
-ImportsAt Unread Failed Unkept Telling told old new ReadFault =
-    ImportsOpened Unread Failed Unkept Telling told old new ReadFault
-ImportsAt Unread Failed Unkept Telling told old new KeeperFailed =
-    ImportsOpened Unread Failed Unkept Telling told old new KeeperFailed
-    ⊎ TellsWhole (Unopened Unkept Telling told) old new KeeperFailed
-ImportsAt Unread Failed Unkept Telling told old new WriteFault =
-    ImportsOpened Unread Failed Unkept Telling told old new WriteFault
-    ⊎ (Failed × TellsFront (Unopened Unkept Telling told) old new)
-ImportsAt Unread Failed Unkept Telling told old new Memory =
-    ImportsOpened Unread Failed Unkept Telling told old new Memory ⊎ Exchanges [] [] old new
-ImportsAt Unread Failed Unkept Telling told old new (Damaged tab key) =
-    TellsWhole (Unopened Unkept Telling told) old new (Damaged tab key)
-ImportsAt Unread Failed Unkept Telling told old new Misunderstood = ⊥
+ImportsAt Unread Failed Unkept Telling told old new status =
+    ImportsOpened Unread Failed Unkept Telling told old new status
+    ⊎ Unopened (IsCause Unkept Telling told) Failed old new status

@@ -1,12 +1,14 @@
 pub mod Input
 pub mod Split
 pub mod Line
-pub mod Refusal
 pub mod Target
 pub mod Query
 pub mod Routes
 pub mod Answer
 pub mod Asked
+pub mod Respond
+pub mod AtDesk
+pub mod Setting
 pub mod Stop
 pub mod Written
 pub mod Find
@@ -14,6 +16,7 @@ pub mod Import
 pub mod Turned
 pub mod Status
 pub mod ImportEnds
+pub mod SessionEnds
 pub mod Words
 pub mod StatusCode
 pub mod Shown

@@ -14,10 +14,10 @@ use Rattle.an_app.specs.Target.{all_there}
 use Rattle.an_app.specs.declared.query.Pair.{Pair}
 use Rattle.an_app.specs.declared.query.Reads.{Reads}
 use Rattle.an_app.specs.declared.query.Given.{Given}
-use Rattle.an_app.specs.declared.refusal.Parameter.{Parameter}
-use Rattle.an_app.specs.declared.refusal.Parameter.TheVariants as parameter
-use Rattle.an_app.specs.declared.refusal.Refusal.{Refusal}
-use Rattle.an_app.specs.declared.refusal.Refusal.TheVariants as refusal
+use Rattle.an_base.specs.declared.parameter.Parameter.{Parameter}
+use Rattle.an_base.specs.declared.parameter.Parameter.TheVariants as parameter
+use Rattle.an_base.specs.declared.code.Code.{Code}
+use Rattle.an_base.specs.declared.code.Code.TheVariants as code
 
 -- a name or a value, decoded; there is none where that isn't UTF-8
 abbrev pub form_text : List ℕ → Option (List ℕ)
@@ -40,41 +40,41 @@ parameter_in reads name =
     else (if reads.group && bytes_eq name (codes "group") then Some parameter.Group else None))
 
 -- nothing is given twice
-abbrev pub with_version : Given → List ℕ → Result Given Refusal
+abbrev pub with_version : Given → List ℕ → Result Given Code
 with_version given value =
-    if is_some given.version then Err (refusal.Twice parameter.Version)
+    if is_some given.version then Err (code.Twice parameter.Version)
     else Ok (record given { version = Some value })
 
-abbrev pub with_manifest : Given → List ℕ → Result Given Refusal
+abbrev pub with_manifest : Given → List ℕ → Result Given Code
 with_manifest given value =
-    if is_some given.manifest then Err (refusal.Twice parameter.Manifest)
+    if is_some given.manifest then Err (code.Twice parameter.Manifest)
     else Ok (record given { manifest = Some value })
 
-abbrev pub with_group : Given → List ℕ → Result Given Refusal
+abbrev pub with_group : Given → List ℕ → Result Given Code
 with_group given value =
-    if is_some given.group then Err (refusal.Twice parameter.Group)
+    if is_some given.group then Err (code.Twice parameter.Group)
     else Ok (record given { group = Some value })
 
-abbrev pub with_value : Given → List ℕ → Option Parameter → Result Given Refusal
+abbrev pub with_value : Given → List ℕ → Option Parameter → Result Given Code
 with_value given value None = Ok given
 with_value given value (Some parameter.Version) = with_version given value
 with_value given value (Some parameter.Manifest) = with_manifest given value
 with_value given value (Some parameter.Group) = with_group given value
 
 -- what is given by one pair more; a refusal stays
-abbrev pub with_pair : Reads → Result Given Refusal → Pair → Result Given Refusal
+abbrev pub with_pair : Reads → Result Given Code → Pair → Result Given Code
 with_pair reads (Ok given) pair = with_value given pair.value (parameter_in reads pair.name)
 with_pair reads (Err refusal) pair = Err refusal
 
-abbrev pub gathered : Reads → Result Given Refusal → Option (List Pair) → Result Given Refusal
-gathered reads given pairs = or_refuse refusal.Bytes pairs (fold (with_pair reads) given)
+abbrev pub gathered : Reads → Result Given Code → Option (List Pair) → Result Given Code
+gathered reads given pairs = or_refuse code.Bytes pairs (fold (with_pair reads) given)
 
 abbrev pub nothing_given : Given
 nothing_given = record { version = None; manifest = None; group = None }
 
 -- what a query gives of the parameters that are read, or the first refusal: a pair that isn't
 -- UTF-8, or else the first of these parameters that comes a second time
-unfoldable pub given_of : Reads → List ℕ → Result Given Refusal
+unfoldable pub given_of : Reads → List ℕ → Result Given Code
 given_of reads query = gathered reads (Ok nothing_given) (pairs_of (raw_pairs query))
 
 -- ---- what the values say

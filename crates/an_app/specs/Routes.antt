@@ -3,6 +3,7 @@ use Rattle.std.specs.Prelude.{ℕ, List, [], ◌∷◌, length, Bool, ◌&&◌, 
 use Rattle.std.specs.Prelude.{if◌then◌else◌, Option, Some, None, option_and_then, Result, Ok, Err}
 use Rattle.std.specs.List.{list_all}
 use Rattle.an_base.specs.Outcome.{only_if, or_refuse}
+use Rattle.an_base.specs.declared.code.Code.{Code}
 use Rattle.an_base.specs.declared.code.Code.TheVariants as code
 use Rattle.an_policy.specs.declared.group.Group.{Group}
 use Rattle.an_http.specs.declared.reply.Allow.{Allow}
@@ -12,8 +13,6 @@ use Rattle.an_app.specs.Query.{given_of, version_of, manifest_of, group_of, name
 use Rattle.an_app.specs.Query.{reads_version, reads_version_and_group, reads_all}
 use Rattle.an_app.specs.Target.{target_parts, segments_of}
 use Rattle.an_app.specs.declared.query.Given.{Given}
-use Rattle.an_app.specs.declared.refusal.Refusal.{Refusal}
-use Rattle.an_app.specs.declared.refusal.Refusal.TheVariants as refusal
 use Rattle.an_app.specs.declared.kinds.Path.{Path}
 use Rattle.an_app.specs.declared.kinds.Path.TheVariants as path
 use Rattle.an_app.specs.declared.kinds.Verb.{Verb}
@@ -69,44 +68,44 @@ verb_of method =
 -- ---- writes
 
 -- what a query gives to a write
-abbrev pub given_to : Result Given Refusal → (Given → Result WriteRoute Refusal)
-    → Result WriteRoute Refusal
+abbrev pub given_to : Result Given Code → (Given → Result WriteRoute Code)
+    → Result WriteRoute Code
 given_to (Ok given) write = write given
 given_to (Err refusal) write = Err refusal
 
 -- a number, and what is written with it
-abbrev pub numbered : Given → (ℕ → Result WriteRoute Refusal) → Result WriteRoute Refusal
-numbered given write = or_refuse refusal.Version (version_of given) write
+abbrev pub numbered : Given → (ℕ → Result WriteRoute Code) → Result WriteRoute Code
+numbered given write = or_refuse code.VersionForm (version_of given) write
 
-abbrev pub grouped : (Group → WriteRoute) → Given → Result WriteRoute Refusal
+abbrev pub grouped : (Group → WriteRoute) → Given → Result WriteRoute Code
 grouped write given =
-    or_refuse (refusal.Code code.Group) (group_of given) (λ group. Ok (write group))
+    or_refuse code.Group (group_of given) (λ group. Ok (write group))
 
-abbrev pub reader_put : List ℕ → Given → Result WriteRoute Refusal
+abbrev pub reader_put : List ℕ → Given → Result WriteRoute Code
 reader_put name given = numbered given (λ version. Ok (PutReader name version))
 
-abbrev pub manifest_put : List ℕ → Given → Result WriteRoute Refusal
+abbrev pub manifest_put : List ℕ → Given → Result WriteRoute Code
 manifest_put name given = numbered given (λ version. grouped (PutManifest name version) given)
 
 -- the manifest, and then the group
-abbrev pub note_put_on : List ℕ → List ℕ → Given → ℕ → Result WriteRoute Refusal
+abbrev pub note_put_on : List ℕ → List ℕ → Given → ℕ → Result WriteRoute Code
 note_put_on owner name given version =
-    or_refuse refusal.Manifest (manifest_of given)
+    or_refuse code.Manifest (manifest_of given)
     (λ manifest. grouped (PutNote owner name version manifest) given)
 
-abbrev pub note_put : List ℕ → List ℕ → Given → Result WriteRoute Refusal
+abbrev pub note_put : List ℕ → List ℕ → Given → Result WriteRoute Code
 note_put owner name given = numbered given (note_put_on owner name given)
 
-abbrev pub reader_drop : List ℕ → Given → Result WriteRoute Refusal
+abbrev pub reader_drop : List ℕ → Given → Result WriteRoute Code
 reader_drop name given = numbered given (λ version. Ok (DropReader name version))
 
-abbrev pub manifest_drop : List ℕ → Given → Result WriteRoute Refusal
+abbrev pub manifest_drop : List ℕ → Given → Result WriteRoute Code
 manifest_drop name given = numbered given (λ version. Ok (DropManifest name version))
 
-abbrev pub note_drop : List ℕ → List ℕ → Given → Result WriteRoute Refusal
+abbrev pub note_drop : List ℕ → List ℕ → Given → Result WriteRoute Code
 note_drop owner name given = numbered given (λ version. Ok (DropNote owner name version))
 
-abbrev pub written : Allow → Result WriteRoute Refusal → Result Route RouteError
+abbrev pub written : Allow → Result WriteRoute Code → Result Route RouteError
 written allow (Ok write) = Ok (route.Write write)
 written allow (Err refusal) = Err (error.Query allow refusal)
 
@@ -148,7 +147,7 @@ searched manifest word =
     or_refuse error.Unbuilt word (λ word. Ok (route.Read (read.Search manifest word)))
 
 -- a read that no parameter changes
-abbrev pub shown : Read → Result Given Refusal → Result Route RouteError
+abbrev pub shown : Read → Result Given Code → Result Route RouteError
 shown read (Ok given) = Ok (route.Read read)
 shown read (Err refusal) = Err (error.Query allow.Full refusal)
 

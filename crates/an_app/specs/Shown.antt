@@ -1,12 +1,12 @@
 -- For private clauses: what was played or imported, as the definitions say it.
 use Rattle.an_machine.specs.State.{State}
 use Rattle.std.specs.Prelude.{◌≡◌, Result, Ok, Err}
+use Rattle.an_base.specs.declared.code.Code.{Code}
 use Rattle.an_app.specs.Find as find
 use Rattle.an_app.specs.Import as import
 use Rattle.an_app.specs.declared.counts.Counts.{Counts}
 use Rattle.an_app.specs.declared.importing.Imported.{Imported}
 use Rattle.an_app.specs.declared.lines.Played.{Played}
-use Rattle.an_app.specs.declared.refusal.Refusal.{Refusal}
 
 abbrev pub shown : Played → find.Played
 shown played = record { output = played.output.items; stop = played.stop }
@@ -19,7 +19,7 @@ shown_import s i = record {
 }
 
 -- a line led to this state and these counts, or was refused and left the state
-abbrev pub Leads : Result import.Progress Refusal → State → State → Result Counts Refusal → Type 0
+abbrev pub Leads : Result import.Progress Code → State → State → Result Counts Code → Type 0
 Leads (Ok p) s t (Ok counts) = (t ≡ p.state) × (counts ≡ p.counts)
 Leads (Ok p) s t (Err why) = ⊥
 Leads (Err why) s t (Ok counts) = ⊥

@@ -5,7 +5,7 @@ use Rattle.an_search.specs.Site.{Site}
 use Rattle.an_app.specs.Find.{report_of}
 use Rattle.an_app.specs.Input.{input_limit, IsReadWhole}
 use Rattle.an_app.specs.declared.status.Status.{Status}
-use Rattle.an_app.specs.declared.status.Status.TheVariants.{Played, WriteFault, Misunderstood}
+use Rattle.an_app.specs.declared.status.Status.TheVariants.{Done, WriteFault, Misunderstood}
 use Rattle.an_app.specs.declared.status.Status.TheVariants.{Refused, KeeperFailed, ReadFault}
 use Rattle.an_app.specs.declared.status.Status.TheVariants.{Memory, Damaged}
 
@@ -38,7 +38,7 @@ pub record PrintsFront (input text : List ℕ) (old new : Option Traffic) : Type
 abbrev pub IsUnfailing : Status → Type 0
 IsUnfailing WriteFault = ⊥
 IsUnfailing ReadFault = ⊥
-IsUnfailing Played = ⊤
+IsUnfailing Done = ⊤
 IsUnfailing Misunderstood = ⊤
 IsUnfailing Refused = ⊤
 IsUnfailing KeeperFailed = ⊤
@@ -52,7 +52,7 @@ unfoldable pub Misunderstands : Type 0 → Option Traffic → Option Traffic →
 Misunderstands Failed old new Misunderstood = Exchanges [] misunderstood_text old new
 Misunderstands Failed old new WriteFault = Failed × PrintsFront [] misunderstood_text old new
 Misunderstands Failed old new Memory = Exchanges [] [] old new
-Misunderstands Failed old new Played = ⊥
+Misunderstands Failed old new Done = ⊥
 Misunderstands Failed old new Refused = ⊥
 Misunderstands Failed old new KeeperFailed = ⊥
 Misunderstands Failed old new ReadFault = ⊥
@@ -76,7 +76,7 @@ pub record ReportsFront (site : Site) (old new : Option Traffic) : Type 0 where
 -- How a run of `find` ends, where `Unread` and `Failed` say that the counts of read faults and of
 -- write faults rose. A write that fails may be that of the report, or that of the read that failed.
 unfoldable pub Finds : Site → Type 0 → Type 0 → Option Traffic → Option Traffic → Status → Type 0
-Finds site Unread Failed old new Played = Reports site old new Played
+Finds site Unread Failed old new Done = Reports site old new Done
 Finds site Unread Failed old new Refused = Reports site old new Refused
 Finds site Unread Failed old new WriteFault =
     Failed × (ReportsFront site old new ⊎ (Unread × ((input : List ℕ) × PrintsFront

@@ -4,7 +4,7 @@ use Rattle.an_app.specs.declared.status.Status.{Status}
 use Rattle.an_app.specs.declared.status.Status.TheVariants as status
 
 abbrev pub status_code : Status → ℕ
-status_code status.Played = 0
+status_code status.Done = 0
 status_code status.WriteFault = 1
 status_code status.Misunderstood = 2
 status_code status.Refused = 3

@@ -1,11 +1,11 @@
 -- For private clauses: that a turn was taken.
 use Rattle.std.specs.Prelude.{◌≡◌, ℕ, List, ◌++◌, Option, Some, None}
-use Rattle.an_app.specs.declared.refusal.Refusal.{Refusal}
+use Rattle.an_base.specs.declared.code.Code.{Code}
 use Rattle.an_machine.specs.State.{State}
 use Rattle.an_app.specs.Find.{Turn, passes, prints, writes, stops}
 
 -- the state and the output before and after a turn, and where it stops
-abbrev pub Takes : Turn → State → State → List ℕ → List ℕ → Option Refusal → Type 0
+abbrev pub Takes : Turn → State → State → List ℕ → List ℕ → Option Code → Type 0
 Takes passes old new output printed stop = (new ≡ old) × (printed ≡ output) × (stop ≡ None)
 Takes (prints text) old new output printed stop =
     (new ≡ old) × (printed ≡ output ++ text) × (stop ≡ None)

@@ -1,6 +1,7 @@
 -- What a line that writes comes to, at a state.
 use Rattle.std.specs.Prelude.{ℕ, ℤ, List, Bool, false, nat_lt, if◌then◌else◌, Option, Some, None}
 use Rattle.std.specs.Prelude.{Result, Ok, Err}
+use Rattle.an_base.specs.declared.code.Code.{Code}
 use Rattle.an_policy.specs.declared.who.Caller.{Caller}
 use Rattle.an_policy.specs.declared.who.Caller.TheVariants as caller
 use Rattle.an_machine.specs.Asked.{version_of}
@@ -13,16 +14,15 @@ use Rattle.an_machine.specs.declared.command.Refused.TheVariants.{NotSigned, Not
 use Rattle.an_machine.specs.declared.command.Refused.TheVariants.{NoManifest, NotMember, Shape}
 use Rattle.an_machine.specs.declared.command.Refused.TheVariants.{GroupFixed, TokenTaken, Version}
 use Rattle.an_machine.specs.declared.command.Refused.TheVariants.{Memory}
-use Rattle.an_shelf.specs.Writing.{state_after}
+use Rattle.an_machine.specs.Entries.{state_after}
 use Rattle.an_app.specs.Answer.{write_refusal}
-use Rattle.an_app.specs.declared.refusal.Refusal.{Refusal}
 
 -- it is done, and perhaps a repeat, which leaves the state as it was; or it is old; or it is
 -- refused, which ends the run
 pub data Written : Type 0 where
   done : Bool → State → Written
   old : Written
-  refused : Refusal → Written
+  refused : Code → Written
 
 -- a line by nobody's name is written by the operator
 abbrev pub writer : Option (List ℕ) → Caller

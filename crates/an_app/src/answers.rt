@@ -10,9 +10,8 @@ ghost use Rattle.an_app.specs.Answer.{answer_of, query_answer, object_iri, bool_
 ghost use Rattle.an_app.specs.Answer.{write_body, write_status, write_refusal, write_answer};
 
 use crate::kinds::Read;
-use crate::refusal::{Refusal, refusal_body};
 use an_base::{Bytes, Code, Name, Prefer, Steps, Text};
-use an_http::{Allow, Extra, Media, Reply, Status};
+use an_http::{Allow, Extra, Media, Reply, Status, error_body, status_of};
 use an_machine::{Look, Object, Refused, WriteReply};
 use an_pages::{PageError, annotation, manifest_answer};
 use an_policy::{Caller, Who};
@@ -36,7 +35,7 @@ pub fn answer<T: Look, L: Ledger>(
 {
     match look.who(caller) {
         Some(who) => answer_to(alloc, look, settings, &who, read, steps),
-        None => refusal_reply(alloc, read.methods(), Refusal::Code(Code::NotSigned)),
+        None => refusal_reply(alloc, read.methods(), Code::NotSigned),
     }
 }
 
@@ -46,14 +45,14 @@ pub fn query_answer<T: Look>(
     look: &T,
     caller: &Caller,
     allow: Allow,
-    refusal: Refusal,
+    refusal: Code,
 ) -> Result<Reply, AllocError>
     ensures answer { IfOk result (λ reply. reply ≡ query_answer
         (view_by (T.state look.now) caller.now) allow refusal) }
 {
     match look.who(caller) {
         Some(_) => refusal_reply(alloc, allow, refusal),
-        None => refusal_reply(alloc, allow, Refusal::Code(Code::NotSigned)),
+        None => refusal_reply(alloc, allow, Code::NotSigned),
     }
 }
 
@@ -73,11 +72,11 @@ pub fn write_answer(
 }
 
 /// The reply that tells a refusal, at a route with these methods.
-pub fn refusal_reply(alloc: Global, allow: Allow, refusal: Refusal) -> Result<Reply, AllocError>
+pub fn refusal_reply(alloc: Global, allow: Allow, refusal: Code) -> Result<Reply, AllocError>
     ensures reply { IfOk result (λ reply. reply ≡ refusal_reply allow refusal) }
 {
-    let status = refusal.status();
-    let body = refusal_body(alloc, refusal)?;
+    let status = status_of(refusal);
+    let body = error_body(alloc, refusal)?;
     Ok(Reply {
         status,
         allow,
@@ -167,9 +166,7 @@ fn answer_search<T: Look, L: Ledger>(
     match search(alloc, look, who, manifest, word.as_str(), settings, steps) {
         Ok(body) => Ok(shown_reply(Allow::ReadOnly, Media::Search, Extra::Absent, body)),
         Err(error) => match error {
-            AskError::NoManifest => {
-                refusal_reply(alloc, Allow::ReadOnly, Refusal::Code(Code::Absent))
-            }
+            AskError::NoManifest => { refusal_reply(alloc, Allow::ReadOnly, Code::Absent) }
             AskError::Memory => Err(AllocError),
         },
     }
@@ -192,8 +189,8 @@ fn page_refused(alloc: Global, error: PageError) -> Result<Reply, AllocError>
     ensures memory { IfOk result (λ _. ¬ (error ≡ PageError.Memory)) }
 {
     match error {
-        PageError::Absent => refusal_reply(alloc, Allow::Full, Refusal::Code(Code::Absent)),
-        PageError::Gone => refusal_reply(alloc, Allow::Full, Refusal::Code(Code::Gone)),
+        PageError::Absent => refusal_reply(alloc, Allow::Full, Code::Absent),
+        PageError::Gone => refusal_reply(alloc, Allow::Full, Code::Gone),
         PageError::Memory => Err(AllocError),
     }
 }
@@ -268,19 +265,19 @@ fn manifest_iri(alloc: Global, base: &str, name: &str) -> Result<String, AllocEr
 }
 
 /// Why the machine refuses a write.
-pub(crate) fn write_refusal(refused: Refused) -> Refusal
+pub(crate) fn write_refusal(refused: Refused) -> Code
     ensures { result ≡ write_refusal refused }
 {
     match refused {
-        Refused::Shape(code) => Refusal::Code(code),
-        Refused::NotSigned => Refusal::Code(Code::NotSigned),
-        Refused::NotWriter => Refusal::Code(Code::NotWriter),
-        Refused::NotOwn => Refusal::Code(Code::NotOwn),
-        Refused::NoManifest => Refusal::Code(Code::Absent),
-        Refused::NotMember => Refusal::Code(Code::NotMember),
-        Refused::GroupFixed => Refusal::Code(Code::GroupFixed),
-        Refused::TokenTaken => Refusal::Code(Code::TokenTaken),
-        Refused::Version { current } => Refusal::Code(Code::Version { current }),
-        Refused::Memory => Refusal::Code(Code::Unbuilt),
+        Refused::Shape(code) => code,
+        Refused::NotSigned => Code::NotSigned,
+        Refused::NotWriter => Code::NotWriter,
+        Refused::NotOwn => Code::NotOwn,
+        Refused::NoManifest => Code::Absent,
+        Refused::NotMember => Code::NotMember,
+        Refused::GroupFixed => Code::GroupFixed,
+        Refused::TokenTaken => Code::TokenTaken,
+        Refused::Version { current } => Code::Version { current },
+        Refused::Memory => Code::Unbuilt,
     }
 }

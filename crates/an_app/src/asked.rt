@@ -9,7 +9,6 @@ ghost use Rattle.an_app.specs.Routes.{route_of};
 use crate::kinds::{Read, Route, RouteError, WriteRoute};
 use crate::line::{LineWords, Method, words_of};
 use crate::query::name_in;
-use crate::refusal::Refusal;
 use crate::routes::route;
 use crate::target::text_of;
 use an_base::{Code, Moment, Name, Tree, TreeError, read_tree};
@@ -31,7 +30,7 @@ pub(crate) enum Asked {
     Unread {
         by: Option<Name>,
         allow: Allow,
-        refusal: Refusal,
+        refusal: Code,
     },
     Write {
         moment: Moment,
@@ -42,7 +41,7 @@ pub(crate) enum Asked {
 
 /// What a line asks, or why it is refused whatever the state is.
 #[tactic(auto, unfolding(crate::specs::Asked::asked_of))]
-pub(crate) fn asked_of(alloc: Global, line: &[u8]) -> Result<Result<Asked, Refusal>, AllocError>
+pub(crate) fn asked_of(alloc: Global, line: &[u8]) -> Result<Result<Asked, Code>, AllocError>
     ensures { IfOk result (λ asked. asked ≡ asked_of line.now) }
 {
     if line.is_empty() {
@@ -50,25 +49,25 @@ pub(crate) fn asked_of(alloc: Global, line: &[u8]) -> Result<Result<Asked, Refus
     }
     match text_of(line) {
         Some(text) => words_asked(alloc, text),
-        None => Ok(Err(Refusal::Code(Code::Line))),
+        None => Ok(Err(Code::Line)),
     }
 }
 
-fn words_asked(alloc: Global, text: &str) -> Result<Result<Asked, Refusal>, AllocError>
+fn words_asked(alloc: Global, text: &str) -> Result<Result<Asked, Code>, AllocError>
     ensures { IfOk result (λ asked. asked ≡ words_asked (words_of text.now)) }
 {
     match words_of(text) {
         Some(words) => by_asked(alloc, &words),
-        None => Ok(Err(Refusal::Code(Code::Line))),
+        None => Ok(Err(Code::Line)),
     }
 }
 
-fn by_asked(alloc: Global, words: &LineWords<'_>) -> Result<Result<Asked, Refusal>, AllocError>
+fn by_asked(alloc: Global, words: &LineWords<'_>) -> Result<Result<Asked, Code>, AllocError>
     ensures { IfOk result (λ asked. asked ≡ words_asked (Some (lent_words words.now))) }
 {
     match by_of(alloc, words.by)? {
         Some(by) => target_asked(alloc, words, by),
-        None => Ok(Err(Refusal::Code(Code::Line))),
+        None => Ok(Err(Code::Line)),
     }
 }
 
@@ -92,7 +91,7 @@ fn target_asked(
     alloc: Global,
     words: &LineWords<'_>,
     by: Option<Name>,
-) -> Result<Result<Asked, Refusal>, AllocError>
+) -> Result<Result<Asked, Code>, AllocError>
     ensures { IfOk result (λ asked. asked ≡ by_asked (lent_words words.now) (Some by)) }
 {
     match route(alloc, words.method.text(), words.target) {
@@ -106,11 +105,11 @@ fn route_asked(
     words: &LineWords<'_>,
     by: Option<Name>,
     route: Route,
-) -> Result<Result<Asked, Refusal>, AllocError>
+) -> Result<Result<Asked, Code>, AllocError>
     ensures { IfOk result (λ asked. asked ≡ route_asked (lent_words words.now) by (Ok route)) }
 {
     match route {
-        Route::Options(_) => Ok(Err(Refusal::Code(Code::Line))),
+        Route::Options(_) => Ok(Err(Code::Line)),
         Route::Read(read) => Ok(Ok(Asked::Read { by, read })),
         Route::Write(write) => match command_of(alloc, write, words.tree.as_bytes())? {
             Ok(command) => Ok(Ok(Asked::Write {
@@ -127,28 +126,23 @@ fn error_asked(
     words: &LineWords<'_>,
     by: Option<Name>,
     error: RouteError,
-) -> Result<Result<Asked, Refusal>, AllocError>
+) -> Result<Result<Asked, Code>, AllocError>
     ensures asked { IfOk result (λ asked. asked
         ≡ route_asked (lent_words words.now) by (Err error)) }
     ensures memory { IfOk result (λ _. ¬ (error ≡ RouteError.Memory)) }
 {
     match error {
-        RouteError::Target => Ok(Err(Refusal::Code(Code::Line))),
-        RouteError::Route => Ok(Err(Refusal::Code(Code::Line))),
-        RouteError::Method { .. } => Ok(Err(Refusal::Code(Code::Line))),
+        RouteError::Target => Ok(Err(Code::Line)),
+        RouteError::Route => Ok(Err(Code::Line)),
+        RouteError::Method { .. } => Ok(Err(Code::Line)),
         RouteError::Query { allow, code } => Ok(query_asked(words.method, by, allow, code)),
-        RouteError::Unbuilt => Ok(Err(Refusal::Code(Code::Unbuilt))),
+        RouteError::Unbuilt => Ok(Err(Code::Unbuilt)),
         RouteError::Memory => Err(AllocError),
     }
 }
 
 /// A read whose query is refused is answered; a write isn't.
-fn query_asked(
-    method: Method,
-    by: Option<Name>,
-    allow: Allow,
-    refusal: Refusal,
-) -> Result<Asked, Refusal>
+fn query_asked(method: Method, by: Option<Name>, allow: Allow, refusal: Code) -> Result<Asked, Code>
     ensures { result ≡ query_asked method by allow refusal }
 {
     match method {
@@ -166,7 +160,7 @@ pub fn command_of(
     alloc: Global,
     write: WriteRoute,
     text: &[u8],
-) -> Result<Result<Command, Refusal>, AllocError>
+) -> Result<Result<Command, Code>, AllocError>
     ensures command { IfOk result (λ command. command ≡ command_of write text.now) }
 {
     match write {
@@ -206,7 +200,7 @@ fn put_reader(
     name: Name,
     version: u32,
     text: &[u8],
-) -> Result<Result<Command, Refusal>, AllocError>
+) -> Result<Result<Command, Code>, AllocError>
     ensures { IfOk result
         (λ command. command ≡ with_tree (Command.PutReader name version) (tree_of text.now)) }
 {
@@ -226,7 +220,7 @@ fn put_manifest(
     version: u32,
     group: Group,
     text: &[u8],
-) -> Result<Result<Command, Refusal>, AllocError>
+) -> Result<Result<Command, Code>, AllocError>
     ensures { IfOk result
         (λ command. command
         ≡ with_tree (Command.PutManifest name version group) (tree_of text.now)) }
@@ -249,7 +243,7 @@ fn put_note(
     version: u32,
     home: (Name, Group),
     text: &[u8],
-) -> Result<Result<Command, Refusal>, AllocError>
+) -> Result<Result<Command, Code>, AllocError>
     ensures { IfOk result (λ command. command
         ≡ with_tree (Command.PutNote path.0 path.1 version home.0 home.1) (tree_of text.now)) }
 {
@@ -269,7 +263,7 @@ fn put_note(
 }
 
 /// The tree that a text is, or the refusal of what it is instead.
-fn tree_in(alloc: Global, text: &[u8]) -> Result<Result<Tree, Refusal>, AllocError>
+fn tree_in(alloc: Global, text: &[u8]) -> Result<Result<Tree, Code>, AllocError>
     ensures { IfOk result (λ tree. tree ≡ result_map_both
         (λ t. t) text_refusal (tree_of text.now)) }
 {
@@ -283,13 +277,13 @@ fn tree_in(alloc: Global, text: &[u8]) -> Result<Result<Tree, Refusal>, AllocErr
     }
 }
 
-fn text_refusal(error: TreeError) -> Refusal
+fn text_refusal(error: TreeError) -> Code
     ensures { result ≡ text_refusal error }
 {
     match error {
-        TreeError::Json => Refusal::Code(Code::Json),
-        TreeError::NotWhole => Refusal::Code(Code::NotWhole),
-        TreeError::Deep => Refusal::Code(Code::Deep),
-        TreeError::Memory => Refusal::Code(Code::Unbuilt),
+        TreeError::Json => Code::Json,
+        TreeError::NotWhole => Code::NotWhole,
+        TreeError::Deep => Code::Deep,
+        TreeError::Memory => Code::Unbuilt,
     }
 }

@@ -1,6 +1,6 @@
 ghost use Rattle.std.specs.Prelude.{◌≡◌, ◌+◌, ◌-◌, ◌<◌, ◌≤◌, ◌^◌, IfOk, IsSome, OnErr, Result};
 ghost use Rattle.std.specs.Prelude.{if◌then◌else◌};
-ghost use Rattle.an_keep.specs.Keeper.{Rises};
+ghost use Rattle.an_base.specs.Faults.{Rises};
 ghost use Rattle.an_machine.specs.State.{State};
 ghost use Rattle.an_machine.specs.declared.command.Decided.{Decided};
 ghost use Rattle.an_machine.specs.declared.command.Refused.{Refused};
@@ -13,7 +13,6 @@ ghost use Rattle.an_app.specs.Written.{is_old, written_by, written_of};
 use crate::answers::write_refusal;
 use crate::asked::{Asked, asked_of};
 use crate::counts::{Counts, with_done, with_old};
-use crate::refusal::Refusal;
 use crate::written::{is_old, writer};
 use an_base::{Code, Moment, Name};
 use an_keep::{KeepError, Keeper};
@@ -28,7 +27,7 @@ pub(crate) fn import_line<K: Keeper>(
     desk: &mut Desk<K>,
     counts: Counts,
     line: &[u8],
-) -> Result<Result<Counts, Refusal>, KeepError>
+) -> Result<Result<Counts, Code>, KeepError>
     requires { counts.accepted + counts.repeated + counts.old < 2 ^ 64 - 1 }
     ensures leads { IfOk result (Leads
         (import_line (record { state = desk.old.state; counts = counts }) line.now)
@@ -50,7 +49,7 @@ fn import_asked<K: Keeper>(
     desk: &mut Desk<K>,
     counts: Counts,
     asked: Asked,
-) -> Result<Result<Counts, Refusal>, KeepError>
+) -> Result<Result<Counts, Code>, KeepError>
     requires { counts.accepted + counts.repeated + counts.old < 2 ^ 64 - 1 }
     ensures leads { IfOk result (Leads (import_asked counts desk.old.state (Ok asked))
         desk.old.state desk.new.state) }
@@ -61,8 +60,8 @@ fn import_asked<K: Keeper>(
 {
     match asked {
         Asked::Nothing => Ok(Ok(counts)),
-        Asked::Read { .. } => Ok(Err(Refusal::Code(Code::Line))),
-        Asked::Unread { .. } => Ok(Err(Refusal::Code(Code::Line))),
+        Asked::Read { .. } => Ok(Err(Code::Line)),
+        Asked::Unread { .. } => Ok(Err(Code::Line)),
         Asked::Write {
             moment,
             by,
@@ -78,7 +77,7 @@ fn import_write<K: Keeper>(
     counts: Counts,
     stamp: (Moment, Option<Name>),
     command: Command,
-) -> Result<Result<Counts, Refusal>, KeepError>
+) -> Result<Result<Counts, Code>, KeepError>
     requires { counts.accepted + counts.repeated + counts.old < 2 ^ 64 - 1 }
     ensures leads { IfOk result (Leads
         (import_written counts desk.old.state
@@ -103,7 +102,7 @@ fn unwritten(
     version: u32,
     counts: Counts,
     error: WriteError,
-) -> Result<Result<Counts, Refusal>, KeepError>
+) -> Result<Result<Counts, Code>, KeepError>
     requires { counts.accepted + counts.repeated + counts.old < 2 ^ 64 - 1 }
     ensures leads { (decided : Result Decided Refused) → (s : State) → IsRefused decided error
         → IfOk result (Leads (import_written counts s (written_by s version decided)) s s) }
@@ -117,7 +116,7 @@ fn unwritten(
 }
 
 /// Passes over an old write, and counts it. Answers another refusal.
-fn refused_line(version: u32, counts: Counts, refused: Refused) -> Result<Counts, Refusal>
+fn refused_line(version: u32, counts: Counts, refused: Refused) -> Result<Counts, Code>
     requires { counts.accepted + counts.repeated + counts.old < 2 ^ 64 - 1 }
     ensures { result
         ≡ (if is_old version refused then Ok (with_old counts) else Err (write_refusal refused)) }

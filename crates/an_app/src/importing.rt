@@ -1,6 +1,5 @@
 ghost use Rattle.std.specs.Prelude.{◌≡◌, ◌≤◌, IfOk, IsSome, IsTrue, OnErr};
-ghost use Rattle.an_keep.specs.Keeper as keeper;
-ghost use Rattle.an_world.specs.Link.{Rises};
+ghost use Rattle.an_base.specs.Faults.{Rises};
 ghost use Rattle.an_app.specs.Import.{import_lines, imported_of, report_of, start};
 ghost use Rattle.an_app.specs.ImportEnds.{Imports, LeavesAll, LeavesFront};
 ghost use Rattle.an_app.specs.Shown.{shown_import};
@@ -34,7 +33,7 @@ pub fn import<L: Link, K: Keeper>(alloc: Global, link: &mut L, desk: &mut Desk<K
     ensures imports { Imports
         (Rises (L.read_faults link.old) (L.read_faults link.new))
         (Rises (L.write_faults link.old) (L.write_faults link.new))
-        (keeper.Rises desk.old.faults desk.new.faults)
+        (Rises desk.old.faults desk.new.faults)
         (L.traffic link.old) (L.traffic link.new) desk.old.state desk.new.state result }
     ensures bounded { ReadsLittle (L.traffic link.old) (L.traffic link.new) }
     ensures faults_kept { desk.old.faults ≤ desk.new.faults }
@@ -72,7 +71,7 @@ fn import_input<K: Keeper>(
         r.status r.text.items desk.new.state) }
     ensures front { OnErr result (LeavesFront desk.old.state input.now desk.new.state) }
     ensures counted { result ≡ Err KeepError.Failed
-        → keeper.Rises desk.old.faults desk.new.faults }
+        → Rises desk.old.faults desk.new.faults }
     ensures faults_kept { desk.old.faults ≤ desk.new.faults }
     ensures told { IsSome desk.new.told → IsSome desk.old.told }
 {
@@ -91,7 +90,7 @@ fn import_whole<K: Keeper>(
         ≡ imported_of desk.old.state input.now) }
     ensures front { OnErr result (LeavesFront desk.old.state input.now desk.new.state) }
     ensures counted { result ≡ Err KeepError.Failed
-        → keeper.Rises desk.old.faults desk.new.faults }
+        → Rises desk.old.faults desk.new.faults }
     ensures faults_kept { desk.old.faults ≤ desk.new.faults }
     ensures told { IsSome desk.new.told → IsSome desk.old.told }
 {
@@ -114,7 +113,7 @@ fn import_lines<K: Keeper>(
         ≡ import_lines (lines_of input.now) 1 (start desk.old.state)) }
     ensures front { OnErr result (LeavesFront desk.old.state input.now desk.new.state) }
     ensures counted { result ≡ Err KeepError.Failed
-        → keeper.Rises desk.old.faults desk.new.faults }
+        → Rises desk.old.faults desk.new.faults }
     ensures faults_kept { desk.old.faults ≤ desk.new.faults }
     ensures told { IsSome desk.new.told → IsSome desk.old.told }
 {
@@ -153,7 +152,7 @@ fn import_report(alloc: Global, imported: Imported) -> Result<Report, AllocError
         None => {
             let text = counts_line(alloc, imported.counts)?;
             Ok(Report {
-                status: Status::Played,
+                status: Status::Done,
                 text: text.into_bytes(),
             })
         }

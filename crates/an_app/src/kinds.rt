@@ -1,8 +1,7 @@
 ghost use Rattle.std.specs.Prelude.{◌≡◌};
 ghost use Rattle.an_app.specs.Routes.{read_methods, write_methods};
 
-use crate::refusal::Refusal;
-use an_base::{Name, Text};
+use an_base::{Code, Name, Text};
 use an_http::Allow;
 use an_policy::Group;
 
@@ -69,7 +68,7 @@ pub enum RouteError {
     /// The path hasn't this method.
     Method { allow: Allow },
     /// The query is refused.
-    Query { allow: Allow, code: Refusal },
+    Query { allow: Allow, code: Code },
     /// A search for something else than one word of letters isn't answered yet.
     Unbuilt,
     Memory,

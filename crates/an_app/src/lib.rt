@@ -4,16 +4,17 @@
 
 pub use answers::{answer, query_answer, refusal_reply, write_answer};
 pub use asked::command_of;
+pub use at_desk::session_at_desk;
 pub use importing::import;
 pub use kinds::{Read, Route, RouteError, WriteRoute};
 pub use lines::find;
 pub use program::run;
-pub use refusal::{Parameter, Refusal, refusal_body};
 pub use routes::route;
 pub use status::Status;
 
 mod answers;
 mod asked;
+mod at_desk;
 mod counts;
 mod import_line;
 mod importing;
@@ -22,12 +23,14 @@ mod line;
 mod lines;
 mod program;
 mod query;
-mod refusal;
+mod respond;
 mod routes;
 mod split;
 mod status;
 mod stop;
+mod stored;
 mod target;
 mod told;
 mod turn;
+mod uncounted;
 mod written;

@@ -1,5 +1,5 @@
 ghost use Rattle.std.specs.Prelude.{◌≡◌, IfOk, IsTrue};
-ghost use Rattle.an_world.specs.Link.{Rises};
+ghost use Rattle.an_base.specs.Faults.{Rises};
 ghost use Rattle.an_machine.specs.State.{empty};
 ghost use Rattle.an_app.specs.Find.{play, report_of, report_played};
 ghost use Rattle.an_app.specs.Shown.{shown};
@@ -98,7 +98,7 @@ fn report_played(alloc: Global, played: Played) -> Result<Report, AllocError>
             })
         }
         None => Ok(Report {
-            status: Status::Played,
+            status: Status::Done,
             text: output,
         }),
     }

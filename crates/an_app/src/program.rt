@@ -1,54 +1,71 @@
-ghost use Rattle.std.specs.Prelude.{◌≡◌, IfNone, IfOk, IfSome, IsSome, IsTrue, map, string_bytes};
-ghost use Rattle.an_machine.specs.State.{State};
-ghost use Rattle.an_world.specs.Link.{Rises};
-ghost use Rattle.an_app.specs.ImportEnds.{Imports, ImportsAt, damage_text};
-ghost use Rattle.an_app.specs.Status.{IsUnfailing, Misunderstands, ReadsLittle};
-ghost use Rattle.an_app.specs.Words.{Runs, find_form, form_of};
+ghost use Rattle.std.specs.Prelude.{◌≡◌, IfNone, IfSome, IsSome, IsTrue, map, string_bytes};
+ghost use Rattle.std.specs.Result.{result_ok};
+ghost use Rattle.an_base.specs.Faults.{Rises};
+ghost use Rattle.an_search.specs.Settings.{settings_of};
+ghost use Rattle.an_app.specs.Status.{Finds, IsUnfailing, Misunderstands, ReadsLittle};
+ghost use Rattle.an_app.specs.Words as form;
+ghost use Rattle.an_app.specs.Words.{ReadsInput, Runs, form_of, site_form};
 
-use crate::importing::import;
 use crate::lines::find;
 use crate::status::Status;
-use crate::told::tell;
+use crate::stored::{import_at, session_at};
 use an_keep::Keeper;
 use an_search::{SettingsError, read_settings};
-use an_shelf::{Desk, OpenError};
-use an_world::{Link, write_all};
-use std::alloc::{AllocError, Global};
+use an_world::{Clock, Link, write_all};
+use std::alloc::Global;
 
 /// Does what the words say. They are those of a form, each behind `-`, which stands for an empty
-/// store in memory, the keeper: `find`, the base of all IRIs and how many items a page has, which
-/// plays lines over a state of its own; or `import`, which writes lines to the store. The run ends
-/// as misunderstood for other words, where nothing is read.
-pub fn run<L: Link, K: Keeper>(alloc: Global, words: &[String], link: &mut L, keeper: K) -> Status
+/// store in memory, the keeper: `import`, which writes lines to the store; or, with the base of all
+/// IRIs and how many items a page has, `find`, which plays lines over a state of its own, or
+/// `session`, which serves one connection over the link. The run ends as misunderstood for other
+/// words, where nothing is read.
+pub fn run<L: Link, K: Keeper, C: Clock>(
+    alloc: Global,
+    words: &[String],
+    link: &mut L,
+    keeper: K,
+    clock: &C,
+) -> Status
     ensures understood { IfSome (form_of (map string_bytes words.now)) (Runs
         (Rises (L.read_faults link.old) (L.read_faults link.new))
         (Rises (L.write_faults link.old) (L.write_faults link.new))
-        (¬ (IsTrue K.is_sure)) ((kept : K) → IsSome (K.told kept)) (K.told keeper)
+        (¬ (IsTrue K.is_sure)) ((kept : K) → IsSome (K.told kept))
+        (C.answers clock.now) (K.told keeper)
         (L.traffic link.old) (L.traffic link.new) result) }
     ensures misunderstood { IfNone (form_of (map string_bytes words.now)) (Misunderstands
         (Rises (L.write_faults link.old) (L.write_faults link.new))
         (L.traffic link.old) (L.traffic link.new) result) }
-    ensures bounded { ReadsLittle (L.traffic link.old) (L.traffic link.new) }
+    ensures bounded { IfSome (form_of (map string_bytes words.now)) (ReadsInput
+        (L.traffic link.old) (L.traffic link.new)) }
 
     // Over a link that never fails all is printed, unless memory runs out. A keeper that never
     // fails isn't told to have failed.
     ensures sure_link { IsTrue L.is_sure → IsUnfailing result }
     ensures sure_keeper { IsTrue K.is_sure → ¬ (result ≡ Status.KeeperFailed) }
 {
-    run_form(alloc, words, link, keeper)
+    run_form(alloc, words, link, keeper, clock)
 }
 
 /// The same, but for what is known of a link or a keeper that never fails.
-fn run_form<L: Link, K: Keeper>(alloc: Global, words: &[String], link: &mut L, keeper: K) -> Status
+#[tactic(auto, using(crate::proofs::RunLemmas::runs_of_find))]
+fn run_form<L: Link, K: Keeper, C: Clock>(
+    alloc: Global,
+    words: &[String],
+    link: &mut L,
+    keeper: K,
+    clock: &C,
+) -> Status
     ensures understood { IfSome (form_of (map string_bytes words.now)) (Runs
         (Rises (L.read_faults link.old) (L.read_faults link.new))
         (Rises (L.write_faults link.old) (L.write_faults link.new))
-        (¬ (IsTrue K.is_sure)) ((kept : K) → IsSome (K.told kept)) (K.told keeper)
+        (¬ (IsTrue K.is_sure)) ((kept : K) → IsSome (K.told kept))
+        (C.answers clock.now) (K.told keeper)
         (L.traffic link.old) (L.traffic link.new) result) }
     ensures misunderstood { IfNone (form_of (map string_bytes words.now)) (Misunderstands
         (Rises (L.write_faults link.old) (L.write_faults link.new))
         (L.traffic link.old) (L.traffic link.new) result) }
-    ensures bounded { ReadsLittle (L.traffic link.old) (L.traffic link.new) }
+    ensures bounded { IfSome (form_of (map string_bytes words.now)) (ReadsInput
+        (L.traffic link.old) (L.traffic link.new)) }
 {
     match words {
         [store, name] => {
@@ -60,7 +77,10 @@ fn run_form<L: Link, K: Keeper>(alloc: Global, words: &[String], link: &mut L, k
         }
         [store, name, base, size] => {
             if store.as_str() == "-" && name.as_str() == "find" {
-                find_with(alloc, link, keeper, base.as_str(), size.as_str())
+                drop(keeper);
+                find_with(alloc, link, base.as_str(), size.as_str())
+            } else if store.as_str() == "-" && name.as_str() == "session" {
+                session_with(alloc, link, keeper, clock, base.as_str(), size.as_str())
             } else {
                 misunderstood(link)
             }
@@ -69,25 +89,17 @@ fn run_form<L: Link, K: Keeper>(alloc: Global, words: &[String], link: &mut L, k
     }
 }
 
-/// Plays lines, where base and size are those of settings. No store is opened.
-fn find_with<L: Link, K: Keeper>(
-    alloc: Global,
-    link: &mut L,
-    keeper: K,
-    base: &str,
-    size: &str,
-) -> Status
-    ensures understood { IfSome (find_form base.now size.now) (Runs
+/// Plays lines, where base and size are those of settings.
+fn find_with<L: Link>(alloc: Global, link: &mut L, base: &str, size: &str) -> Status
+    ensures understood { IfSome (result_ok (settings_of base.now size.now)) (λ site. Finds site
         (Rises (L.read_faults link.old) (L.read_faults link.new))
         (Rises (L.write_faults link.old) (L.write_faults link.new))
-        (¬ (IsTrue K.is_sure)) ((kept : K) → IsSome (K.told kept)) (K.told keeper)
         (L.traffic link.old) (L.traffic link.new) result) }
-    ensures misunderstood { IfNone (find_form base.now size.now) (Misunderstands
+    ensures misunderstood { IfNone (result_ok (settings_of base.now size.now)) (Misunderstands
         (Rises (L.write_faults link.old) (L.write_faults link.new))
         (L.traffic link.old) (L.traffic link.new) result) }
     ensures bounded { ReadsLittle (L.traffic link.old) (L.traffic link.new) }
 {
-    drop(keeper);
     match read_settings(alloc, base, size) {
         Ok(settings) => find(alloc, link, &settings),
         Err(error) => if matches!(error, SettingsError::Memory) {
@@ -98,50 +110,33 @@ fn find_with<L: Link, K: Keeper>(
     }
 }
 
-/// Writes lines to the store of a keeper.
-fn import_at<L: Link, K: Keeper>(alloc: Global, link: &mut L, keeper: K) -> Status
-    ensures imports { ImportsAt
+/// Serves one connection, where base and size are those of settings.
+fn session_with<L: Link, K: Keeper, C: Clock>(
+    alloc: Global,
+    link: &mut L,
+    keeper: K,
+    clock: &C,
+    base: &str,
+    size: &str,
+) -> Status
+    ensures understood { IfSome (site_form form.session base.now size.now) (Runs
         (Rises (L.read_faults link.old) (L.read_faults link.new))
         (Rises (L.write_faults link.old) (L.write_faults link.new))
-        (¬ (IsTrue K.is_sure)) ((kept : K) → IsSome (K.told kept)) (K.told keeper)
-        (L.traffic link.old) (L.traffic link.new) result }
-    ensures bounded { ReadsLittle (L.traffic link.old) (L.traffic link.new) }
+        (¬ (IsTrue K.is_sure)) ((kept : K) → IsSome (K.told kept))
+        (C.answers clock.now) (K.told keeper)
+        (L.traffic link.old) (L.traffic link.new) result) }
+    ensures misunderstood { IfNone (site_form form.session base.now size.now) (Misunderstands
+        (Rises (L.write_faults link.old) (L.write_faults link.new))
+        (L.traffic link.old) (L.traffic link.new) result) }
 {
-    match Desk::open(alloc, keeper) {
-        Ok(desk) => import_into(alloc, link, desk),
-        Err(error) => match error {
-            OpenError::Keeper => tell(link, Status::KeeperFailed, "keeper failed\n".as_bytes()),
-            OpenError::Damaged { tab, key } => match damage_text(alloc, tab, key) {
-                Ok(text) => tell(link, Status::Damaged { tab, key }, text.as_str().as_bytes()),
-                Err(_) => Status::Memory,
-            },
-            OpenError::Memory => Status::Memory,
+    match read_settings(alloc, base, size) {
+        Ok(settings) => session_at(alloc, link, keeper, &settings, clock),
+        Err(error) => if matches!(error, SettingsError::Memory) {
+            Status::Memory
+        } else {
+            misunderstood(link)
         },
     }
-}
-
-/// Writes lines to an open store. The keeper is taken back, since a keeper of a sure kind is known to
-/// have failed no call.
-fn import_into<L: Link, K: Keeper>(alloc: Global, link: &mut L, desk: Desk<K>) -> Status
-    ensures imports { (after : State) × Imports
-        (Rises (L.read_faults link.old) (L.read_faults link.new))
-        (Rises (L.write_faults link.old) (L.write_faults link.new))
-        (¬ (IsTrue K.is_sure))
-        (L.traffic link.old) (L.traffic link.new) desk.state after result }
-    ensures told { ((kept : K) → IsSome (K.told kept)) → IsSome desk.told }
-    ensures bounded { ReadsLittle (L.traffic link.old) (L.traffic link.new) }
-{
-    let mut desk = desk;
-    let status = import(alloc, link, &mut desk);
-    drop(desk.into_keeper());
-    status
-}
-
-/// Which cell of a store is damaged, as it is printed.
-fn damage_text(alloc: Global, tab: u8, key: u64) -> Result<String, AllocError>
-    ensures { IfOk result (λ text. string_bytes text ≡ damage_text tab key) }
-{
-    format!(in alloc; "store damaged: table {tab} key {key}\n")
 }
 
 /// Tells that the words are those of no form.

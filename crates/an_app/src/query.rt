@@ -5,9 +5,8 @@ ghost use Rattle.an_app.specs.Query.{with_manifest, with_group, with_value, with
 ghost use Rattle.an_app.specs.Query.{nothing_given, given_of, number_in, version_of, name_in};
 ghost use Rattle.an_app.specs.Query.{manifest_of, group_of};
 
-use crate::refusal::{Parameter, Refusal};
 use crate::target::decoded;
-use an_base::{Name, NameError, Text, read_decimal};
+use an_base::{Code, Name, NameError, Parameter, Text, read_decimal};
 use an_policy::{Group, group_named};
 use form_urlencoded::raw_pairs;
 use std::alloc::{AllocError, Global};
@@ -69,14 +68,14 @@ pub(crate) fn given_in(
     alloc: Global,
     reads: Reads,
     query: &str,
-) -> Result<Result<Given, Refusal>, AllocError>
+) -> Result<Result<Given, Code>, AllocError>
     ensures { IfOk result (λ given. given ≡ given_of reads query.now) }
 {
     let mut given = Ok(nothing_given());
     for (name, value) in raw_pairs(query.as_bytes()) {
         match pair_of(alloc, name, value)? {
             Some(pair) => given = with_pair(reads, given, pair),
-            None => return Ok(Err(Refusal::Bytes)),
+            None => return Ok(Err(Code::Bytes)),
         }
     }
     Ok(given)
@@ -121,7 +120,7 @@ fn with_spaces(alloc: Global, raw: &[u8]) -> Result<Vec<u8>, AllocError>
         .collect(alloc)
 }
 
-fn with_pair(reads: Reads, given: Result<Given, Refusal>, pair: Pair) -> Result<Given, Refusal>
+fn with_pair(reads: Reads, given: Result<Given, Code>, pair: Pair) -> Result<Given, Code>
     ensures { result ≡ with_pair reads given pair }
 {
     match given {
@@ -148,7 +147,7 @@ fn parameter_in(reads: Reads, name: &str) -> Option<Parameter>
     None
 }
 
-fn with_value(given: Given, value: Text, parameter: Option<Parameter>) -> Result<Given, Refusal>
+fn with_value(given: Given, value: Text, parameter: Option<Parameter>) -> Result<Given, Code>
     ensures { result ≡ with_value given value parameter }
 {
     match parameter {
@@ -159,11 +158,11 @@ fn with_value(given: Given, value: Text, parameter: Option<Parameter>) -> Result
     }
 }
 
-fn with_version(given: Given, value: Text) -> Result<Given, Refusal>
+fn with_version(given: Given, value: Text) -> Result<Given, Code>
     ensures { result ≡ with_version given value }
 {
     if given.version.is_some() {
-        return Err(Refusal::Twice {
+        return Err(Code::Twice {
             name: Parameter::Version,
         });
     }
@@ -179,11 +178,11 @@ fn with_version(given: Given, value: Text) -> Result<Given, Refusal>
     })
 }
 
-fn with_manifest(given: Given, value: Text) -> Result<Given, Refusal>
+fn with_manifest(given: Given, value: Text) -> Result<Given, Code>
     ensures { result ≡ with_manifest given value }
 {
     if given.manifest.is_some() {
-        return Err(Refusal::Twice {
+        return Err(Code::Twice {
             name: Parameter::Manifest,
         });
     }
@@ -195,11 +194,11 @@ fn with_manifest(given: Given, value: Text) -> Result<Given, Refusal>
     })
 }
 
-fn with_group(given: Given, value: Text) -> Result<Given, Refusal>
+fn with_group(given: Given, value: Text) -> Result<Given, Code>
     ensures { result ≡ with_group given value }
 {
     if given.group.is_some() {
-        return Err(Refusal::Twice {
+        return Err(Code::Twice {
             name: Parameter::Group,
         });
     }

@@ -17,7 +17,6 @@ use crate::query::{
     Given, READS_ALL, READS_NOTHING, READS_VERSION, READS_VERSION_AND_GROUP, given_in, group_of,
     manifest_of, name_in, version_of,
 };
-use crate::refusal::Refusal;
 use crate::target::{segments_of, target_parts};
 use an_base::{Code, Name, Text};
 use an_http::Allow;
@@ -263,7 +262,7 @@ fn delete_at(alloc: Global, path: Path, query: &str) -> Result<Route, RouteError
     }
 }
 
-fn written(allow: Allow, write: Result<WriteRoute, Refusal>) -> Result<Route, RouteError>
+fn written(allow: Allow, write: Result<WriteRoute, Code>) -> Result<Route, RouteError>
     ensures { result ≡ written allow write }
 {
     match write {
@@ -276,14 +275,14 @@ fn reader_put(
     alloc: Global,
     name: Name,
     query: &str,
-) -> Result<Result<WriteRoute, Refusal>, AllocError>
+) -> Result<Result<WriteRoute, Code>, AllocError>
     ensures { IfOk result (λ write. write
         ≡ given_to (given_of reads_version query.now) (reader_put name)) }
 {
     match given_in(alloc, READS_VERSION, query)? {
         Ok(given) => match version_of(&given) {
             Some(version) => Ok(Ok(WriteRoute::PutReader { name, version })),
-            None => Ok(Err(Refusal::Version)),
+            None => Ok(Err(Code::VersionForm)),
         },
         Err(refusal) => Ok(Err(refusal)),
     }
@@ -293,14 +292,14 @@ fn reader_drop(
     alloc: Global,
     name: Name,
     query: &str,
-) -> Result<Result<WriteRoute, Refusal>, AllocError>
+) -> Result<Result<WriteRoute, Code>, AllocError>
     ensures { IfOk result (λ write. write
         ≡ given_to (given_of reads_version query.now) (reader_drop name)) }
 {
     match given_in(alloc, READS_VERSION, query)? {
         Ok(given) => match version_of(&given) {
             Some(version) => Ok(Ok(WriteRoute::DropReader { name, version })),
-            None => Ok(Err(Refusal::Version)),
+            None => Ok(Err(Code::VersionForm)),
         },
         Err(refusal) => Ok(Err(refusal)),
     }
@@ -310,7 +309,7 @@ fn manifest_put(
     alloc: Global,
     name: Name,
     query: &str,
-) -> Result<Result<WriteRoute, Refusal>, AllocError>
+) -> Result<Result<WriteRoute, Code>, AllocError>
     ensures { IfOk result (λ write. write
         ≡ given_to (given_of reads_version_and_group query.now) (manifest_put name)) }
 {
@@ -322,9 +321,9 @@ fn manifest_put(
                     version,
                     group,
                 })),
-                None => Ok(Err(Refusal::Code(Code::Group))),
+                None => Ok(Err(Code::Group)),
             },
-            None => Ok(Err(Refusal::Version)),
+            None => Ok(Err(Code::VersionForm)),
         },
         Err(refusal) => Ok(Err(refusal)),
     }
@@ -334,14 +333,14 @@ fn manifest_drop(
     alloc: Global,
     name: Name,
     query: &str,
-) -> Result<Result<WriteRoute, Refusal>, AllocError>
+) -> Result<Result<WriteRoute, Code>, AllocError>
     ensures { IfOk result (λ write. write
         ≡ given_to (given_of reads_version query.now) (manifest_drop name)) }
 {
     match given_in(alloc, READS_VERSION, query)? {
         Ok(given) => match version_of(&given) {
             Some(version) => Ok(Ok(WriteRoute::DropManifest { name, version })),
-            None => Ok(Err(Refusal::Version)),
+            None => Ok(Err(Code::VersionForm)),
         },
         Err(refusal) => Ok(Err(refusal)),
     }
@@ -352,14 +351,14 @@ fn note_put(
     owner: Name,
     name: Name,
     query: &str,
-) -> Result<Result<WriteRoute, Refusal>, AllocError>
+) -> Result<Result<WriteRoute, Code>, AllocError>
     ensures { IfOk result (λ write. write
         ≡ given_to (given_of reads_all query.now) (note_put owner name)) }
 {
     match given_in(alloc, READS_ALL, query)? {
         Ok(given) => match version_of(&given) {
             Some(version) => note_put_on(alloc, owner, name, version, &given),
-            None => Ok(Err(Refusal::Version)),
+            None => Ok(Err(Code::VersionForm)),
         },
         Err(refusal) => Ok(Err(refusal)),
     }
@@ -371,7 +370,7 @@ fn note_put_on(
     name: Name,
     version: u32,
     given: &Given,
-) -> Result<Result<WriteRoute, Refusal>, AllocError>
+) -> Result<Result<WriteRoute, Code>, AllocError>
     ensures { IfOk result (λ write. write ≡ note_put_on owner name given.now version) }
 {
     match manifest_of(alloc, given)? {
@@ -383,9 +382,9 @@ fn note_put_on(
                 manifest,
                 group,
             })),
-            None => Ok(Err(Refusal::Code(Code::Group))),
+            None => Ok(Err(Code::Group)),
         },
-        None => Ok(Err(Refusal::Manifest)),
+        None => Ok(Err(Code::Manifest)),
     }
 }
 
@@ -394,7 +393,7 @@ fn note_drop(
     owner: Name,
     name: Name,
     query: &str,
-) -> Result<Result<WriteRoute, Refusal>, AllocError>
+) -> Result<Result<WriteRoute, Code>, AllocError>
     ensures { IfOk result (λ write. write
         ≡ given_to (given_of reads_version query.now) (note_drop owner name)) }
 {
@@ -405,7 +404,7 @@ fn note_drop(
                 name,
                 version,
             })),
-            None => Ok(Err(Refusal::Version)),
+            None => Ok(Err(Code::VersionForm)),
         },
         Err(refusal) => Ok(Err(refusal)),
     }

@@ -4,8 +4,8 @@ ghost use Rattle.an_app.specs.StatusCode.{status_code};
 /// How a run ends.
 #[derive(Clone, Copy, Debug, PartialEq, Eq)]
 pub enum Status {
-    /// The whole input was played.
-    Played,
+    /// The work is done: the whole input was played, or the connection came to its end.
+    Done,
     /// A write failed.
     WriteFault,
     /// The words are those of no form.
@@ -28,7 +28,7 @@ impl Status {
         ensures code { result ≡ status_code self }
     {
         match self {
-            Status::Played => 0,
+            Status::Done => 0,
             Status::WriteFault => 1,
             Status::Misunderstood => 2,
             Status::Refused => 3,

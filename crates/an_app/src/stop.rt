@@ -1,7 +1,6 @@
 ghost use Rattle.std.specs.Prelude.{◌≡◌, IfOk, string_bytes};
 ghost use Rattle.an_app.specs.Stop.{refusal_line};
 
-use crate::refusal::Refusal;
 use an_base::Code;
 use std::alloc::{AllocError, Global};
 
@@ -9,13 +8,13 @@ use std::alloc::{AllocError, Global};
 #[derive(Clone, Copy, Debug)]
 pub(crate) struct Stop {
     pub line: usize,
-    pub why: Refusal,
+    pub why: Code,
 }
 
 /// An input that is too large is refused before its first line.
 pub(crate) const TOO_LARGE: Stop = Stop {
     line: 0,
-    why: Refusal::Code(Code::Input),
+    why: Code::Input,
 };
 
 /// The refusal of a line, as it is printed.

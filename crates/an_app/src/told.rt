@@ -1,5 +1,6 @@
 ghost use Rattle.std.specs.Prelude.{◌≤◌};
-ghost use Rattle.an_world.specs.Link.{Rises, WritesFront};
+ghost use Rattle.an_base.specs.Faults.{Rises};
+ghost use Rattle.an_world.specs.Link.{WritesFront};
 ghost use Rattle.an_app.specs.Told.{Tells};
 
 use crate::status::Status;

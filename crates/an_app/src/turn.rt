@@ -1,27 +1,25 @@
-ghost use Rattle.std.specs.Prelude.{◌≡◌, ◌<◌, ◌++◌, ℕ, List, IfOk, None, Some, Ok, OnOk, codes};
+ghost use Rattle.std.specs.Prelude.{◌≡◌, ◌++◌, ℕ, List, IfOk, None, Some, Ok, OnOk, codes};
 ghost use Rattle.std.specs.Prelude.{decimal, if◌then◌else◌, string_bytes};
 ghost use Rattle.an_http.specs.Status.{number_of};
 ghost use Rattle.an_app.specs.Answer.{answer_of, query_answer, view_by};
 ghost use Rattle.an_app.specs.Asked.{asked_of};
-ghost use Rattle.an_shelf.specs.Writing.{state_after};
+ghost use Rattle.an_machine.specs.Entries.{state_after};
 ghost use Rattle.an_app.specs.Find.{turn_of, asked_turn, write_turn, prints, writes, reply_line};
 ghost use Rattle.an_app.specs.Find.{reader};
 ghost use Rattle.an_app.specs.Turned.{Takes};
 ghost use Rattle.an_app.specs.Written.{written_of};
 
-use crate::answers::{answer, query_answer};
+use crate::answers::query_answer;
 use crate::asked::{Asked, asked_of};
 use crate::kinds::Read;
-use crate::refusal::Refusal;
+use crate::uncounted::answer_uncounted;
 use crate::written::{stop_of, writer};
-use an_base::{Moment, Name, Prefer, Steps};
+use an_base::{Code, Moment, Name, Prefer};
 use an_http::{Allow, Reply};
 use an_machine::{Book, Command, Decided, Refused};
 use an_policy::Caller;
 use an_search::Settings;
 use std::alloc::{AllocError, Global};
-use std::marker::Brand;
-use std::sync::ledger::{Blank, Ledger};
 
 /// No line says what it prefers.
 const NO_PREFERENCE: Prefer = Prefer {
@@ -38,7 +36,7 @@ pub(crate) fn turn(
     settings: &Settings,
     line: &[u8],
     output: &mut Vec<u8>,
-) -> Result<Option<Refusal>, AllocError>
+) -> Result<Option<Code>, AllocError>
     ensures { IfOk result (Takes (turn_of settings.now book.old.state line.now)
         book.old.state book.new.state output.old.items output.new.items) }
 {
@@ -54,7 +52,7 @@ fn asked_turn(
     settings: &Settings,
     asked: Asked,
     output: &mut Vec<u8>,
-) -> Result<Option<Refusal>, AllocError>
+) -> Result<Option<Code>, AllocError>
     ensures { IfOk result (Takes (asked_turn settings.now book.old.state (Ok asked))
         book.old.state book.new.state output.old.items output.new.items) }
 {
@@ -81,7 +79,7 @@ fn write(
     moment: Moment,
     by: Option<Name>,
     command: Command,
-) -> Result<Option<Refusal>, AllocError>
+) -> Result<Option<Code>, AllocError>
     ensures { IfOk result (λ stop. (output : List ℕ) → Takes
         (write_turn (written_of book.old.state moment by command))
         book.old.state book.new.state output output stop) }
@@ -97,7 +95,7 @@ fn write(
     }
 }
 
-fn apply(book: &mut Book, decided: Decided) -> Result<Option<Refusal>, AllocError>
+fn apply(book: &mut Book, decided: Decided) -> Result<Option<Code>, AllocError>
     ensures { IfOk result (λ stop. (output : List ℕ)
         → Takes (writes (state_after book.old.state decided.entry))
         book.old.state book.new.state output output stop) }
@@ -123,13 +121,13 @@ fn read_turn(
     by: Option<Name>,
     read: &Read,
     output: &mut Vec<u8>,
-) -> Result<Option<Refusal>, AllocError>
+) -> Result<Option<Code>, AllocError>
     ensures { IfOk result (Takes
         (asked_turn settings.now book.now.state (Ok (Asked.Read by read.now)))
         book.now.state book.now.state output.old.items output.new.items) }
 {
     let caller = reader(by);
-    let reply = answer_uncounted(alloc, book, settings, &caller, read)?;
+    let reply = answer_uncounted(alloc, book, settings, &caller, NO_PREFERENCE, read)?;
     put_reply_line(alloc, &reply, output)?;
     Ok(None)
 }
@@ -140,9 +138,9 @@ fn unread_turn(
     book: &Book,
     by: Option<Name>,
     allow: Allow,
-    refusal: Refusal,
+    refusal: Code,
     output: &mut Vec<u8>,
-) -> Result<Option<Refusal>, AllocError>
+) -> Result<Option<Code>, AllocError>
     ensures { IfOk result (Takes
         (prints (reply_line (query_answer (view_by book.now.state (reader by)) allow refusal)))
         book.now.state book.now.state output.old.items output.new.items) }
@@ -172,44 +170,4 @@ fn put_reply_line(alloc: Global, reply: &Reply, output: &mut Vec<u8>) -> Result<
     output.extend_from_slice(reply.body.as_slice())?;
     output.extend_from_slice("\n".as_bytes())?;
     Ok(())
-}
-
-/// The answer to a read whose steps nobody counts.
-fn answer_uncounted(
-    alloc: Global,
-    book: &Book,
-    settings: &Settings,
-    caller: &Caller,
-    read: &Read,
-) -> Result<Reply, AllocError>
-    ensures { IfOk result (λ reply. reply
-        ≡ answer_of settings.now (view_by book.now.state caller.now) read.now) }
-{
-    answer_from::<Brand>(alloc, Blank::new(1), book, settings, caller, read)
-}
-
-fn answer_from<L: Ledger>(
-    alloc: Global,
-    blank: Blank,
-    book: &Book,
-    settings: &Settings,
-    caller: &Caller,
-    read: &Read,
-) -> Result<Reply, AllocError>
-    requires name { blank.name ≡ L.name }
-    requires parts { blank.parts ≡ L.parts }
-    requires some { 0 < blank.parts }
-    ensures { IfOk result (λ reply. reply
-        ≡ answer_of settings.now (view_by book.now.state caller.now) read.now) }
-{
-    let mut steps = Steps::<L>::new(blank);
-    answer(
-        alloc,
-        book,
-        settings,
-        caller,
-        NO_PREFERENCE,
-        read,
-        &mut steps,
-    )
 }

@@ -3,8 +3,7 @@ ghost use Rattle.an_app.specs.Answer.{write_refusal};
 ghost use Rattle.an_app.specs.Written.{is_old, writer};
 
 use crate::answers::write_refusal;
-use crate::refusal::Refusal;
-use an_base::Name;
+use an_base::{Code, Name};
 use an_machine::Refused;
 use an_policy::Caller;
 
@@ -19,7 +18,7 @@ pub(crate) fn writer(by: Option<Name>) -> Caller
 }
 
 /// The refusal that ends the run; an old write is passed over.
-pub(crate) fn stop_of(version: u32, refused: Refused) -> Option<Refusal>
+pub(crate) fn stop_of(version: u32, refused: Refused) -> Option<Code>
     ensures { result ≡ (if is_old version refused then None else Some (write_refusal refused)) }
 {
     if is_old(version, refused) {

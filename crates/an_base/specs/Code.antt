@@ -1,7 +1,9 @@
--- The codes of refusals, as they are printed.
+-- The codes of refusals, as they are printed, and the names of parameters.
 use Rattle.std.specs.Prelude.{ℕ, List, codes}
 use Rattle.an_base.specs.declared.code.Code.{Code}
 use Rattle.an_base.specs.declared.code.Code.TheVariants.{Line, Input, Unbuilt, Absent, Group}
+use Rattle.an_base.specs.declared.code.Code.TheVariants.{Target, Route, Method, Bytes, Twice}
+use Rattle.an_base.specs.declared.code.Code.TheVariants.{VersionForm, Manifest, Keeper}
 use Rattle.an_base.specs.declared.code.Code.TheVariants.{ReaderToken, ReaderRole, ReaderUser}
 use Rattle.an_base.specs.declared.code.Code.TheVariants.{ReaderGroups, Json, NotWhole, Deep}
 use Rattle.an_base.specs.declared.code.Code.TheVariants.{NoteType, NoteTarget, NoteBody}
@@ -12,11 +14,26 @@ use Rattle.an_base.specs.declared.code.Code.TheVariants.{ManifestCanvas, NotSign
 use Rattle.an_base.specs.declared.code.Code.TheVariants.{NotOwn, NotMember, GroupFixed, TokenTaken}
 use Rattle.an_base.specs.declared.code.Code.TheVariants.{Version, Gone, Head, Transfer, Length}
 use Rattle.an_base.specs.declared.code.Code.TheVariants.{Large, LengthRequired, Body}
+use Rattle.an_base.specs.declared.parameter.Parameter.{Parameter}
+use Rattle.an_base.specs.declared.parameter.Parameter.TheVariants as parameter
+
+-- the name of a parameter, as a query gives it
+abbrev pub parameter_text : Parameter → List ℕ
+parameter_text parameter.Version = codes "version"
+parameter_text parameter.Manifest = codes "manifest"
+parameter_text parameter.Group = codes "group"
 
 abbrev pub code_text : Code → List ℕ
 code_text Line = codes "line"
 code_text Input = codes "input"
 code_text Unbuilt = codes "unbuilt"
+code_text Target = codes "target"
+code_text Route = codes "route"
+code_text Method = codes "method"
+code_text Bytes = codes "bytes"
+code_text (Twice name) = codes "twice"
+code_text VersionForm = codes "version"
+code_text Manifest = codes "manifest"
 code_text Absent = codes "absent"
 code_text Group = codes "group"
 code_text ReaderToken = codes "reader_token"
@@ -50,3 +67,4 @@ code_text Length = codes "length"
 code_text Large = codes "large"
 code_text LengthRequired = codes "length_required"
 code_text Body = codes "body"
+code_text Keeper = codes "keeper"

@@ -15,3 +15,4 @@ pub mod Cut
 pub mod Kept
 pub mod TextSet
 pub mod Token
+pub mod Faults

@@ -1,6 +1,8 @@
 ghost use Rattle.std.specs.Prelude.{◌≡◌};
 ghost use Rattle.an_base.specs.Code.{code_text};
 
+use crate::parameter::Parameter;
+
 /// Why a request or a line was refused, for whoever sent it. `at` is the place of what is
 /// malformed, from 0; `current` is the number that the object has, 0 where it never was.
 #[derive(Clone, Copy, Debug, PartialEq, Eq)]
@@ -9,8 +11,22 @@ pub enum Code {
     Line,
     /// The input is larger than an input may be.
     Input,
-    /// A form of line that isn't answered yet.
+    /// A form of request or line that isn't answered yet.
     Unbuilt,
+    /// The target doesn't begin with `/`.
+    Target,
+    /// The server has no such path.
+    Route,
+    /// The path hasn't this method.
+    Method,
+    /// A name or a value of the query isn't UTF-8.
+    Bytes,
+    /// A parameter comes twice; of several it is the one whose second coming stands first.
+    Twice { name: Parameter },
+    /// The number of a write is missing, or isn't decimal from 1 to 999,999,999.
+    VersionForm,
+    /// The manifest of an annotation is missing or no name.
+    Manifest,
     /// There is no such thing that the caller may read.
     Absent,
     /// A group is malformed, or one that a manifest can't have.
@@ -78,6 +94,8 @@ pub enum Code {
     LengthRequired,
     /// The input ends inside the request's body.
     Body,
+    /// The write was accepted, and the keeper of the store failed to keep it.
+    Keeper,
 }
 
 impl Code {
@@ -89,6 +107,13 @@ impl Code {
             Code::Line => "line",
             Code::Input => "input",
             Code::Unbuilt => "unbuilt",
+            Code::Target => "target",
+            Code::Route => "route",
+            Code::Method => "method",
+            Code::Bytes => "bytes",
+            Code::Twice { .. } => "twice",
+            Code::VersionForm => "version",
+            Code::Manifest => "manifest",
             Code::Absent => "absent",
             Code::Group => "group",
             Code::ReaderToken => "reader_token",
@@ -122,6 +147,7 @@ impl Code {
             Code::Large => "large",
             Code::LengthRequired => "length_required",
             Code::Body => "body",
+            Code::Keeper => "keeper",
         }
     }
 }

@@ -15,6 +15,7 @@ pub use moment::{
 };
 pub use name::{Name, NameError};
 pub use object::{with_member, without_member};
+pub use parameter::Parameter;
 pub use span::{Prefer, Span, TermTotal};
 pub use steps::Steps;
 pub use text::Text;
@@ -42,6 +43,7 @@ mod member;
 mod moment;
 mod name;
 mod object;
+mod parameter;
 mod span;
 mod steps;
 mod text;

@@ -1,3 +1,4 @@
+use an_base::Moment;
 use an_calls::{Call, call_named};
 use an_keep::Cell;
 use std::alloc::Global;
@@ -30,6 +31,14 @@ pub fn rows_named(name: &str) -> Option<Kind> {
     }
 }
 
+/// 2024-05-01T12:00:00Z, at which a clock stands where a case says nothing of it.
+pub fn noon() -> Moment {
+    match Moment::new(1_714_564_800) {
+        Some(moment) => moment,
+        None => unreachable!(),
+    }
+}
+
 /// One case of a table: what is played, and what is due from it.
 #[derive(Drop)]
 pub struct Case {
@@ -47,6 +56,10 @@ pub struct Case {
     pub cells: Vec<Cell>,
     /// The numbers, from 1, of the calls of the keeper that fail; the first ones put these cells.
     pub fail_keeps: Vec<u64>,
+    /// The lines that are imported into the store before a run.
+    pub imported: Vec<u8>,
+    /// The moment at which the clock of a run stands.
+    pub clock: Moment,
     /// How many bytes can be written, where it isn't more than enough.
     pub room: Option<usize>,
     /// The status that is due from a run.
@@ -68,6 +81,8 @@ impl Case {
             fail_writes: Vec::new(alloc),
             cells: Vec::new(alloc),
             fail_keeps: Vec::new(alloc),
+            imported: Vec::new(alloc),
+            clock: noon(),
             room: None,
             status: 0,
             output: Vec::new(alloc),

@@ -2,12 +2,13 @@ use crate::case::{Case, Kind};
 use crate::rows::answer_rows;
 use crate::stores::Stores;
 use crate::sure_runs::SureRuns;
-use an_app::run;
+use an_app::{import, run};
 use an_base::{Bytes, TryCopy};
 use an_calls::Answers;
 use an_keep::{Cell, Change, KeepError, Keeper, MemKeeper};
 use an_machine::Book;
-use an_world::MemLink;
+use an_shelf::Desk;
+use an_world::{MemLink, SetClock, SureLink};
 use std::alloc::{AllocError, Global};
 
 /// What came of a case.
@@ -44,8 +45,13 @@ fn play_rows<A: Answers + Drop>(
 /// Runs the server over a link in memory.
 fn play_run(alloc: Global, case: &Case) -> Result<Played, AllocError> {
     let mut link = link_of(alloc, case)?;
-    let keeper = keeper_with_cells(alloc, case)?;
-    let status = run(alloc, case.words.as_slice(), &mut link, keeper).code();
+    let keeper = with_lines(
+        alloc,
+        keeper_with_cells(alloc, case)?,
+        case.imported.as_slice(),
+    )?;
+    let clock = SetClock(case.clock);
+    let status = run(alloc, case.words.as_slice(), &mut link, keeper, &clock).code();
     what_came(alloc, status, link.written())
 }
 
@@ -67,6 +73,27 @@ fn keeper_with_cells(alloc: Global, case: &Case) -> Result<MemKeeper, AllocError
         put_cell(&mut keeper, cell)?;
     }
     Ok(keeper)
+}
+
+/// The same with what is kept of lines. A store that isn't opened is gone.
+fn with_lines(alloc: Global, keeper: MemKeeper, lines: &[u8]) -> Result<MemKeeper, AllocError> {
+    if lines.is_empty() {
+        return Ok(keeper);
+    }
+    match Desk::open(alloc, keeper) {
+        Ok(desk) => import_all(alloc, desk, lines),
+        Err(_) => Ok(MemKeeper::new(Vec::new(alloc), Vec::new(alloc))),
+    }
+}
+
+fn import_all(
+    alloc: Global,
+    mut desk: Desk<MemKeeper>,
+    lines: &[u8],
+) -> Result<MemKeeper, AllocError> {
+    let mut link = SureLink::new(Bytes::new(alloc, lines)?, Vec::new(alloc));
+    import(alloc, &mut link, &mut desk);
+    Ok(desk.into_keeper())
 }
 
 /// A call that is to fail puts nothing.

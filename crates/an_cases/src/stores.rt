@@ -1,9 +1,11 @@
-use an_app::{Status, import};
+use crate::case::noon;
+use an_app::{Status, import, session_at_desk};
 use an_base::Bytes;
 use an_calls::{Answers, RowError, Sent, cell_shown, look_at, read_write, reply_shown};
 use an_keep::{KeepError, Keeper, MemKeeper};
+use an_search::read_settings;
 use an_shelf::{Desk, WriteError};
-use an_world::MemLink;
+use an_world::{MemLink, SetClock};
 use std::alloc::{AllocError, Global};
 use std::str::from_utf8;
 
@@ -32,8 +34,8 @@ impl Stores {
 
 /// Of a store that is gone a row is `new`. Of a closed one it is `open`, `cells`, which shows them
 /// all, or a call of its keeper, as `put 1 0 | {}`. Of an open one it is `close`, a look at its state,
-/// as `length 1`, a write, as `2024-05-01T10:02:00Z ivo | drop note ivo o1 2`, or `import TEXT`, whose
-/// lines end in `\n`.
+/// as `length 1`, a write, as `2024-05-01T10:02:00Z ivo | drop note ivo o1 2`, `import TEXT`, whose
+/// lines end in `\n`, or `session TEXT`, whose lines end in `\r\n`.
 impl Answers for Stores {
     fn answer(&mut self, alloc: Global, argument: &str) -> Result<String, RowError> {
         match argument {
@@ -154,6 +156,9 @@ fn call_of_desk(
     if let Some(lines) = argument.strip_prefix("import ") {
         return import_lines(alloc, desk, lines);
     }
+    if let Some(requests) = argument.strip_prefix("session ") {
+        return serve(alloc, desk, requests);
+    }
     match look_at(alloc, desk.look(), argument)? {
         Some(seen) => Ok(seen),
         None => write(alloc, desk, argument),
@@ -180,15 +185,33 @@ fn import_lines(
     lines: &str,
 ) -> Result<String, RowError> {
     let input = lines.replace(alloc, "\\n", "\n")?;
-    let mut link = link_with(alloc, input.as_str())?;
+    let mut link = link_with(alloc, input.as_str(), PRINTED)?;
     let status = import(alloc, &mut link, desk);
     status_shown(alloc, status, &link)
 }
 
-fn link_with(alloc: Global, input: &str) -> Result<MemLink, AllocError> {
+/// How a connection ends, and what is written to it.
+fn serve(alloc: Global, desk: &mut Desk<MemKeeper>, requests: &str) -> Result<String, RowError> {
+    let Ok(settings) = read_settings(alloc, "http://a.example", "10") else {
+        return Err(RowError::Memory);
+    };
+    let input = requests.replace(alloc, "\\r\\n", "\r\n")?;
+    let mut link = link_with(alloc, input.as_str(), REPLIED)?;
+    let ended = session_at_desk(alloc, &mut link, desk, &settings, &SetClock(noon()));
+    let replies = from_utf8(link.written()).unwrap_or("?");
+    let replies = replies.replace(alloc, "\r\n", "\\r\\n")?;
+    Ok(format!(in alloc; "{ended:?} {replies}")?)
+}
+
+/// How many bytes an import prints at most, and those of the replies of a connection.
+const PRINTED: usize = 1_000;
+
+const REPLIED: usize = 4_000_000;
+
+fn link_with(alloc: Global, input: &str, room: usize) -> Result<MemLink, AllocError> {
     let input = Bytes::new(alloc, input.as_bytes())?;
     let (cut, reads, writes) = (Vec::new(alloc), Vec::new(alloc), Vec::new(alloc));
-    MemLink::new(alloc, input, cut, reads, writes, 1000)
+    MemLink::new(alloc, input, cut, reads, writes, room)
 }
 
 fn status_shown(alloc: Global, status: Status, link: &MemLink) -> Result<String, RowError> {

@@ -1,8 +1,9 @@
+use crate::case::noon;
 use an_app::run;
 use an_base::Bytes;
 use an_calls::{Answers, RowError};
 use an_keep::SureKeeper;
-use an_world::SureLink;
+use an_world::{SetClock, SureLink};
 use std::alloc::{AllocError, Global};
 
 /// Answers a line with the status of a run of `find` over it, on a link that never fails.
@@ -18,6 +19,7 @@ impl Answers for SureRuns {
             words.as_slice(),
             &mut link,
             SureKeeper::new(Vec::new(alloc)),
+            &SetClock(noon()),
         )
         .code();
         Ok(format!(in alloc; "{status}")?)

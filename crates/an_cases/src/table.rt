@@ -1,5 +1,5 @@
 use crate::case::{Case, rows_named};
-use an_base::Bytes;
+use an_base::{Bytes, moment_of};
 use an_calls::{RowError, add_numbers, hex_bytes, number};
 use an_keep::Cell;
 use std::alloc::{AllocError, AllocFailed, Global};
@@ -11,13 +11,13 @@ pub enum LineError {
     Unknown,
     /// It belongs to a case, and stands before the first.
     NoCase,
-    /// It is a line of a text, and no text, input, output or rows stand above it.
+    /// It is a line of a text, and no text, store, input, output or rows stand above it.
     NoPart,
     /// It names a text that doesn't stand above it.
     NoText,
     /// It names no call.
     NoCall,
-    /// A number is missing, or is none.
+    /// A number or a moment is missing, or is none.
     Number,
     /// A call that fails is neither a read, nor a write, nor one of the keeper.
     Fails,
@@ -32,7 +32,7 @@ impl LineError {
         match self {
             LineError::Unknown => "no word of a table",
             LineError::NoCase => "no case stands above it",
-            LineError::NoPart => "no text, input, output or rows stand above it",
+            LineError::NoPart => "no text, store, input, output or rows stand above it",
             LineError::NoText => "no text above it has this name",
             LineError::NoCall => "no call has this name",
             LineError::Number => "no number",
@@ -79,6 +79,7 @@ enum Part {
     Text,
     Input,
     Output,
+    Imported,
 }
 
 /// The cases that were read so far.
@@ -109,7 +110,8 @@ impl Table {
         let (word, rest) = line.split_once(" ").unwrap_or((line, ""));
         match word {
             "" | "#" => Ok(()),
-            "|" => self.add_line(rest),
+            "|" => self.add_ended(rest, "\n"),
+            ">" => self.add_ended(rest, "\r\n"),
             "+" => self.add(rest.as_bytes()),
             "x" => self.add_hex(rest),
             "text" => self.open_text(rest),
@@ -136,10 +138,11 @@ impl Table {
         Ok(())
     }
 
-    /// Adds a line to the text, the input, the output or the rows above it.
-    fn add_line(&mut self, line: &str) -> Result<(), LineError> {
+    /// Adds a line to the text, the input, the output or the rows above it: of HTTP behind `>`, of
+    /// anything else behind `|`.
+    fn add_ended(&mut self, line: &str, end: &str) -> Result<(), LineError> {
         self.add(line.as_bytes())?;
-        self.add("\n".as_bytes())
+        self.add(end.as_bytes())
     }
 
     /// Adds bytes that no text can show.
@@ -157,6 +160,7 @@ impl Table {
             Part::Text => add_to_text(self.texts.as_mut_slice(), bytes)?,
             Part::Input => add_to_input(self.cases.as_mut_slice(), bytes)?,
             Part::Output => add_to_output(self.cases.as_mut_slice(), bytes)?,
+            Part::Imported => add_to_imported(self.cases.as_mut_slice(), bytes)?,
         }
         Ok(())
     }
@@ -171,6 +175,10 @@ impl Table {
             "input" => {
                 self.part = Part::Input;
                 add_texts(&mut case.input, self.texts.as_slice(), rest)
+            }
+            "store" => {
+                self.part = Part::Imported;
+                add_texts(&mut case.imported, self.texts.as_slice(), rest)
             }
             "output" => {
                 self.part = Part::Output;
@@ -207,6 +215,13 @@ fn add_to_output(cases: &mut [Case], bytes: &[u8]) -> Result<(), AllocError> {
     }
 }
 
+fn add_to_imported(cases: &mut [Case], bytes: &[u8]) -> Result<(), AllocError> {
+    match cases.last_mut() {
+        Some(case) => case.imported.extend_from_slice(bytes),
+        None => Ok(()),
+    }
+}
+
 /// Adds the texts with these names, in their order. Of texts with one name the last counts.
 fn add_texts(bytes: &mut Vec<u8>, texts: &[Named], names: &str) -> Result<(), LineError> {
     for name in names.split_ascii_whitespace() {
@@ -226,6 +241,10 @@ fn read_setting(alloc: Global, case: &mut Case, word: &str, rest: &str) -> Resul
         "cut" => Ok(add_numbers(&mut case.cut, rest)?),
         "fail" => add_failing(case, rest),
         "cell" => add_cell(alloc, case, rest),
+        "clock" => {
+            case.clock = moment_of(rest).ok().ok_or(LineError::Number)?;
+            Ok(())
+        }
         "room" => {
             case.room = Some(number(rest)?);
             Ok(())

@@ -6,3 +6,4 @@ pub mod FillLemmas
 pub mod NextLemmas
 pub mod TakeLemmas
 pub mod CutLemmas
+pub mod ShortLemmas

@@ -5,3 +5,4 @@ pub mod Requests
 pub mod Next
 pub mod Fill
 pub mod Replies
+pub mod Errors

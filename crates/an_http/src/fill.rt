@@ -1,5 +1,6 @@
 ghost use Rattle.std.specs.Prelude.{◌≡◌, ◌+◌, ◌≤◌, ◌<◌, length, max, Err, IfOk, OnErr};
-ghost use Rattle.an_world.specs.Link.{Rises, ReadsOn, IsAtEnd};
+ghost use Rattle.an_base.specs.Faults.{Rises};
+ghost use Rattle.an_world.specs.Link.{ReadsOn, IsAtEnd};
 ghost use Rattle.an_http.specs.Head.{head_limit};
 ghost use Rattle.an_http.specs.Fill.{found, IsFilled, IsFull};
 

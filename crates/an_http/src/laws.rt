@@ -1,6 +1,8 @@
 //! What holds of all bytes that are cut into requests. Each law is the contract of a function that
 //! does nothing.
-ghost use Rattle.std.specs.Prelude.{◌≡◌, ℕ, List, [], ◌∷◌, ◌++◌};
+ghost use Rattle.std.specs.Prelude.{◌≡◌, ℕ, ◌+◌, ◌≤◌, List, [], ◌∷◌, ◌++◌, length};
+ghost use Rattle.an_http.specs.Fields.{body_limit};
+ghost use Rattle.an_http.specs.Head.{head_limit};
 ghost use Rattle.an_http.specs.Requests.{Begins, Cuts, Piece, Requests, Whole};
 ghost use Rattle.an_http.specs.declared.request.Request.{Request};
 
@@ -24,4 +26,12 @@ pub fn cuts_go_on()
         (requests : List Request) (held : List ℕ) (request : Request) (rest : List ℕ)
         → Cuts bytes requests held → Begins held (Whole request rest)
         → Cuts bytes (requests ++ request ∷ []) rest }
+{}
+
+/// A law: a request has a head and a body of no more bytes than they may have.
+pub fn requests_are_short()
+    ensures short { (bytes : List ℕ) (request : Request) (rest : List ℕ)
+        → Begins bytes (Whole request rest)
+        → (length bytes ≤ length rest + (head_limit + body_limit))
+        × (length request.body ≤ body_limit) }
 {}

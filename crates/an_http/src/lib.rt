@@ -3,7 +3,8 @@
 
 pub use an_world::LinkError;
 pub use buffer::Buffer;
-pub use laws::{cuts_are_unique, cuts_go_on};
+pub use errors::error_body;
+pub use laws::{cuts_are_unique, cuts_go_on, requests_are_short};
 pub use next::{Next, next_request};
 pub use put::{PutError, put_memory_reply, put_reply};
 pub use reply::{Allow, Extra, Media, Reply};
@@ -11,6 +12,7 @@ pub use request::{Auth, Request};
 pub use status::{Status, status_of};
 
 mod buffer;
+mod errors;
 mod fields;
 mod fill;
 mod head;

@@ -1,6 +1,6 @@
 ghost use Rattle.std.specs.Prelude.{◌≡◌, ◌+◌, ◌≤◌, drop, take, length, max, Some, Ok, Err, IfOk};
 ghost use Rattle.std.specs.Prelude.{OnErr};
-ghost use Rattle.an_world.specs.Link.{Rises};
+ghost use Rattle.an_base.specs.Faults.{Rises};
 ghost use Rattle.an_http.specs.Head.{head_limit, head_length};
 ghost use Rattle.an_http.specs.Fields.{body_limit};
 ghost use Rattle.an_http.specs.Status.{status_of};

@@ -1,5 +1,6 @@
 ghost use Rattle.std.specs.Prelude.{◌≡◌, ◌≤◌, IsTrue, IsOk, Err, OnOk, OnErr, IfOk};
-ghost use Rattle.an_world.specs.Link.{Rises, Writes, WritesFront};
+ghost use Rattle.an_base.specs.Faults.{Rises};
+ghost use Rattle.an_world.specs.Link.{Writes, WritesFront};
 ghost use Rattle.an_http.specs.Replies.{content_of, reply_bytes, memory_reply};
 
 use crate::reply::{Reply, first_lines, is_empty, last_lines};

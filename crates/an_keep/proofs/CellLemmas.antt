@@ -21,10 +21,10 @@ before-not_behind a b c d h = grind (arith, nat_tests)
 at-not_behind : (tab key : ℕ) (cell : Cell) → is_at tab key cell ≡ true → is_behind tab key cell ≡ false
 at-not_behind tab key cell h = grind (arith, nat_tests)
 
-before-not_at : (tab key : ℕ) (cell : Cell) → is_before tab key cell ≡ true → is_at tab key cell ≡ false
+pub before-not_at : (tab key : ℕ) (cell : Cell) → is_before tab key cell ≡ true → is_at tab key cell ≡ false
 before-not_at tab key cell h = grind (arith, nat_tests)
 
-behind-not_at : (tab key : ℕ) (cell : Cell) → is_behind tab key cell ≡ true → is_at tab key cell ≡ false
+pub behind-not_at : (tab key : ℕ) (cell : Cell) → is_behind tab key cell ≡ true → is_at tab key cell ≡ false
 behind-not_at tab key cell h = grind (arith, nat_tests)
 
 else-behind : (tab key : ℕ) (cell : Cell) → is_before tab key cell ≡ false → is_at tab key cell ≡ false → is_behind tab key cell ≡ true
@@ -83,7 +83,7 @@ all-mono p q (x ∷ xs) is h =
     let parts = and_parts (p x) (list_all p xs) h in
     and_from (q x) (list_all q xs) (is x parts.0) (all-mono p q xs is parts.1)
 
-all-filter : {X : Type 0} (p q : X → Bool) (xs : List X) → list_all p xs ≡ true → list_all p (filter q xs) ≡ true
+pub all-filter : {X : Type 0} (p q : X → Bool) (xs : List X) → list_all p xs ≡ true → list_all p (filter q xs) ≡ true
 all-filter p q [] h = refl
 all-filter p q (x ∷ xs) h = by (q x) refl (all-filter p q xs (and_parts (p x) (list_all p xs) h).1)
   where
@@ -98,10 +98,10 @@ filter-all p (x ∷ xs) h =
     let parts = and_parts (p x) (list_all p xs) h in
     rw parts.0 (ap (λ ys. x ∷ ys) (filter-all p xs parts.1))
 
-prefix-more : {X : Type 0} (p : X → Bool) (x : X) (xs : List X) → p x ≡ true → prefix_len p (x ∷ xs) ≡ suc (prefix_len p xs)
+pub prefix-more : {X : Type 0} (p : X → Bool) (x : X) (xs : List X) → p x ≡ true → prefix_len p (x ∷ xs) ≡ suc (prefix_len p xs)
 prefix-more p x xs h = rw h (omega arith)
 
-prefix-none : {X : Type 0} (p : X → Bool) (x : X) (xs : List X) → p x ≡ false → prefix_len p (x ∷ xs) ≡ 0
+pub prefix-none : {X : Type 0} (p : X → Bool) (x : X) (xs : List X) → p x ≡ false → prefix_len p (x ∷ xs) ≡ 0
 prefix-none p x xs h = rw h refl
 
 cons-cond : {X : Type 0} (x : X) (b : Bool) (ys zs : List X) → (x ∷ cond b ys zs) ≡ cond b (x ∷ ys) (x ∷ zs)
@@ -118,7 +118,7 @@ module _ (tab key : ℕ) where
   is_there cells = passes (is_at tab key) (slice_get cells (place cells))
 
   -- what comes behind a cell that doesn't come before the place comes behind the place
-  all_behind : (first : Cell) (cells : List Cell) → is_before tab key first ≡ false → Ascend (first ∷ cells) → list_all (is_behind tab key) cells ≡ true
+  pub all_behind : (first : Cell) (cells : List Cell) → is_before tab key first ≡ false → Ascend (first ∷ cells) → list_all (is_behind tab key) cells ≡ true
   all_behind first cells e h =
       all-mono (is_behind first.tab first.key) (is_behind tab key) cells (λ other k. by other k (is_at tab key first) refl) (and_parts (list_all (is_behind first.tab first.key) cells) _ h).0
     where
@@ -150,7 +150,7 @@ module _ (tab key : ℕ) where
       by false e rest = rw (prefix-none (is_before tab key) first cells e) (here (is_at tab key first) e refl)
 
   -- none of what comes behind a place is at it
-  none_at : (cells : List Cell) → list_all (is_behind tab key) cells ≡ true → take_cell tab key cells ≡ cells
+  pub none_at : (cells : List Cell) → list_all (is_behind tab key) cells ≡ true → take_cell tab key cells ≡ cells
   none_at cells h =
       filter-all (λ cell. not (is_at tab key cell)) cells
       (all-mono (is_behind tab key) (λ cell. not (is_at tab key cell)) cells (λ cell k. ap not (behind-not_at tab key cell k)) h)
@@ -206,7 +206,7 @@ put-place cell (first ∷ cells) = by (is_before cell.tab cell.key first) refl (
     by false e rest = rw (prefix-none (is_before cell.tab cell.key) first cells e, e) refl
 
 -- what all cells have and the one that is put, all have then
-put-all : (p : Cell → Bool) (cell : Cell) (cells : List Cell) → p cell ≡ true → list_all p cells ≡ true → list_all p (put_cell cell cells) ≡ true
+pub put-all : (p : Cell → Bool) (cell : Cell) (cells : List Cell) → p cell ≡ true → list_all p cells ≡ true → list_all p (put_cell cell cells) ≡ true
 put-all p cell [] k h = and_from (p cell) true k refl
 put-all p cell (first ∷ cells) k h =
     by (is_before cell.tab cell.key first) (is_at cell.tab cell.key first) refl refl (put-all p cell cells k (and_parts (p first) (list_all p cells) h).1)

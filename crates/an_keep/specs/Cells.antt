@@ -1,6 +1,6 @@
 -- Cells, which stand in ascending order by table and then by key, and what changes make of them.
 use Rattle.std.specs.Prelude.{ℕ, List, [], ◌∷◌, Bool, true, not, ◌&&◌, ◌||◌, ◌==◌, nat_lt}
-use Rattle.std.specs.Prelude.{if◌then◌else◌, IsTrue, Option, Some, None, filter, find}
+use Rattle.std.specs.Prelude.{if◌then◌else◌, IsTrue, Option, Some, None, filter, find, ◌++◌}
 use Rattle.std.specs.List.{list_all}
 use Rattle.an_keep.specs.declared.cell.Cell.{Cell}
 use Rattle.an_keep.specs.declared.cell.Change.{Change}
@@ -25,6 +25,14 @@ is_ascending (cell ∷ cells) = list_all (is_behind cell.tab cell.key) cells && 
 
 abbrev pub Ascend : List Cell → Type 0
 Ascend cells = IsTrue (is_ascending cells)
+
+-- whether the cell is of a table from 4 on, which grow at their end while lower ones grow too
+abbrev pub is_late : Cell → Bool
+is_late cell = not (nat_lt cell.tab 4)
+
+-- the two parts of ascending cells, of which the log's are late alone
+abbrev pub Part : List Cell → List Cell → Type 0
+Part rows log = Ascend (rows ++ log) × IsTrue (list_all is_late log)
 
 -- the cell of which none comes before
 abbrev pub first_of : List Cell → Option Cell

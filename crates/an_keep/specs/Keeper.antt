@@ -1,14 +1,10 @@
 -- What a keeper tells of its cells, and how a call may change that and the count of faults.
-use Rattle.std.specs.Prelude.{◌≡◌, ℕ, ◌-◌, ◌^◌, ◌<◌, List, Option, Some, None}
+use Rattle.std.specs.Prelude.{◌≡◌, List, Option, Some, None}
 use Rattle.an_keep.specs.declared.cell.Cell.{Cell}
 
 -- the cells of a keeper, where it tells them
 abbrev pub Told : Type 0
 Told = Option (List Cell)
-
--- one more fault was counted; a count stands still at its end
-abbrev pub Rises : ℕ → ℕ → Type 0
-Rises old new = old < 2 ^ 64 - 1 → old < new
 
 -- no keeper begins to tell, and where one tells before and behind, the cells changed like this
 abbrev pub Turns : (List Cell → List Cell) → Told → Told → Type 0

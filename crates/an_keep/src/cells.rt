@@ -1,41 +1,46 @@
 ghost use Rattle.std.specs.Prelude.{◌≡◌, ◌+◌, ◌<◌, ◌≤◌, IfOk, OnOk, OnErr, IsTrue, if◌then◌else◌};
+ghost use Rattle.std.specs.Prelude.{◌++◌, ◌&&◌, not, nat_lt};
 ghost use Rattle.std.specs.Prelude.{insert, length, slice_get, slice_set, vec_len, vec_capacity};
-ghost use Rattle.std.specs.List.{prefix_len};
+ghost use Rattle.std.specs.List.{list_all, prefix_len};
 ghost use Rattle.std.specs.Option.{option_copied};
 ghost use Rattle.an_base.specs.Outcome.{passes};
-ghost use Rattle.an_keep.specs.Cells.{Ascend, first_of, is_at, is_before, next_after, put_cell};
-ghost use Rattle.an_keep.specs.Cells.{put_change, put_changes, take_cell};
+ghost use Rattle.an_keep.specs.Cells.{Ascend, Part, first_of, is_at, is_before, next_after};
+ghost use Rattle.an_keep.specs.Cells.{put_cell, put_change, put_changes, take_cell};
 
 use crate::cell::{Cell, Change};
 use an_base::TryCopy;
 use std::alloc::{AllocError, Global};
 use std::marker::Model;
 
-/// Cells in memory, in ascending order.
+/// Cells in memory, in ascending order: `rows`, and `log` behind them all. The log has only cells of
+/// tables from 4 on, so that a new cell of a lower table moves none of them.
 #[derive(Debug, Drop)]
 pub(crate) struct Cells {
-    cells: Vec<Cell>,
+    rows: Vec<Cell>,
+    log: Vec<Cell>,
 }
 
 impl Model for Cells {
-    ghost use Rattle.std.specs.Prelude.{List};
+    ghost use Rattle.std.specs.Prelude.{List, ◌++◌};
     ghost use Rattle.an_keep.specs.declared.cell.Cell.{Cell};
-    ghost use Rattle.an_keep.specs.Cells.{Ascend};
+    ghost use Rattle.an_keep.specs.Cells.{Part};
 
     ghost Value = { List Cell };
 
-    ghost view = { λ c. c.cells.items };
+    ghost view = { λ c. c.rows.items ++ c.log.items };
 
-    ghost invariant = { λ c. Ascend c.cells.items };
+    ghost invariant = { λ c. Part c.rows.items c.log.items };
 }
 
 impl Cells {
     /// Takes no memory.
+    #[tactic(auto, using(crate::proofs::PartLemmas::rows_alone))]
     pub(crate) fn new(cells: Vec<Cell>) -> Cells
         requires { Ascend cells.items }
         ensures cells { result ≡ cells.items }
     {
-        Cells { cells }
+        let log = Vec::new(*cells.allocator());
+        Cells { rows: cells, log }
     }
 
     /// A copy of the first cell.
@@ -43,14 +48,14 @@ impl Cells {
         ensures cell { IfOk result (λ cell. cell ≡ first_of self.now) }
         ensures ascend { Ascend self.now }
     {
-        copy_of(self.cells.first())
+        copy_of(first_in(self.rows.as_slice(), self.log.as_slice()))
     }
 
     /// A copy of the first cell behind this table and key.
     pub(crate) fn next_after(&self, tab: u8, key: u64) -> Result<Option<Cell>, AllocError>
         ensures cell { IfOk result (λ cell. cell ≡ next_after tab key self.now) }
     {
-        copy_of(next_in(self.cells.as_slice(), tab, key))
+        copy_of(next_in_both(self.rows.as_slice(), self.log.as_slice(), tab, key))
     }
 
     /// Does all of these changes, one after the other, or none where memory runs out.
@@ -59,12 +64,65 @@ impl Cells {
         ensures still { OnErr result (self.new ≡ self.old) }
         ensures ascend { Ascend self.new }
     {
-        let copies = copies_of(*self.cells.allocator(), changes)?;
-        self.cells.reserve(copies.len())?;
+        let copies = copies_of(*self.rows.allocator(), changes)?;
+        self.rows.reserve(copies.len())?;
+        self.log.reserve(copies.len())?;
         for change in copies {
-            put(&mut self.cells, change);
+            put_in_part(&mut self.rows, &mut self.log, change);
         }
         Ok(())
+    }
+}
+
+/// The first cell of both parts.
+fn first_in<'a>(rows: &'a [Cell], log: &'a [Cell]) -> Option<&'a Cell>
+    ensures { option_copied result ≡ first_of (rows.now ++ log.now) }
+{
+    match rows.first() {
+        Some(cell) => Some(cell),
+        None => log.first(),
+    }
+}
+
+/// The first cell of both parts behind this table and key.
+#[tactic(auto, using(crate::proofs::PartLemmas::next_in_rows, crate::proofs::PartLemmas::next_in_log))]
+fn next_in_both<'a>(rows: &'a [Cell], log: &'a [Cell], tab: u8, key: u64) -> Option<&'a Cell>
+    requires rows { Ascend rows.now }
+    requires log { Ascend log.now }
+    ensures { option_copied result ≡ next_after tab key (rows.now ++ log.now) }
+{
+    match next_in(rows, tab, key) {
+        Some(cell) => Some(cell),
+        None => next_in(log, tab, key),
+    }
+}
+
+/// Whether a change at this table and key is of the log: the table is 4 or more, and all rows come
+/// before.
+fn is_of_log(rows: &[Cell], tab: u8, key: u64) -> bool
+    requires { Ascend rows.now }
+    ensures { result ≡ (not (nat_lt tab 4) && list_all (is_before tab key) rows.now) }
+{
+    tab >= 4 && place_of(rows, tab, key) == rows.len()
+}
+
+/// Does a change in its part, where each has room for one more cell. It takes no memory.
+fn put_in_part(rows: &mut Vec<Cell>, log: &mut Vec<Cell>, change: Change)
+    requires part { Part rows.old.items log.old.items }
+    requires rows_room { vec_len rows.old < vec_capacity rows.old }
+    requires log_room { vec_len log.old < vec_capacity log.old }
+    ensures cells { rows.new.items ++ log.new.items
+        ≡ put_change change (rows.old.items ++ log.old.items) }
+    ensures part { Part rows.new.items log.new.items }
+    ensures rows_length { vec_len rows.new ≤ vec_len rows.old + 1 }
+    ensures rows_capacity { vec_capacity rows.old ≤ vec_capacity rows.new }
+    ensures log_length { vec_len log.new ≤ vec_len log.old + 1 }
+    ensures log_capacity { vec_capacity log.old ≤ vec_capacity log.new }
+{
+    if is_of_log(rows.as_slice(), change.tab, change.key) {
+        put(log, change);
+    } else {
+        put(rows, change);
     }
 }
 

@@ -1,6 +1,7 @@
 ghost use Rattle.std.specs.Prelude.{◌≡◌, ◌≤◌, IfOk, IfSome, OnOk, OnErr};
 ghost use Rattle.an_keep.specs.Cells.{Ascend, first_of, next_after, put_changes};
-ghost use Rattle.an_keep.specs.Keeper.{Rises, Turns, Stays, StaysOrBegins};
+ghost use Rattle.an_base.specs.Faults.{Rises};
+ghost use Rattle.an_keep.specs.Keeper.{Turns, Stays, StaysOrBegins};
 
 use crate::cell::{Cell, Change};
 use std::alloc::AllocError;

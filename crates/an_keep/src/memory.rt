@@ -1,6 +1,6 @@
 ghost use Rattle.std.specs.Prelude.{◌≡◌, ◌≤◌, ◌↔◌, IfErr, IfOk, IsTrue, OnErr, OnOk, is_err};
 ghost use Rattle.an_keep.specs.Cells.{Ascend, first_of, next_after, put_changes};
-ghost use Rattle.an_keep.specs.Keeper.{Rises};
+ghost use Rattle.an_base.specs.Faults.{Rises};
 ghost use Rattle.an_keep.specs.Memory.{memory_of, is_next_failing, called};
 
 use crate::cell::{Cell, Change};

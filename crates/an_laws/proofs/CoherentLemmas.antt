@@ -22,7 +22,7 @@ use Rattle.an_machine.specs.declared.asked.NotePut.{NotePut}
 use Rattle.an_machine.specs.declared.command.Object.TheVariants as object
 use Rattle.an_machine.specs.declared.entry.Row.TheVariants as kept
 use Rattle.an_laws.specs.Coherent.{Chain, Coherent, activities_of, audiences_of, has_any, has_row}
-use Rattle.an_laws.specs.Legal.{Write, Accepts, Legal, state_of}
+use Rattle.an_machine.specs.Legal.{Write, Accepts, Legal, state_of}
 use Rattle.an_laws.proofs.AudienceLemmas.{CoherentFirst, coherent-first, all-audiences}
 use Rattle.an_laws.proofs.BurialLemmas.{left_state}
 use Rattle.an_laws.proofs.DropLemmas.{with_rows-tombstone}

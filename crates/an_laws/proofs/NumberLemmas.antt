@@ -19,7 +19,7 @@ use Rattle.an_machine.specs.declared.command.Object.{Object}
 use Rattle.an_machine.specs.declared.command.Refused.{Refused}
 use Rattle.an_machine.specs.declared.effect.Effect.{Effect}
 use Rattle.an_machine.proofs.DistinctLemmas.{distinct-after}
-use Rattle.an_laws.specs.Legal.{Write, Accepts, Legal, state_of}
+use Rattle.an_machine.specs.Legal.{Write, Accepts, Legal, state_of}
 use Rattle.an_laws.specs.Numbers.{AddsNothing}
 use Rattle.an_laws.proofs.RefusalLemmas.{asked-agrees}
 use Rattle.an_laws.proofs.RiseLemmas.{next-number, accepted-written}

@@ -21,7 +21,7 @@ use Rattle.an_machine.specs.declared.command.Object.TheVariants.{Reader, Manifes
 use Rattle.an_machine.specs.declared.entry.Row.TheVariants as kept
 use Rattle.an_machine.proofs.DistinctLemmas.{same_key-self}
 use Rattle.an_machine.proofs.ViewLemmas.{same_key-equal}
-use Rattle.an_laws.specs.Legal.{Write, Accepts}
+use Rattle.an_machine.specs.Legal.{Write, Accepts}
 use Rattle.an_laws.proofs.BurialLemmas.{as_left, left_state, note_row-left}
 use Rattle.an_laws.proofs.DropLemmas.{with_rows-tombstone}
 use Rattle.an_laws.proofs.FoundLemmas.{passes-some}

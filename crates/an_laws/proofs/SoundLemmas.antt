@@ -18,7 +18,7 @@ use Rattle.an_machine.specs.declared.asked.Asked.TheVariants.{Deletion}
 use Rattle.an_machine.specs.declared.asked.Asked.TheVariants as put
 use Rattle.an_machine.specs.declared.command.Object.TheVariants as object
 use Rattle.an_machine.proofs.DistinctLemmas.{distinct-put_row, distinct-with_rows, notes-distinct}
-use Rattle.an_laws.specs.Legal.{Write, Accepts, Legal, state_of}
+use Rattle.an_machine.specs.Legal.{Write, Accepts, Legal, state_of}
 use Rattle.an_laws.proofs.DropLemmas.{dropped, with_rows-dropped}
 use Rattle.an_laws.proofs.FoundLemmas.{all-put_row}
 use Rattle.an_laws.proofs.MomentLemmas.{not_below-self, moments-rise}

@@ -16,7 +16,7 @@ use Rattle.an_machine.specs.declared.command.Decided.{Decided}
 use Rattle.an_machine.specs.declared.command.Refused.{Refused}
 use Rattle.an_machine.specs.declared.effect.Effect.{Effect}
 use Rattle.an_machine.specs.declared.entry.Entry.{Entry}
-use Rattle.an_laws.specs.Legal.{Write, Accepts}
+use Rattle.an_machine.specs.Legal.{Write, Accepts}
 
 -- the entry of a write that is the next of its object
 abbrev pub entry_in : State → Identity → ℤ → Command → Asked → Entry

@@ -21,7 +21,7 @@ use Rattle.an_machine.specs.declared.activity.Activity.{Activity}
 use Rattle.an_machine.specs.declared.activity.Seen.{Seen}
 use Rattle.an_machine.proofs.ChangeLemmas.{change, own_change, other_change}
 use Rattle.an_laws.specs.Coherent.{activities_of, Chain, Coherent, is_in_view, is_told}
-use Rattle.an_laws.specs.Legal.{Write, Legal, state_of}
+use Rattle.an_machine.specs.Legal.{Write, Legal, state_of}
 use Rattle.an_laws.proofs.AudienceLemmas.{key_at, audience_of, coherent-first}
 use Rattle.an_laws.proofs.CoherentLemmas.{histories-coherent}
 use Rattle.an_laws.proofs.RowLemmas.{row_of-find}

@@ -43,7 +43,7 @@ use Rattle.an_machine.specs.declared.command.Refused.TheVariants.{NotOwn, Shape}
 use Rattle.an_machine.specs.declared.effect.Effect.{Effect}
 use Rattle.an_machine.specs.declared.entry.Row.TheVariants as kept
 use Rattle.an_policy.specs.Reader.{reader_of}
-use Rattle.an_laws.specs.Legal.{Write, Accepts, Legal, AreWrites, state_of}
+use Rattle.an_machine.specs.Legal.{Write, Accepts, Legal, AreWrites, state_of}
 use Rattle.an_laws.proofs.RefusalLemmas.{none-of, none-when, note-based}
 use Rattle.an_laws.proofs.RiseLemmas.{drop-next}
 use Rattle.an_laws.proofs.RowLemmas.{row_of-find}

@@ -6,7 +6,7 @@ ghost use Rattle.an_machine.specs.State.{State, empty};
 ghost use Rattle.an_machine.specs.View.{view_of};
 ghost use Rattle.an_policy.specs.Audience.{Identity};
 ghost use Rattle.an_laws.specs.Coherent.{Coherent, is_in_view, is_told};
-ghost use Rattle.an_laws.specs.Legal.{Accepts, Legal, Write, state_of};
+ghost use Rattle.an_machine.specs.Legal.{Accepts, Legal, Write, state_of};
 
 /// A law: the empty state is coherent, each accepted write leads from a sound and coherent state to
 /// a coherent one, and so does every legal history.

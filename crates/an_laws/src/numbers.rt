@@ -4,7 +4,7 @@ ghost use Rattle.an_machine.specs.Asked.{object_of, version_of};
 ghost use Rattle.an_machine.specs.Sound.{is_sound};
 ghost use Rattle.an_machine.specs.State.{State};
 ghost use Rattle.an_machine.specs.Step.{step};
-ghost use Rattle.an_laws.specs.Legal.{Legal, Write, state_of};
+ghost use Rattle.an_machine.specs.Legal.{Legal, Write, state_of};
 ghost use Rattle.an_laws.specs.Numbers.{AddsNothing};
 
 /// A law: in a legal history from a sound state, of two accepted writes on one object the later one

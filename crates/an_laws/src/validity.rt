@@ -5,7 +5,7 @@ ghost use Rattle.an_machine.specs.Sound.{is_sound};
 ghost use Rattle.an_machine.specs.State.{State};
 ghost use Rattle.an_rows.specs.Cells as rows;
 ghost use Rattle.an_rows.specs.Valid.{is_valid};
-ghost use Rattle.an_laws.specs.Legal.{Accepts, AreWrites, Legal, Write, state_of};
+ghost use Rattle.an_machine.specs.Legal.{Accepts, AreWrites, Legal, Write, state_of};
 
 /// A law: each accepted write that may be sent leads from a valid and sound state to a valid one,
 /// and so does every legal history of such writes.

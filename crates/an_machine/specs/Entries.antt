@@ -1,5 +1,5 @@
 -- What an entry does to the state.
-use Rattle.std.specs.Prelude.{ℕ, ◌+◌, List, [], ◌∷◌, ◌++◌, length}
+use Rattle.std.specs.Prelude.{ℕ, ◌+◌, List, [], ◌∷◌, ◌++◌, length, Option, Some, None}
 use Rattle.an_keyed.specs.Rows.{put_row}
 use Rattle.an_machine.specs.State.{State, reader_key, manifest_key, note_key}
 use Rattle.an_machine.specs.declared.entry.Entry.{Entry}
@@ -26,6 +26,11 @@ after s (Restored row) = with_row s row
 after s (Done command moment by rows activities) =
     let t = with_rows rows s in
     record t { activities = t.activities ++ activities }
+
+-- the state after what was decided: a write that had been done already adds no entry
+abbrev pub state_after : State → Option Entry → State
+state_after s None = s
+state_after s (Some entry) = after s entry
 
 -- how many rows an entry may add to a list
 abbrev pub needs : Entry → ℕ

@@ -12,3 +12,4 @@ pub mod Book
 pub mod Commands
 pub mod Live
 pub mod Tables
+pub mod Legal

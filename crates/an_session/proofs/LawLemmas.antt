@@ -1,5 +1,6 @@
 -- What is due of the same bytes is one list alone, and its requests are those that the bytes are cut into.
-use Rattle.std.proofs.Common.{◌≡◌, ℕ, ◌-◌, List, [], ◌∷◌, ◌++◌, Bool, true, false, ◌||◌, nat_le, Option, inl, inr, refl, sym, ap, ◌∙◌}
+use Rattle.std.proofs.lemmas.Bool.Decides.{nat_tests}
+use Rattle.std.proofs.Common.{◌≡◌, ℕ, ◌<◌, ◌≤◌, length, arith, ◌-◌, List, [], ◌∷◌, ◌++◌, Bool, true, false, ◌||◌, nat_le, Option, inl, inr, refl, sym, ap, ◌∙◌}
 use Rattle.an_base.specs.declared.code.Code.{Code}
 use Rattle.an_world.specs.Link.{Traffic}
 use Rattle.an_http.specs.declared.request.Request.{Request}
@@ -106,3 +107,25 @@ dues_first told left bytes dues rest requests end piece h k = by left bytes dues
         let first : request' ≡ request = (cc) in
         let behind : mid' ≡ mid = (cc) in
         first_of (requests_of dues) requests request request' first (by (left - 1) mid dues requests next (rw behind at next'))
+
+-- ---- how many are due
+
+or_last : (b : Bool) → (b || true) ≡ true
+or_last true = refl
+or_last false = refl
+
+more_left : (told : Option Traffic) (left : ℕ) (bytes : List ℕ) (due : Due) (rest : List ℕ) → IsDue told left bytes due rest → ¬ (is_last due ≡ true) → 0 < left - 1
+more_left told left bytes (Ask request last) rest (begins, is) goes_on = more (nat_le left 1) refl
+  where
+    more : (b : Bool) → nat_le left 1 ≡ b → 0 < left - 1
+    more true at = absurd (goes_on (is ∙ ap (λ b. request.close || b) at ∙ or_last request.close))
+    more false at = grind (arith, nat_tests)
+more_left told left bytes (Refuse refusal) rest is goes_on = absurd (goes_on refl)
+
+pub fronts_few : (told : Option Traffic) (left : ℕ) (bytes : List ℕ) (dues : List Due) (rest : List ℕ) → 0 < left → Fronts told left bytes dues rest → length dues ≤ left
+fronts_few told left bytes [] rest some fronts = omega arith
+fronts_few told left bytes (due ∷ []) rest some fronts = omega arith
+fronts_few told left bytes (due ∷ next ∷ dues) rest some (mid, is, ends, fronts) =
+    let more = more_left told left bytes due mid is (λ last. let none : next ∷ dues ≡ [] = ends last in absurd (cc)) in
+    let few : length (next ∷ dues) ≤ left - 1 = fronts_few told (left - 1) mid (next ∷ dues) rest more fronts in
+    omega arith

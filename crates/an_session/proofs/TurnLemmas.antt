@@ -1,6 +1,7 @@
 -- What one turn comes to: for the functions that make it.
 use Rattle.std.proofs.Common.{◌≡◌, ℕ, List, Bool, true, false, ◌||◌, ◌⊎◌, inl, inr, nat_le, Option, Some, None, Result, Ok, Err, OnOk, OnErr, refl}
-use Rattle.an_world.specs.Link.{Traffic, Rises, Writes, WritesFront, IsAtEnd}
+use Rattle.an_base.specs.Faults.{Rises}
+use Rattle.an_world.specs.Link.{Traffic, Writes, WritesFront, IsAtEnd}
 use Rattle.an_world.specs.declared.link.LinkFault.{LinkFault}
 use Rattle.an_world.specs.declared.read.LinkError.TheVariants as read
 use Rattle.an_base.specs.declared.code.Code.{Code}

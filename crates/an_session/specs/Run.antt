@@ -2,13 +2,13 @@
 -- from which state it may answer a request by which reply, and which state may be behind that; and
 -- behind which change of its state all answers to come are the same.
 use Rattle.std.specs.Prelude.{◌≡◌, ◌⊎◌, ℕ, List, [], ◌∷◌, ◌++◌, codes, bytes_eq, Bool, true, false}
-use Rattle.an_base.specs.Code.{code_text}
 use Rattle.an_base.specs.declared.code.Code.{Code}
 use Rattle.an_http.specs.declared.request.Request.{Request}
 use Rattle.an_http.specs.declared.reply.Reply.{Reply}
 use Rattle.an_http.specs.declared.reply.Allow.TheVariants as allow
 use Rattle.an_http.specs.declared.reply.Media.TheVariants as media
 use Rattle.an_http.specs.declared.reply.Extra.TheVariants as extra
+use Rattle.an_http.specs.Errors.{error_body}
 use Rattle.an_http.specs.Replies.{reply_bytes}
 use Rattle.an_http.specs.Status.{status_of}
 use Rattle.an_session.specs.Due.{Due, Ask, Refuse}
@@ -24,7 +24,7 @@ bad_reply refusal = record {
   allow = allow.Absent;
   media = media.Json;
   extra = extra.Absent;
-  body = codes "{\"error\":\"" ++ (code_text refusal ++ codes "\"}");
+  body = error_body refusal;
 }
 
 -- from this state the service answers the request by a reply of these bytes

@@ -2,7 +2,8 @@
 -- bytes, and why it ended.
 use Rattle.std.specs.Prelude.{◌≡◌, ◌⊎◌, ℕ, List, [], ◌∷◌, ◌++◌, take, false, Option}
 use Rattle.std.specs.Prelude.{Some, None}
-use Rattle.an_world.specs.Link.{Traffic, Tells, Rises}
+use Rattle.an_base.specs.Faults.{Rises}
+use Rattle.an_world.specs.Link.{Traffic, Tells}
 use Rattle.an_http.specs.declared.request.Request.{Request}
 use Rattle.an_http.specs.declared.reply.Reply.{Reply}
 use Rattle.an_http.specs.Next.{HoldsNone}

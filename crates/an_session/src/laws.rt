@@ -1,5 +1,5 @@
 //! What holds of all that is due. Each law is the contract of a function that does nothing.
-ghost use Rattle.std.specs.Prelude.{◌≡◌, ℕ, List, ◌++◌, false, Option};
+ghost use Rattle.std.specs.Prelude.{◌≡◌, ℕ, ◌<◌, ◌≤◌, List, ◌++◌, length, false, Option};
 ghost use Rattle.an_world.specs.Link.{Traffic};
 ghost use Rattle.an_http.specs.Requests.{Cuts, Piece, Requests};
 ghost use Rattle.an_http.specs.declared.request.Request.{Request};
@@ -26,4 +26,11 @@ pub fn dues_are_requests()
         (dues : List Due) (rest : List ℕ)
         → has_last dues ≡ false → Fronts told left bytes dues rest
         → Cuts bytes (requests_of dues) rest }
+{}
+
+/// A law: where so many replies are left, at most so many are due.
+pub fn dues_are_few()
+    ensures few { (told : Option Traffic) (left : ℕ) (bytes : List ℕ)
+        (dues : List Due) (rest : List ℕ)
+        → 0 < left → Fronts told left bytes dues rest → length dues ≤ left }
 {}

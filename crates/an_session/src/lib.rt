@@ -2,7 +2,7 @@
 #![tactic(auto)]
 
 pub use ended::Ended;
-pub use laws::{dues_are_requests, dues_are_unique};
+pub use laws::{dues_are_few, dues_are_requests, dues_are_unique};
 pub use serve::serve_link;
 pub use service::Service;
 

@@ -1,7 +1,6 @@
-ghost use Rattle.std.specs.Prelude.{◌≡◌, ◌≤◌, ◌⊎◌, ◌||◌, ◌++◌, nat_le, codes, string_bytes, true};
-ghost use Rattle.std.specs.Prelude.{false, IfOk, IfSome};
-ghost use Rattle.an_base.specs.Code.{code_text};
-ghost use Rattle.an_world.specs.Link.{Rises, WritesFront};
+ghost use Rattle.std.specs.Prelude.{◌≡◌, ◌≤◌, ◌⊎◌, ◌||◌, nat_le, true, false, IfOk, IfSome};
+ghost use Rattle.an_base.specs.Faults.{Rises};
+ghost use Rattle.an_world.specs.Link.{WritesFront};
 ghost use Rattle.an_http.specs.Replies.{memory_reply, reply_bytes};
 ghost use Rattle.an_session.specs.Due.{Ask};
 ghost use Rattle.an_session.specs.Run.{is_head, bad_reply};
@@ -10,10 +9,10 @@ ghost use Rattle.an_session.specs.Turn.{IsPut, IsServed, IsMet, Turns};
 
 use crate::ended::Ended;
 use crate::service::Service;
-use an_base::{Bytes, Code};
+use an_base::Code;
 use an_http::{
-    Allow, Buffer, Extra, LinkError, Media, Next, PutError, Reply, Request, next_request,
-    put_memory_reply, put_reply, status_of,
+    Allow, Buffer, Extra, LinkError, Media, Next, PutError, Reply, Request, error_body,
+    next_request, put_memory_reply, put_reply, status_of,
 };
 use an_world::Link;
 use std::alloc::{AllocError, Global};
@@ -122,21 +121,14 @@ fn serve_refusal<L: Link>(alloc: Global, link: &mut L, refusal: Code) -> Option<
 fn bad_reply(alloc: Global, refusal: Code) -> Result<Reply, AllocError>
     ensures reply { IfOk result (λ reply. reply ≡ bad_reply refusal) }
 {
-    let body = error_body(alloc, refusal.text())?;
+    let body = error_body(alloc, refusal)?;
     Ok(Reply {
         status: status_of(refusal),
         allow: Allow::Absent,
         media: Media::Json,
         extra: Extra::Absent,
-        body: Bytes::from_vec(body.into_bytes()),
+        body,
     })
-}
-
-fn error_body(alloc: Global, code: &str) -> Result<String, AllocError>
-    ensures body { IfOk result (λ body. string_bytes body
-        ≡ codes "{\"error\":\"" ++ (code.now ++ codes "\"}")) }
-{
-    format!(in alloc; "{{\"error\":\"{code}\"}}")
 }
 
 /// Writes a reply, which is the last of its connection or not. Answers why the connection ends, if

@@ -8,7 +8,7 @@ use Rattle.an_policy.specs.declared.who.Caller.{Caller}
 use Rattle.an_policy.specs.Audience.{Identity}
 use Rattle.an_machine.specs.Accepted.{decided, effect_of, moment_of_write}
 use Rattle.an_machine.specs.Asked.{asked_of}
-use Rattle.an_machine.specs.Entries.{after}
+use Rattle.an_machine.specs.Entries.{after, state_after}
 use Rattle.an_machine.specs.Refusals.{signer_of, refusals_before}
 use Rattle.an_machine.specs.State.{State}
 use Rattle.an_machine.specs.Step.{refused_or, and_then, judged, step_if_signed, step}
@@ -23,7 +23,6 @@ use Rattle.an_rows.specs.Cells.{cells}
 use Rattle.an_rows.specs.Changes.{changes_of, is_settled}
 use Rattle.an_rows.proofs.AcceptedLemmas.{accepted-settled}
 use Rattle.an_rows.proofs.ChangeLemmas.{changes-lead}
-use Rattle.an_shelf.specs.Writing.{state_after}
 use Rattle.an_shelf.specs.declared.error.WriteError.{WriteError}
 
 -- ---- a write that had been done

@@ -1,19 +1,13 @@
 -- What a write at a desk does.
-use Rattle.std.specs.Prelude.{◌≡◌, Option, Some, None, Result, Ok, Err, ⊤}
-use Rattle.an_machine.specs.Entries.{after}
+use Rattle.std.specs.Prelude.{◌≡◌, IsSome, Result, Ok, Err, ⊤}
+use Rattle.an_machine.specs.Entries.{state_after}
 use Rattle.an_machine.specs.State.{State}
 use Rattle.an_machine.specs.declared.command.Decided.{Decided}
 use Rattle.an_machine.specs.declared.command.Refused.{Refused}
 use Rattle.an_machine.specs.declared.command.Refused.TheVariants as machine
 use Rattle.an_machine.specs.declared.command.WriteReply.{WriteReply}
-use Rattle.an_machine.specs.declared.entry.Entry.{Entry}
 use Rattle.an_shelf.specs.declared.error.WriteError.{WriteError}
 use Rattle.an_shelf.specs.declared.error.WriteError.TheVariants as error
-
--- a write that had been done already changes nothing
-abbrev pub state_after : State → Option Entry → State
-state_after s None = s
-state_after s (Some entry) = after s entry
 
 -- the machine decided so: this is the reply, and the state behind the write
 pub record Writes (decided : Result Decided Refused) (old : State) (reply : WriteReply)
@@ -23,10 +17,15 @@ pub record Writes (decided : Result Decided Refused) (old : State) (reply : Writ
   pub replies : reply ≡ write.reply
   pub leads : new ≡ state_after old write.entry
 
--- of a refusal: the machine refused so
+-- the machine accepted something that is to be kept
+abbrev pub IsToKeep : Result Decided Refused → Type 0
+IsToKeep (Ok decided) = IsSome decided.entry
+IsToKeep (Err refusal) = ⊥
+
+-- of a refusal: the machine refused so; and a keeper fails where something is to be kept
 abbrev pub IsRefused : Result Decided Refused → WriteError → Type 0
 IsRefused decided (error.Refused refusal) = decided ≡ Err refusal
-IsRefused decided error.Keeper = ⊤
+IsRefused decided error.Keeper = IsToKeep decided
 IsRefused decided error.Memory = ⊤
 
 -- want of memory is no refusal of the machine

@@ -1,14 +1,16 @@
-ghost use Rattle.std.specs.Prelude.{◌≡◌, ◌≤◌, IfErr, IfOk, IfSome, IsTrue, None, OnErr, OnOk};
+ghost use Rattle.std.specs.Prelude.{◌≡◌, ◌≤◌, IfErr, IfOk, IfSome, IsSome, IsTrue, None, OnErr};
+ghost use Rattle.std.specs.Prelude.{OnOk};
+ghost use Rattle.an_base.specs.Faults.{Rises};
 ghost use Rattle.an_keep.specs.Cells.{put_changes};
-ghost use Rattle.an_keep.specs.Keeper.{Rises, Stays, StaysOrBegins, Turns};
-ghost use Rattle.an_machine.specs.Entries.{after, needs};
+ghost use Rattle.an_keep.specs.Keeper.{Stays, StaysOrBegins, Turns};
+ghost use Rattle.an_machine.specs.Entries.{after, needs, state_after};
 ghost use Rattle.an_machine.specs.Sound.{is_sound};
 ghost use Rattle.an_machine.specs.Step.{step};
 ghost use Rattle.an_rows.specs.Cells.{cells};
 ghost use Rattle.an_rows.specs.Changes.{changes_of, is_settled};
 ghost use Rattle.an_rows.specs.Valid.{is_valid};
 ghost use Rattle.an_shelf.specs.Opening.{StandFor, WasDamagedBy};
-ghost use Rattle.an_shelf.specs.Writing.{IsRefused, Writes, refusal_error, state_after};
+ghost use Rattle.an_shelf.specs.Writing.{IsRefused, Writes, refusal_error};
 
 use crate::error::{OpenError, WriteError};
 use crate::opening::load;
@@ -92,6 +94,7 @@ impl<K: Keeper> Desk<K> {
             → self.new ≡ self.old }
         ensures counted { result ≡ Err WriteError.Keeper → Rises self.old.faults self.new.faults }
         ensures faults_kept { self.old.faults ≤ self.new.faults }
+        ensures sure { IsTrue K.is_sure → ¬ (result ≡ Err WriteError.Keeper) }
     {
         write(
             alloc,
@@ -147,6 +150,7 @@ fn write<K: Keeper>(
     ensures counted { result ≡ Err WriteError.Keeper
         → Rises (K.faults keeper.old) (K.faults keeper.new) }
     ensures faults_kept { K.faults keeper.old ≤ K.faults keeper.new }
+    ensures sure { IsTrue K.is_sure → ¬ (result ≡ Err WriteError.Keeper) }
 {
     let decided = decide(alloc, book, moment, caller, command)?;
     settle(alloc, keeper, book, decided)
@@ -195,6 +199,7 @@ fn settle<K: Keeper>(
     ensures replies { IfOk result (λ reply. reply ≡ decided.reply) }
     ensures leads { OnOk result (book.new.state ≡ state_after book.old.state decided.entry) }
     ensures no_refusal { (refusal : Refused) → ¬ (result ≡ Err (WriteError.Refused refusal)) }
+    ensures accepted { result ≡ Err WriteError.Keeper → IsSome decided.entry }
     ensures told { Turns (λ found. cells book.new.state) (K.told keeper.old) (K.told keeper.new) }
     ensures still { OnErr result (book.new.state ≡ book.old.state) }
     ensures stays { OnErr result (Stays (K.told keeper.old) (K.told keeper.new)) }

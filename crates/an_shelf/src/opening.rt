@@ -1,6 +1,7 @@
 ghost use Rattle.std.specs.Prelude.{◌≡◌, ◌≤◌, IfErr, IfOk, IfSome, IsTrue, Some, []};
 ghost use Rattle.an_keep.specs.Cells.{Ascend, first_of};
-ghost use Rattle.an_keep.specs.Keeper.{Rises, Stays, StaysOrBegins};
+ghost use Rattle.an_base.specs.Faults.{Rises};
+ghost use Rattle.an_keep.specs.Keeper.{Stays, StaysOrBegins};
 ghost use Rattle.an_machine.specs.Sound.{is_sound};
 ghost use Rattle.an_rows.specs.Cells.{cells, is_first};
 ghost use Rattle.an_rows.specs.Valid.{is_valid};

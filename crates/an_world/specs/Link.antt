@@ -1,16 +1,11 @@
 -- What a link tells of its bytes, and how a call may change that and the counts of faults.
-use Rattle.std.specs.Prelude.{◌≡◌, ℕ, ◌-◌, ◌^◌, ◌<◌, ◌↔◌, List, [], ◌++◌, length, take, ◌≤◌, Option}
-use Rattle.std.specs.Prelude.{Some, None}
+use Rattle.std.specs.Prelude.{◌≡◌, ℕ, ◌↔◌, List, [], ◌++◌, length, take, ◌≤◌, Option, Some, None}
 
 -- the bytes that a link has read, those that it has left to read, and those that it has written
 pub record Traffic : Type 0 where
   pub read : List ℕ
   pub left : List ℕ
   pub written : List ℕ
-
--- one more fault was counted; a count stands still at its end
-abbrev pub Rises : ℕ → ℕ → Type 0
-Rises old new = old < 2 ^ 64 - 1 → old < new
 
 -- a link that told its bytes tells them still, and the change from old to new is this one; no other
 -- link begins to tell

@@ -1,5 +1,5 @@
 ghost use Rattle.std.specs.Prelude.{◌≡◌, ◌≤◌};
-ghost use Rattle.an_world.specs.Link.{Rises};
+ghost use Rattle.an_base.specs.Faults.{Rises};
 ghost use Rattle.an_world.specs.Calls.{is_next_failing, called, failed};
 
 use std::marker::Model;

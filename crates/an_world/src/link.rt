@@ -1,5 +1,6 @@
 ghost use Rattle.std.specs.Prelude.{◌≡◌, ◌<◌, ◌≤◌, length, take, IfOk, OnErr};
-ghost use Rattle.an_world.specs.Link.{Rises, Reads, Writes, IsZeroAtEnd};
+ghost use Rattle.an_base.specs.Faults.{Rises};
+ghost use Rattle.an_world.specs.Link.{Reads, Writes, IsZeroAtEnd};
 
 /// A read or a write that a link failed. The link has counted it.
 #[derive(Clone, Copy, Debug, PartialEq, Eq)]

@@ -1,5 +1,6 @@
 ghost use Rattle.std.specs.Prelude.{◌≡◌, ◌<◌, ◌≤◌, ◌↔◌, [], length, take, IfOk, OnErr, is_err};
-ghost use Rattle.an_world.specs.Link.{Rises, MovesRead, AddsWritten};
+ghost use Rattle.an_base.specs.Faults.{Rises};
+ghost use Rattle.an_world.specs.Link.{MovesRead, AddsWritten};
 ghost use Rattle.an_world.specs.Input.{count_for};
 ghost use Rattle.an_world.specs.Calls.{is_next_failing};
 ghost use Rattle.an_world.specs.Memory.{memory_of, traffic_of, after_read, is_write_failing, taken};

@@ -1,5 +1,6 @@
 ghost use Rattle.std.specs.Prelude.{◌≡◌, ◌+◌, ◌<◌, ◌≤◌, length, Err, IfOk, OnErr};
-ghost use Rattle.an_world.specs.Link.{Rises, Reads, ReadsOn, ReadsAtMost, IsAtEnd};
+ghost use Rattle.an_base.specs.Faults.{Rises};
+ghost use Rattle.an_world.specs.Link.{Reads, ReadsOn, ReadsAtMost, IsAtEnd};
 
 use crate::link::{Link, LinkFault};
 use std::alloc::{AllocError, Global};

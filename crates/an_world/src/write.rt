@@ -1,5 +1,6 @@
 ghost use Rattle.std.specs.Prelude.{◌≡◌, ◌≤◌, [], IsTrue, IsOk, OnOk, OnErr};
-ghost use Rattle.an_world.specs.Link.{Rises, Writes, WritesFront};
+ghost use Rattle.an_base.specs.Faults.{Rises};
+ghost use Rattle.an_world.specs.Link.{Writes, WritesFront};
 
 use crate::link::{Link, LinkFault};
 

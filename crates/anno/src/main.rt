@@ -1,10 +1,12 @@
 //! The annotation server as a program.
 #![tactic(auto)]
 
+mod clock;
 mod link;
 
 use an_app::{Status, run};
 use an_keep::SureKeeper;
+use clock::RealClock;
 use link::StdLink;
 use std::process::ExitCode;
 use std::rt::Env;
@@ -16,12 +18,13 @@ fn main(rt: HostRuntime) -> ExitCode {
     let alloc = rt.alloc();
     let mut link = StdLink::new(rt.reader(), io::writer(&rt));
     let keeper = SureKeeper::new(Vec::new(alloc));
+    let clock = RealClock::new(&rt);
     let status = match words_of(&rt) {
-        Ok(words) => run(alloc, words.as_slice(), &mut link, keeper),
+        Ok(words) => run(alloc, words.as_slice(), &mut link, keeper, &clock),
         Err(error) => if error.kind() == io::ErrorKind::OutOfMemory {
             Status::Memory
         } else {
-            run(alloc, &[], &mut link, keeper)
+            run(alloc, &[], &mut link, keeper, &clock)
         },
     };
     ExitCode::from(status.code())

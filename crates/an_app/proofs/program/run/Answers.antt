@@ -6,11 +6,11 @@ use Rattle.an_app.proofs.program.run.Goals as goal
 
 pub returns-clause-sure_link : goal.returns-clause-sure_link
 returns-clause-sure_link g c = λ sure.
-    ends_unfailing _ _ _ _ _ _ _ _ (form_of (map string_bytes c.args.words.now))
+    ends_unfailing _ _ _ _ _ _ _ _ _ (form_of (map string_bytes c.args.words.now))
     (never_rises _ _ (g.met.L.Link.sure_reads sure c.args.link.now) (g.met.L.Link.sure_reads sure c.run_form.new.link))
     (never_rises _ _ (g.met.L.Link.sure_writes sure c.args.link.now) (g.met.L.Link.sure_writes sure c.run_form.new.link))
     c.run_form.ensures.understood c.run_form.ensures.misunderstood
 
 pub returns-clause-sure_keeper : goal.returns-clause-sure_keeper
 returns-clause-sure_keeper g c = λ sure.
-    ends_kept _ _ _ _ _ _ _ _ (form_of (map string_bytes c.args.words.now)) (λ unsure. unsure sure) c.run_form.ensures.understood c.run_form.ensures.misunderstood
+    ends_kept _ _ _ _ _ _ _ _ _ (form_of (map string_bytes c.args.words.now)) (λ unsure. unsure sure) c.run_form.ensures.understood c.run_form.ensures.misunderstood

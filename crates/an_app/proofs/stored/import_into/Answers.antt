@@ -1,7 +1,7 @@
 use Rattle.std.proofs.Common.{sym, ◌∙◌}
 use Rattle.an_app.proofs.ImportLemmas.{Imports-kept}
 use Rattle.an_app.proofs.RunLemmas.{keeper_never_rises}
-use Rattle.an_app.proofs.program.import_into.Goals as goal
+use Rattle.an_app.proofs.stored.import_into.Goals as goal
 
 pub returns-clause-imports : goal.returns-clause-imports
 returns-clause-imports g c = (

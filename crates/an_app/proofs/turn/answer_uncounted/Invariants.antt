@@ -1,5 +1,0 @@
-use Rattle.an_app.proofs.turn.answer_uncounted.Given as goal
-
--- the ledger of the blank
-abbrev pub ghosts-answer_from : goal.ghosts-answer_from
-ghosts-answer_from a = record { name = a.blank.name; parts = a.blank.parts }

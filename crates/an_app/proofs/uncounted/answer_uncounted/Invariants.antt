@@ -1,0 +1,5 @@
+use Rattle.an_app.proofs.uncounted.answer_uncounted.Given as goal
+
+-- the ledger of the blank
+abbrev pub ghosts-answer_from : goal.ghosts-answer_from
+ghosts-answer_from g a = record { name = a.blank.name; parts = a.blank.parts }

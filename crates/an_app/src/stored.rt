@@ -1,0 +1,133 @@
+//! Runs at a store, which is opened first.
+ghost use Rattle.std.specs.Prelude.{◌≡◌, [], IfOk, IsSome, IsTrue, string_bytes};
+ghost use Rattle.an_base.specs.Faults.{Rises};
+ghost use Rattle.an_machine.specs.State.{State};
+ghost use Rattle.an_app.specs.AtDesk.{Connection};
+ghost use Rattle.an_app.specs.ImportEnds.{Imports, ImportsAt, Unopened, damage_text};
+ghost use Rattle.an_app.specs.SessionEnds.{IsEndCause, SessionAt, ended_status};
+ghost use Rattle.an_app.specs.Status.{ReadsLittle};
+
+use crate::at_desk::session_at_desk;
+use crate::importing::import;
+use crate::status::Status;
+use crate::told::tell;
+use an_keep::Keeper;
+use an_search::Settings;
+use an_session::Ended;
+use an_shelf::{Desk, OpenError};
+use an_world::{Clock, Link};
+use std::alloc::{AllocError, Global};
+
+/// Writes lines to the store of a keeper.
+pub(crate) fn import_at<L: Link, K: Keeper>(alloc: Global, link: &mut L, keeper: K) -> Status
+    ensures imports { ImportsAt
+        (Rises (L.read_faults link.old) (L.read_faults link.new))
+        (Rises (L.write_faults link.old) (L.write_faults link.new))
+        (¬ (IsTrue K.is_sure)) ((kept : K) → IsSome (K.told kept)) (K.told keeper)
+        (L.traffic link.old) (L.traffic link.new) result }
+    ensures bounded { ReadsLittle (L.traffic link.old) (L.traffic link.new) }
+{
+    match Desk::open(alloc, keeper) {
+        Ok(desk) => import_into(alloc, link, desk),
+        Err(error) => unopened(alloc, link, error),
+    }
+}
+
+/// Writes lines to an open store. The keeper is taken back, since a keeper of a sure kind is known
+/// to have failed no call.
+fn import_into<L: Link, K: Keeper>(alloc: Global, link: &mut L, desk: Desk<K>) -> Status
+    ensures imports { (after : State) × Imports
+        (Rises (L.read_faults link.old) (L.read_faults link.new))
+        (Rises (L.write_faults link.old) (L.write_faults link.new))
+        (¬ (IsTrue K.is_sure))
+        (L.traffic link.old) (L.traffic link.new) desk.state after result }
+    ensures told { ((kept : K) → IsSome (K.told kept)) → IsSome desk.told }
+    ensures bounded { ReadsLittle (L.traffic link.old) (L.traffic link.new) }
+{
+    let mut desk = desk;
+    let status = import(alloc, link, &mut desk);
+    drop(desk.into_keeper());
+    status
+}
+
+/// Serves one connection at the store of a keeper.
+pub(crate) fn session_at<L: Link, K: Keeper, C: Clock>(
+    alloc: Global,
+    link: &mut L,
+    keeper: K,
+    settings: &Settings,
+    clock: &C,
+) -> Status
+    ensures session { SessionAt
+        (Rises (L.read_faults link.old) (L.read_faults link.new))
+        (Rises (L.write_faults link.old) (L.write_faults link.new))
+        (¬ (IsTrue K.is_sure)) ((kept : K) → IsSome (K.told kept))
+        (C.answers clock.now) settings.now (K.told keeper)
+        (L.traffic link.old) (L.traffic link.new) result }
+{
+    match Desk::open(alloc, keeper) {
+        Ok(desk) => ended_status(session_into(alloc, link, desk, settings, clock)),
+        Err(error) => unopened(alloc, link, error),
+    }
+}
+
+/// Serves one connection at an open store. The keeper is taken back, since it tells its cells still
+/// where it told them before.
+fn session_into<L: Link, K: Keeper, C: Clock>(
+    alloc: Global,
+    link: &mut L,
+    desk: Desk<K>,
+    settings: &Settings,
+    clock: &C,
+) -> Ended
+    ensures connection { (behind : State) × Connection
+        (¬ (IsTrue K.is_sure)) (C.answers clock.now) settings.now result
+        (L.traffic link.old) (L.traffic link.new) desk.state [] behind }
+    ensures told { ((kept : K) → IsSome (K.told kept)) → IsSome desk.told }
+    ensures cause { IsEndCause
+        (Rises (L.read_faults link.old) (L.read_faults link.new))
+        (Rises (L.write_faults link.old) (L.write_faults link.new))
+        (L.traffic link.new) result }
+{
+    let mut desk = desk;
+    let ended = session_at_desk(alloc, link, &mut desk, settings, clock);
+    drop(desk.into_keeper());
+    ended
+}
+
+fn ended_status(ended: Ended) -> Status
+    ensures { result ≡ ended_status ended }
+{
+    match ended {
+        Ended::Closed => Status::Done,
+        Ended::ReadFault => Status::ReadFault,
+        Ended::WriteFault => Status::WriteFault,
+        Ended::Memory => Status::Memory,
+    }
+}
+
+// ---- a store that isn't opened
+
+/// Tells why the store isn't opened.
+fn unopened<L: Link>(alloc: Global, link: &mut L, error: OpenError) -> Status
+    ensures told { Unopened (λ why. (why ≡ error) × ¬ (why ≡ OpenError.Memory))
+        (Rises (L.write_faults link.old) (L.write_faults link.new))
+        (L.traffic link.old) (L.traffic link.new) result }
+    ensures bounded { ReadsLittle (L.traffic link.old) (L.traffic link.new) }
+{
+    match error {
+        OpenError::Keeper => tell(link, Status::KeeperFailed, "keeper failed\n".as_bytes()),
+        OpenError::Damaged { tab, key } => match damage_text(alloc, tab, key) {
+            Ok(text) => tell(link, Status::Damaged { tab, key }, text.as_str().as_bytes()),
+            Err(_) => Status::Memory,
+        },
+        OpenError::Memory => Status::Memory,
+    }
+}
+
+/// Which cell of a store is damaged, as it is printed.
+fn damage_text(alloc: Global, tab: u8, key: u64) -> Result<String, AllocError>
+    ensures { IfOk result (λ text. string_bytes text ≡ damage_text tab key) }
+{
+    format!(in alloc; "store damaged: table {tab} key {key}\n")
+}

@@ -1,0 +1,47 @@
+ghost use Rattle.std.specs.Prelude.{◌≡◌, ◌<◌, IfOk};
+ghost use Rattle.an_app.specs.Answer.{answer_of, view_by};
+
+use crate::answers::answer;
+use crate::kinds::Read;
+use an_base::{Prefer, Steps};
+use an_http::Reply;
+use an_machine::Look;
+use an_policy::Caller;
+use an_search::Settings;
+use std::alloc::{AllocError, Global};
+use std::marker::Brand;
+use std::sync::ledger::{Blank, Ledger};
+
+/// The answer to a read whose steps nobody counts.
+pub(crate) fn answer_uncounted<T: Look>(
+    alloc: Global,
+    look: &T,
+    settings: &Settings,
+    caller: &Caller,
+    prefer: Prefer,
+    read: &Read,
+) -> Result<Reply, AllocError>
+    ensures { IfOk result (λ reply. reply
+        ≡ answer_of settings.now (view_by (T.state look.now) caller.now) read.now) }
+{
+    answer_from::<T, Brand>(alloc, Blank::new(1), look, settings, caller, prefer, read)
+}
+
+fn answer_from<T: Look, L: Ledger>(
+    alloc: Global,
+    blank: Blank,
+    look: &T,
+    settings: &Settings,
+    caller: &Caller,
+    prefer: Prefer,
+    read: &Read,
+) -> Result<Reply, AllocError>
+    requires name { blank.name ≡ L.name }
+    requires parts { blank.parts ≡ L.parts }
+    requires some { 0 < blank.parts }
+    ensures { IfOk result (λ reply. reply
+        ≡ answer_of settings.now (view_by (T.state look.now) caller.now) read.now) }
+{
+    let mut steps = Steps::<L>::new(blank);
+    answer(alloc, look, settings, caller, prefer, read, &mut steps)
+}

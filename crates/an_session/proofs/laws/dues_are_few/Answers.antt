@@ -1,0 +1,5 @@
+use Rattle.an_session.proofs.LawLemmas.{fronts_few}
+use Rattle.an_session.proofs.laws.dues_are_few.Goals as goal
+
+pub returns : goal.returns
+returns c = record { few = fronts_few }
