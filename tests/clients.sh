@@ -6,12 +6,16 @@ set -eu
 top=$(cd "$(dirname "$0")/.." && pwd)
 "$top/build"
 for tool in socat curl; do
-  command -v "$tool" >/dev/null || apt-get install -y -qq "$tool" >/dev/null
-done
+  if ! command -v "$tool" >/dev/null; then
+    apt-get update -qq
+    apt-get install -y -qq "$tool"
+  fi
+done >/dev/null
 work=$(mktemp -d)
 port=$((20000 + RANDOM % 20000))
 at=http://127.0.0.1:$port
-socat "TCP-LISTEN:$port,bind=127.0.0.1,fork,reuseaddr" EXEC:"$top/crates/anno/out/anno - session $at 10" &
+# A colon of an address parts it for socat.
+socat "TCP-LISTEN:$port,bind=127.0.0.1,fork,reuseaddr" "EXEC:$top/crates/anno/out/anno - session ${at//:/\\:} 10" &
 server=$!
 trap 'kill "$server"; rm -rf "$work"' EXIT
 until (exec 3<>"/dev/tcp/127.0.0.1/$port") 2>/dev/null; do sleep 0.1; done
