@@ -4,6 +4,5 @@ pub mod StatusLemmas
 pub mod FollowLemmas
 pub mod ImportLemmas
 pub mod RunLemmas
-pub mod QueryLemmas
 pub mod DeskLemmas
 pub mod RespondLemmas

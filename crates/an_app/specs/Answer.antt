@@ -29,7 +29,10 @@ use Rattle.an_pages.specs.declared.error.PageError.TheVariants as page
 use Rattle.an_search.specs.Listed.{note_iri}
 use Rattle.an_search.specs.Search.{search_of}
 use Rattle.an_search.specs.Site.{Site}
-use Rattle.an_search.specs.declared.hits.AskError.{AskError}
+use Rattle.an_search.specs.declared.searching.AskError.{AskError}
+use Rattle.an_search.specs.declared.searching.AskError.TheVariants as ask
+use Rattle.an_complete.specs.Complete.{complete_of}
+use Rattle.an_complete.specs.declared.completion.CompleteError.{CompleteError}
 use Rattle.an_app.specs.Routes.{read_methods}
 use Rattle.an_app.specs.declared.kinds.Read.{Read}
 use Rattle.an_app.specs.declared.kinds.Read.TheVariants as read
@@ -83,16 +86,28 @@ abbrev pub note_reply : Result (List ℕ) PageError → Reply
 note_reply (Ok body) = shown_reply allow.Full media.Annotation extra.Resource body
 note_reply (Err error) = refusal_reply allow.Full (page_refusal error)
 
+-- why a search isn't answered; want of memory is told otherwise
+abbrev pub search_refusal : AskError → Code
+search_refusal ask.NoManifest = absent
+search_refusal (ask.NoPage pages) = code.NoPage pages
+search_refusal ask.Memory = absent
+
 abbrev pub search_reply : Result (List ℕ) AskError → Reply
 search_reply (Ok body) = shown_reply allow.ReadOnly media.Search extra.Absent body
-search_reply (Err error) = refusal_reply allow.ReadOnly absent
+search_reply (Err error) = refusal_reply allow.ReadOnly (search_refusal error)
+
+abbrev pub completion_reply : Result (List ℕ) CompleteError → Reply
+completion_reply (Ok body) = shown_reply allow.ReadOnly media.Search extra.Absent body
+completion_reply (Err error) = refusal_reply allow.ReadOnly absent
 
 -- what a view shows of what is read
 abbrev pub read_reply : Site → View → Read → Reply
 read_reply site view (read.Manifest name) = manifest_reply (manifest_of_view site view name)
 read_reply site view (read.Note owner name) = note_reply (annotation_of_view site view owner name)
-read_reply site view (read.Search manifest word) =
-    search_reply (search_of site view manifest word)
+read_reply site view (read.Search manifest query) =
+    search_reply (search_of site view manifest query)
+read_reply site view (read.Complete manifest ask) =
+    completion_reply (complete_of site view manifest ask)
 
 -- the view of a caller, at a state
 abbrev pub view_by : State → Caller → View
@@ -148,7 +163,7 @@ write_refusal refused.NotMember = code.NotMember
 write_refusal refused.GroupFixed = code.GroupFixed
 write_refusal refused.TokenTaken = code.TokenTaken
 write_refusal (refused.Version current) = code.Version current
-write_refusal refused.Memory = code.Unbuilt
+write_refusal refused.Memory = absent
 
 -- the answer to a write that the machine decided
 abbrev pub write_answer : Site → Allow → Result WriteReply Refused → Reply

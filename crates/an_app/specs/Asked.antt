@@ -32,7 +32,7 @@ abbrev pub text_refusal : TreeError → Code
 text_refusal error.Json = code.Json
 text_refusal error.NotWhole = code.NotWhole
 text_refusal error.Deep = code.Deep
-text_refusal error.Memory = code.Unbuilt
+text_refusal error.Memory = code.Json
 
 abbrev pub with_tree : (Data → Command) → Result Data TreeError → Result Command Code
 with_tree make (Ok tree) = Ok (make tree)
@@ -76,7 +76,6 @@ route_asked words by (Err no_route.Route) = Err no_line
 route_asked words by (Err (no_route.Method methods)) = Err no_line
 route_asked words by (Err (no_route.Query methods refusal)) =
     query_asked words.method by methods refusal
-route_asked words by (Err no_route.Unbuilt) = Err code.Unbuilt
 route_asked words by (Err no_route.Memory) = Err no_line
 
 abbrev pub by_asked : Words → Option (Option (List ℕ)) → Result Asked Code

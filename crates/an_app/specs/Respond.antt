@@ -97,10 +97,8 @@ route_response site s request (Err (error.Method methods)) =
     response.Ready (refusal_reply methods code.Method)
 route_response site s request (Err (error.Query methods refusal)) =
     query_response s (caller_of request.auth) (is_read request.method) methods refusal
-route_response site s request (Err error.Unbuilt) =
-    query_response s (caller_of request.auth) true allow.ReadOnly code.Unbuilt
 route_response site s request (Err error.Memory) =
-    response.Ready (refusal_reply allow.Absent code.Unbuilt)
+    response.Ready (refusal_reply allow.Absent code.Route)
 
 unfoldable pub response_of : Site → State → Request → Response
 response_of site s request =

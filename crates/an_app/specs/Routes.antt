@@ -1,18 +1,26 @@
 -- The routes: what each method means at each path.
-use Rattle.std.specs.Prelude.{ℕ, List, [], ◌∷◌, length, Bool, ◌&&◌, nat_le, bytes_eq, codes}
-use Rattle.std.specs.Prelude.{if◌then◌else◌, Option, Some, None, option_and_then, Result, Ok, Err}
-use Rattle.std.specs.List.{list_all}
-use Rattle.an_base.specs.Outcome.{only_if, or_refuse}
+use Rattle.std.specs.Prelude.{ℕ, List, [], ◌∷◌, bytes_eq, codes, if◌then◌else◌, Option, Some, None}
+use Rattle.std.specs.Prelude.{option_and_then, Result, Ok, Err}
+use Rattle.std.specs.Result.{result_map_both}
+use Rattle.an_base.specs.Outcome.{or_refuse}
 use Rattle.an_base.specs.declared.code.Code.{Code}
 use Rattle.an_base.specs.declared.code.Code.TheVariants as code
 use Rattle.an_policy.specs.declared.group.Group.{Group}
 use Rattle.an_http.specs.declared.reply.Allow.{Allow}
 use Rattle.an_http.specs.declared.reply.Allow.TheVariants as allow
-use Rattle.an_app.specs.Line.{cut_at}
+use Rattle.an_base.specs.declared.parameter.Parameter.{Parameter}
+use Rattle.an_machine.specs.declared.command.Object.{Object}
+use Rattle.an_machine.specs.declared.command.Object.TheVariants as object
+use Rattle.an_complete.specs.Ask.{AskRecord, ask_of}
+use Rattle.an_complete.specs.declared.ask.QueryAskError.{QueryAskError}
+use Rattle.an_complete.specs.declared.ask.QueryAskError.TheVariants as no_ask
+use Rattle.an_search.specs.Query.{QueryRecord, query_of}
+use Rattle.an_search.specs.declared.pairs.Pair.{Pair}
+use Rattle.an_search.specs.declared.query.QueryError.{QueryError}
+use Rattle.an_search.specs.declared.query.QueryError.TheVariants as no_query
 use Rattle.an_app.specs.Query.{given_of, version_of, manifest_of, group_of, name_in, reads_nothing}
 use Rattle.an_app.specs.Query.{reads_version, reads_version_and_group, reads_all}
 use Rattle.an_app.specs.Target.{target_parts, segments_of}
-use Rattle.an_app.specs.declared.query.Given.{Given}
 use Rattle.an_app.specs.declared.kinds.Path.{Path}
 use Rattle.an_app.specs.declared.kinds.Path.TheVariants as path
 use Rattle.an_app.specs.declared.kinds.Verb.{Verb}
@@ -29,17 +37,19 @@ use Rattle.an_app.specs.declared.kinds.RouteError.TheVariants as error
 
 -- ---- the table of paths
 
--- `/readers/N`, `/manifests/M` and `/search/M`
+-- `/readers/N`, `/manifests/M`, `/search/M` and `/autocomplete/M`
 abbrev pub path_named : List ℕ → List ℕ → Option Path
 path_named kind name =
-    if bytes_eq kind (codes "readers") then Some (path.Reader name)
-    else (if bytes_eq kind (codes "manifests") then Some (path.Manifest name)
-    else (if bytes_eq kind (codes "search") then Some (path.Search name) else None))
+    if bytes_eq kind (codes "readers") then Some (path.Object (object.Reader name))
+    else (if bytes_eq kind (codes "manifests") then Some (path.Object (object.Manifest name))
+    else (if bytes_eq kind (codes "search") then Some (path.Search name)
+    else (if bytes_eq kind (codes "autocomplete") then Some (path.Complete name) else None)))
 
 -- `/annotations/OWNER/N`
 abbrev pub path_owned : List ℕ → List ℕ → List ℕ → Option Path
 path_owned kind owner name =
-    if bytes_eq kind (codes "annotations") then Some (path.Note owner name) else None
+    if bytes_eq kind (codes "annotations") then Some (path.Object (object.Note owner name))
+    else None
 
 -- the path of these segments; N, M and OWNER are names
 abbrev pub path_of : List (List ℕ) → Option Path
@@ -50,11 +60,15 @@ path_of (kind ∷ owner ∷ name ∷ []) =
 path_of _ = None
 
 -- the methods of a path
+abbrev pub object_methods : Object → Allow
+object_methods (object.Reader name) = allow.WriteOnly
+object_methods (object.Manifest name) = allow.Full
+object_methods (object.Note owner name) = allow.Full
+
 abbrev pub methods_at : Path → Allow
-methods_at (path.Reader name) = allow.WriteOnly
-methods_at (path.Manifest name) = allow.Full
-methods_at (path.Note owner name) = allow.Full
+methods_at (path.Object object) = object_methods object
 methods_at (path.Search manifest) = allow.ReadOnly
+methods_at (path.Complete manifest) = allow.ReadOnly
 
 -- HEAD is GET without the body (RFC 9110, section 9.3.2)
 abbrev pub verb_of : List ℕ → Option Verb
@@ -67,95 +81,112 @@ verb_of method =
 
 -- ---- writes
 
--- what a query gives to a write
-abbrev pub given_to : Result Given Code → (Given → Result WriteRoute Code)
+-- a number, and what is written with it and with what else is given
+abbrev pub numbered : Result (List Pair) Code → (List Pair → ℕ → Result WriteRoute Code)
     → Result WriteRoute Code
-given_to (Ok given) write = write given
-given_to (Err refusal) write = Err refusal
+numbered (Ok given) write = or_refuse code.VersionForm (version_of given) (write given)
+numbered (Err refusal) write = Err refusal
 
--- a number, and what is written with it
-abbrev pub numbered : Given → (ℕ → Result WriteRoute Code) → Result WriteRoute Code
-numbered given write = or_refuse code.VersionForm (version_of given) write
-
-abbrev pub grouped : (Group → WriteRoute) → Given → Result WriteRoute Code
+abbrev pub grouped : (Group → WriteRoute) → List Pair → Result WriteRoute Code
 grouped write given =
     or_refuse code.Group (group_of given) (λ group. Ok (write group))
 
-abbrev pub reader_put : List ℕ → Given → Result WriteRoute Code
-reader_put name given = numbered given (λ version. Ok (PutReader name version))
-
-abbrev pub manifest_put : List ℕ → Given → Result WriteRoute Code
-manifest_put name given = numbered given (λ version. grouped (PutManifest name version) given)
+abbrev pub manifest_put : List ℕ → List Pair → ℕ → Result WriteRoute Code
+manifest_put name given version = grouped (PutManifest name version) given
 
 -- the manifest, and then the group
-abbrev pub note_put_on : List ℕ → List ℕ → Given → ℕ → Result WriteRoute Code
-note_put_on owner name given version =
+abbrev pub note_put : List ℕ → List ℕ → List Pair → ℕ → Result WriteRoute Code
+note_put owner name given version =
     or_refuse code.Manifest (manifest_of given)
     (λ manifest. grouped (PutNote owner name version manifest) given)
 
-abbrev pub note_put : List ℕ → List ℕ → Given → Result WriteRoute Code
-note_put owner name given = numbered given (note_put_on owner name given)
+abbrev pub put_with : Object → List Pair → ℕ → Result WriteRoute Code
+put_with (object.Reader name) given version = Ok (PutReader name version)
+put_with (object.Manifest name) given version = manifest_put name given version
+put_with (object.Note owner name) given version = note_put owner name given version
 
-abbrev pub reader_drop : List ℕ → Given → Result WriteRoute Code
-reader_drop name given = numbered given (λ version. Ok (DropReader name version))
+-- the parameters that a put of an object reads
+abbrev pub put_reads : Object → List Parameter
+put_reads (object.Reader name) = reads_version
+put_reads (object.Manifest name) = reads_version_and_group
+put_reads (object.Note owner name) = reads_all
 
-abbrev pub manifest_drop : List ℕ → Given → Result WriteRoute Code
-manifest_drop name given = numbered given (λ version. Ok (DropManifest name version))
+abbrev pub put_of : Object → List ℕ → Result WriteRoute Code
+put_of object query = numbered (given_of (put_reads object) query) (put_with object)
 
-abbrev pub note_drop : List ℕ → List ℕ → Given → Result WriteRoute Code
-note_drop owner name given = numbered given (λ version. Ok (DropNote owner name version))
+abbrev pub deletion : Object → ℕ → WriteRoute
+deletion (object.Reader name) version = DropReader name version
+deletion (object.Manifest name) version = DropManifest name version
+deletion (object.Note owner name) version = DropNote owner name version
+
+-- a deletion reads its number alone
+abbrev pub deletion_of : Object → List ℕ → Result WriteRoute Code
+deletion_of object query =
+    numbered (given_of reads_version query) (λ given version. Ok (deletion object version))
 
 abbrev pub written : Allow → Result WriteRoute Code → Result Route RouteError
 written allow (Ok write) = Ok (route.Write write)
 written allow (Err refusal) = Err (error.Query allow refusal)
 
+-- searches and completions are read alone
+abbrev pub unwritten : Result Route RouteError
+unwritten = Err (error.Method allow.ReadOnly)
+
 abbrev pub put_at : Path → List ℕ → Result Route RouteError
-put_at (path.Reader name) query =
-    written allow.WriteOnly (given_to (given_of reads_version query) (reader_put name))
-put_at (path.Manifest name) query =
-    written allow.Full (given_to (given_of reads_version_and_group query) (manifest_put name))
-put_at (path.Note owner name) query =
-    written allow.Full (given_to (given_of reads_all query) (note_put owner name))
-put_at (path.Search manifest) query = Err (error.Method allow.ReadOnly)
+put_at (path.Object object) query = written (object_methods object) (put_of object query)
+put_at (path.Search manifest) query = unwritten
+put_at (path.Complete manifest) query = unwritten
 
 abbrev pub delete_at : Path → List ℕ → Result Route RouteError
-delete_at (path.Reader name) query =
-    written allow.WriteOnly (given_to (given_of reads_version query) (reader_drop name))
-delete_at (path.Manifest name) query =
-    written allow.Full (given_to (given_of reads_version query) (manifest_drop name))
-delete_at (path.Note owner name) query =
-    written allow.Full (given_to (given_of reads_version query) (note_drop owner name))
-delete_at (path.Search manifest) query = Err (error.Method allow.ReadOnly)
+delete_at (path.Object object) query = written (object_methods object) (deletion_of object query)
+delete_at (path.Search manifest) query = unwritten
+delete_at (path.Complete manifest) query = unwritten
 
 -- ---- reads
 
--- 1 to 64 letters from a to z
-abbrev pub is_letter : ℕ → Bool
-is_letter b = nat_le 97 b && nat_le b 122
+-- the query of a search or a completion is refused
+abbrev pub unread : Code → RouteError
+unread refusal = error.Query allow.ReadOnly refusal
 
-abbrev pub is_word : List ℕ → Bool
-is_word text = nat_le 1 (length text) && nat_le (length text) 64 && list_all is_letter text
+abbrev pub query_refused : QueryError → RouteError
+query_refused (no_query.Twice name) = unread (code.Twice name)
+query_refused (no_query.Date at) = unread (code.Date at)
+query_refused no_query.Page = unread code.Page
+query_refused no_query.Bytes = unread code.Bytes
+query_refused no_query.Memory = error.Memory
 
--- the word of the query `q=W`
-unfoldable pub word_in : List ℕ → Option (List ℕ)
-word_in query =
-    option_and_then (λ p. if bytes_eq p.0 (codes "q") then only_if is_word p.1 else None)
-    (cut_at 61 query)
+abbrev pub searched : List ℕ → Result QueryRecord QueryError → Result Route RouteError
+searched manifest =
+    result_map_both (λ query. route.Read (read.Search manifest query)) query_refused
 
-abbrev pub searched : List ℕ → Option (List ℕ) → Result Route RouteError
-searched manifest word =
-    or_refuse error.Unbuilt word (λ word. Ok (route.Read (read.Search manifest word)))
+abbrev pub ask_refused : QueryAskError → RouteError
+ask_refused no_ask.NoPrefix = unread code.Prefix
+ask_refused no_ask.Min = unread code.Min
+ask_refused (no_ask.Twice name) = unread (code.Twice name)
+ask_refused (no_ask.Date at) = unread (code.Date at)
+ask_refused no_ask.Bytes = unread code.Bytes
+ask_refused no_ask.Memory = error.Memory
+
+abbrev pub completed : List ℕ → Result AskRecord QueryAskError → Result Route RouteError
+completed manifest =
+    result_map_both (λ ask. route.Read (read.Complete manifest ask)) ask_refused
 
 -- a read that no parameter changes
-abbrev pub shown : Read → Result Given Code → Result Route RouteError
+abbrev pub shown : Read → Result (List Pair) Code → Result Route RouteError
 shown read (Ok given) = Ok (route.Read read)
 shown read (Err refusal) = Err (error.Query allow.Full refusal)
 
+-- readers are never read
+abbrev pub object_read : Object → List ℕ → Result Route RouteError
+object_read (object.Reader name) query = Err (error.Method allow.WriteOnly)
+object_read (object.Manifest name) query = shown (read.Manifest name) (given_of reads_nothing query)
+object_read (object.Note owner name) query =
+    shown (read.Note owner name) (given_of reads_nothing query)
+
 abbrev pub read_at : Path → List ℕ → Result Route RouteError
-read_at (path.Reader name) query = Err (error.Method allow.WriteOnly)
-read_at (path.Manifest name) query = shown (read.Manifest name) (given_of reads_nothing query)
-read_at (path.Note owner name) query = shown (read.Note owner name) (given_of reads_nothing query)
-read_at (path.Search manifest) query = searched manifest (word_in query)
+read_at (path.Object object) query = object_read object query
+read_at (path.Search manifest) query = searched manifest (query_of query)
+read_at (path.Complete manifest) query = completed manifest (ask_of query)
 
 -- ---- all routes
 
@@ -182,7 +213,8 @@ route_of method target = route_to method (target_parts target)
 abbrev pub read_methods : Read → Allow
 read_methods (read.Manifest name) = allow.Full
 read_methods (read.Note owner name) = allow.Full
-read_methods (read.Search manifest word) = allow.ReadOnly
+read_methods (read.Search manifest query) = allow.ReadOnly
+read_methods (read.Complete manifest ask) = allow.ReadOnly
 
 abbrev pub write_methods : WriteRoute → Allow
 write_methods (PutReader name version) = allow.WriteOnly

@@ -4,18 +4,20 @@ ghost use Rattle.an_policy.specs.Audience.{identity};
 ghost use Rattle.an_machine.specs.View.{view_of};
 ghost use Rattle.an_pages.specs.Bodies.{manifest_of_view, annotation_of_view};
 ghost use Rattle.an_search.specs.Search.{search_of};
+ghost use Rattle.an_complete.specs.Complete.{complete_of};
 ghost use Rattle.an_app.specs.Answer.{view_by, challenge, refusal_reply, shown_reply, page_refusal};
-ghost use Rattle.an_app.specs.Answer.{manifest_reply, note_reply, search_reply, read_reply};
-ghost use Rattle.an_app.specs.Answer.{answer_of, query_answer, object_iri, bool_text, write_text};
+ghost use Rattle.an_app.specs.Answer.{manifest_reply, note_reply, search_reply, completion_reply};
+ghost use Rattle.an_app.specs.Answer.{read_reply, answer_of, query_answer, object_iri, bool_text, write_text};
 ghost use Rattle.an_app.specs.Answer.{write_body, write_status, write_refusal, write_answer};
 
 use crate::kinds::Read;
-use an_base::{Bytes, Code, Name, Prefer, Steps, Text};
+use an_base::{Bytes, Code, Name, Prefer, Steps};
+use an_complete::{Ask, CompleteError, complete};
 use an_http::{Allow, Extra, Media, Reply, Status, error_body, status_of};
 use an_machine::{Look, Object, Refused, WriteReply};
 use an_pages::{PageError, annotation, manifest_answer};
 use an_policy::{Caller, Who};
-use an_search::{AskError, Settings, note_iri, search};
+use an_search::{AskError, Query, Settings, note_iri, search};
 use std::alloc::{AllocError, Global};
 use std::sync::ledger::Ledger;
 
@@ -112,8 +114,11 @@ fn answer_to<T: Look, L: Ledger>(
     match read {
         Read::Manifest { name } => answer_manifest(alloc, look, settings, who, name),
         Read::Note { owner, name } => answer_note(alloc, look, settings, who, owner, name),
-        Read::Search { manifest, word } => {
-            answer_search(alloc, look, settings, who, manifest, word, steps)
+        Read::Search { manifest, query } => {
+            answer_search(alloc, look, settings, who, manifest, query, steps)
+        }
+        Read::Complete { manifest, ask } => {
+            answer_completion(alloc, look, settings, who, manifest, ask, steps)
         }
     }
 }
@@ -157,18 +162,38 @@ fn answer_search<T: Look, L: Ledger>(
     settings: &Settings,
     who: &Who<'_>,
     manifest: &Name,
-    word: &Text,
+    query: &Query,
     steps: &mut Steps<L>,
 ) -> Result<Reply, AllocError>
     ensures { IfOk result (λ reply. reply ≡ search_reply (search_of settings.now
-        (view_of (T.state look.now) (identity who.now)) manifest.now word.now)) }
+        (view_of (T.state look.now) (identity who.now)) manifest.now query.now)) }
 {
-    match search(alloc, look, who, manifest, word.as_str(), settings, steps) {
+    match search(alloc, look, who, manifest, query, settings, steps) {
         Ok(body) => Ok(shown_reply(Allow::ReadOnly, Media::Search, Extra::Absent, body)),
-        Err(error) => match error {
-            AskError::NoManifest => { refusal_reply(alloc, Allow::ReadOnly, Code::Absent) }
-            AskError::Memory => Err(AllocError),
-        },
+        Err(AskError::NoManifest) => refusal_reply(alloc, Allow::ReadOnly, Code::Absent),
+        Err(AskError::NoPage { pages }) => {
+            refusal_reply(alloc, Allow::ReadOnly, Code::NoPage { pages })
+        }
+        Err(AskError::Memory) => Err(AllocError),
+    }
+}
+
+fn answer_completion<T: Look, L: Ledger>(
+    alloc: Global,
+    look: &T,
+    settings: &Settings,
+    who: &Who<'_>,
+    manifest: &Name,
+    ask: &Ask,
+    steps: &mut Steps<L>,
+) -> Result<Reply, AllocError>
+    ensures { IfOk result (λ reply. reply ≡ completion_reply (complete_of settings.now
+        (view_of (T.state look.now) (identity who.now)) manifest.now ask.now)) }
+{
+    match complete(alloc, look, who, manifest, ask, settings, steps) {
+        Ok(body) => Ok(shown_reply(Allow::ReadOnly, Media::Search, Extra::Absent, body)),
+        Err(CompleteError::NoManifest) => refusal_reply(alloc, Allow::ReadOnly, Code::Absent),
+        Err(CompleteError::Memory) => Err(AllocError),
     }
 }
 
@@ -278,6 +303,6 @@ pub(crate) fn write_refusal(refused: Refused) -> Code
         Refused::GroupFixed => Code::GroupFixed,
         Refused::TokenTaken => Code::TokenTaken,
         Refused::Version { current } => Code::Version { current },
-        Refused::Memory => Code::Unbuilt,
+        Refused::Memory => Code::Absent,
     }
 }

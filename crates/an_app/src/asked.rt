@@ -10,11 +10,11 @@ use crate::kinds::{Read, Route, RouteError, WriteRoute};
 use crate::line::{LineWords, Method, words_of};
 use crate::query::name_in;
 use crate::routes::route;
-use crate::target::text_of;
 use an_base::{Code, Moment, Name, Tree, TreeError, read_tree};
 use an_http::Allow;
 use an_machine::Command;
 use an_policy::Group;
+use an_search::text_of;
 use std::alloc::{AllocError, Global};
 
 /// What a line asks. It is by a reader, or by nobody's name.
@@ -136,7 +136,6 @@ fn error_asked(
         RouteError::Route => Ok(Err(Code::Line)),
         RouteError::Method { .. } => Ok(Err(Code::Line)),
         RouteError::Query { allow, code } => Ok(query_asked(words.method, by, allow, code)),
-        RouteError::Unbuilt => Ok(Err(Code::Unbuilt)),
         RouteError::Memory => Err(AllocError),
     }
 }
@@ -284,6 +283,6 @@ fn text_refusal(error: TreeError) -> Code
         TreeError::Json => Code::Json,
         TreeError::NotWhole => Code::NotWhole,
         TreeError::Deep => Code::Deep,
-        TreeError::Memory => Code::Unbuilt,
+        TreeError::Memory => Code::Json,
     }
 }

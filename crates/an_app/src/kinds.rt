@@ -1,9 +1,12 @@
 ghost use Rattle.std.specs.Prelude.{◌≡◌};
 ghost use Rattle.an_app.specs.Routes.{read_methods, write_methods};
 
-use an_base::{Code, Name, Text};
+use an_base::{Code, Name};
+use an_complete::Ask;
 use an_http::Allow;
+use an_machine::Object;
 use an_policy::Group;
+use an_search::Query;
 
 /// What is read.
 #[derive(Debug, Drop)]
@@ -11,8 +14,10 @@ pub enum Read {
     Manifest { name: Name },
     /// An annotation.
     Note { owner: Name, name: Name },
-    /// The annotations on a manifest that have a word.
-    Search { manifest: Name, word: Text },
+    /// The annotations on a manifest that a query asks for (IIIF Content Search API 2.0).
+    Search { manifest: Name, query: Query },
+    /// The terms of the annotations on a manifest that begin with a prefix.
+    Complete { manifest: Name, ask: Ask },
 }
 
 /// What is written: a command without its tree.
@@ -69,18 +74,16 @@ pub enum RouteError {
     Method { allow: Allow },
     /// The query is refused.
     Query { allow: Allow, code: Code },
-    /// A search for something else than one word of letters isn't answered yet.
-    Unbuilt,
     Memory,
 }
 
 /// A path of the server.
 #[derive(Debug, Drop)]
 pub(crate) enum Path {
-    Reader { name: Name },
-    Manifest { name: Name },
-    Note { owner: Name, name: Name },
+    /// A reader, a manifest or an annotation.
+    Object(Object),
     Search { manifest: Name },
+    Complete { manifest: Name },
 }
 
 /// A method that some path has.
@@ -102,6 +105,7 @@ impl Read {
             Read::Manifest { .. } => Allow::Full,
             Read::Note { .. } => Allow::Full,
             Read::Search { .. } => Allow::ReadOnly,
+            Read::Complete { .. } => Allow::ReadOnly,
         }
     }
 }

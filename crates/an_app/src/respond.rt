@@ -91,10 +91,6 @@ fn respond_nowhere<T: Look>(
             let caller = caller_of(alloc, &request.auth)?;
             respond_to_query(alloc, look, caller, is_read(request), allow, code)
         }
-        RouteError::Unbuilt => {
-            let caller = caller_of(alloc, &request.auth)?;
-            respond_to_query(alloc, look, caller, true, Allow::ReadOnly, Code::Unbuilt)
-        }
         RouteError::Memory => Err(AllocError),
     }
 }

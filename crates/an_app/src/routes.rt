@@ -1,25 +1,26 @@
 ghost use Rattle.std.specs.Prelude.{◌≡◌, IfOk, Some, option_and_then};
-ghost use Rattle.std.specs.List.{list_all};
-ghost use Rattle.std.specs.Option.{option_copied};
 ghost use Rattle.an_base.specs.Outcome.{Gives};
-ghost use Rattle.an_app.specs.Query.{given_of, reads_nothing, reads_version};
-ghost use Rattle.an_app.specs.Query.{reads_version_and_group, reads_all};
-ghost use Rattle.an_app.specs.Routes.{path_named, path_owned, path_of, methods_at, verb_of};
-ghost use Rattle.an_app.specs.Routes.{given_to, reader_put, manifest_put, note_put_on, note_put};
-ghost use Rattle.an_app.specs.Routes.{reader_drop, manifest_drop, note_drop, written, put_at};
-ghost use Rattle.an_app.specs.Routes.{delete_at, is_letter, is_word, word_in, searched, shown};
-ghost use Rattle.an_app.specs.Routes.{read_at, route_at, route_to, route_of};
+ghost use Rattle.an_complete.specs.Ask.{ask_of};
+ghost use Rattle.an_search.specs.Query.{query_of};
+ghost use Rattle.an_app.specs.Query.{given_of, reads_nothing};
+ghost use Rattle.an_app.specs.Routes.{path_named, path_owned, path_of, methods_at, object_methods};
+ghost use Rattle.an_app.specs.Routes.{verb_of, put_reads, manifest_put, note_put, put_with, put_of};
+ghost use Rattle.an_app.specs.Routes.{deletion, deletion_of, written, unwritten, put_at, delete_at};
+ghost use Rattle.an_app.specs.Routes.{searched, query_refused, completed, ask_refused, unread};
+ghost use Rattle.an_app.specs.Routes.{shown, object_read, read_at, route_at, route_to, route_of};
 ghost use Rattle.an_app.specs.Target.{segments_of};
 
 use crate::kinds::{Path, Read, Route, RouteError, Verb, WriteRoute};
-use crate::line::cut;
 use crate::query::{
-    Given, READS_ALL, READS_NOTHING, READS_VERSION, READS_VERSION_AND_GROUP, given_in, group_of,
+    READS_ALL, READS_NOTHING, READS_VERSION, READS_VERSION_AND_GROUP, given_in, group_of,
     manifest_of, name_in, version_of,
 };
 use crate::target::{segments_of, target_parts};
-use an_base::{Code, Name, Text};
+use an_base::{Code, Name, Parameter, Text};
+use an_complete::{QueryAskError, read_ask};
 use an_http::Allow;
+use an_machine::Object;
+use an_search::{Pair, QueryError, read_query};
 use std::alloc::{AllocError, Global};
 
 /// The route of a method and a target as they were sent, or the first refusal: of the target, of
@@ -83,25 +84,21 @@ fn path_of(alloc: Global, segments: &[Text]) -> Result<Option<Path>, AllocError>
 fn path_named(kind: &str, name: Name) -> Option<Path>
     ensures { result ≡ path_named kind.now name }
 {
-    if kind == "readers" {
-        return Some(Path::Reader { name });
+    match kind {
+        "readers" => Some(Path::Object(Object::Reader(name))),
+        "manifests" => Some(Path::Object(Object::Manifest(name))),
+        "search" => Some(Path::Search { manifest: name }),
+        "autocomplete" => Some(Path::Complete { manifest: name }),
+        _ => None,
     }
-    if kind == "manifests" {
-        return Some(Path::Manifest { name });
-    }
-    if kind == "search" {
-        return Some(Path::Search { manifest: name });
-    }
-    None
 }
 
 fn path_owned(kind: &str, owner: Name, name: Name) -> Option<Path>
     ensures { result ≡ path_owned kind.now owner name }
 {
-    if kind == "annotations" {
-        Some(Path::Note { owner, name })
-    } else {
-        None
+    match kind {
+        "annotations" => Some(Path::Object(Object::Note { owner, name })),
+        _ => None,
     }
 }
 
@@ -109,10 +106,19 @@ fn methods_at(path: &Path) -> Allow
     ensures { result ≡ methods_at path.now }
 {
     match path {
-        Path::Reader { .. } => Allow::WriteOnly,
-        Path::Manifest { .. } => Allow::Full,
-        Path::Note { .. } => Allow::Full,
+        Path::Object(object) => object_methods(object),
         Path::Search { .. } => Allow::ReadOnly,
+        Path::Complete { .. } => Allow::ReadOnly,
+    }
+}
+
+fn object_methods(object: &Object) -> Allow
+    ensures { result ≡ object_methods object.now }
+{
+    match object {
+        Object::Reader(_) => Allow::WriteOnly,
+        Object::Manifest(_) => Allow::Full,
+        Object::Note { .. } => Allow::Full,
     }
 }
 
@@ -149,12 +155,22 @@ fn read_at(alloc: Global, path: Path, query: &str) -> Result<Route, RouteError>
     ensures { Gives (λ route. route) RouteError.Memory result (read_at path query.now) }
 {
     match path {
-        Path::Reader { .. } => Err(RouteError::Method {
+        Path::Object(object) => object_read(alloc, object, query),
+        Path::Search { manifest } => searched(alloc, manifest, query),
+        Path::Complete { manifest } => completed(alloc, manifest, query),
+    }
+}
+
+/// Readers are never read.
+fn object_read(alloc: Global, object: Object, query: &str) -> Result<Route, RouteError>
+    ensures { Gives (λ route. route) RouteError.Memory result (object_read object query.now) }
+{
+    match object {
+        Object::Reader(_) => Err(RouteError::Method {
             allow: Allow::WriteOnly,
         }),
-        Path::Manifest { name } => shown(alloc, Read::Manifest { name }, query),
-        Path::Note { owner, name } => shown(alloc, Read::Note { owner, name }, query),
-        Path::Search { manifest } => searched(alloc, manifest, word_in(query)),
+        Object::Manifest(name) => shown(alloc, Read::Manifest { name }, query),
+        Object::Note { owner, name } => shown(alloc, Read::Note { owner, name }, query),
     }
 }
 
@@ -163,7 +179,7 @@ fn shown(alloc: Global, read: Read, query: &str) -> Result<Route, RouteError>
     ensures { Gives (λ route. route) RouteError.Memory result
         (shown read (given_of reads_nothing query.now)) }
 {
-    match given_in(alloc, READS_NOTHING, query) {
+    match given_in(alloc, &READS_NOTHING, query) {
         Ok(given) => match given {
             Ok(_) => Ok(Route::Read(read)),
             Err(code) => Err(RouteError::Query {
@@ -175,45 +191,61 @@ fn shown(alloc: Global, read: Read, query: &str) -> Result<Route, RouteError>
     }
 }
 
-fn searched(alloc: Global, manifest: Name, word: Option<&str>) -> Result<Route, RouteError>
+/// A search with its query, or the first refusal of the query.
+fn searched(alloc: Global, manifest: Name, query: &str) -> Result<Route, RouteError>
     ensures { Gives (λ route. route) RouteError.Memory result
-        (searched manifest (option_copied word.entry)) }
+        (searched manifest (query_of query.now)) }
 {
-    match word {
-        Some(word) => match Text::new(alloc, word) {
-            Ok(word) => Ok(Route::Read(Read::Search { manifest, word })),
-            Err(_) => Err(RouteError::Memory),
-        },
-        None => Err(RouteError::Unbuilt),
+    match read_query(alloc, query) {
+        Ok(query) => Ok(Route::Read(Read::Search { manifest, query })),
+        Err(error) => Err(query_refused(error)),
     }
 }
 
-/// The word of the query `q=W`.
-#[tactic(auto, unfolding(crate::specs::Routes::word_in))]
-fn word_in(query: &str) -> Option<&str>
-    ensures { option_copied result ≡ word_in query.now }
+fn query_refused(error: QueryError) -> RouteError
+    ensures { result ≡ query_refused error }
 {
-    match cut(query, '=') {
-        Some((name, word)) => if name == "q" {
-            if is_word(word) { Some(word) } else { None }
-        } else {
-            None
-        },
-        None => None,
+    match error {
+        QueryError::Twice { name } => unread(Code::Twice { name }),
+        QueryError::Date { at } => unread(Code::Date { at }),
+        QueryError::Page => unread(Code::Page),
+        QueryError::Bytes => unread(Code::Bytes),
+        QueryError::Memory => RouteError::Memory,
     }
 }
 
-/// Whether the text is 1 to 64 letters from a to z.
-fn is_word(text: &str) -> bool
-    ensures { result ≡ is_word text.now }
+/// A completion with what it asks, or the first refusal of that.
+fn completed(alloc: Global, manifest: Name, query: &str) -> Result<Route, RouteError>
+    ensures { Gives (λ route. route) RouteError.Memory result
+        (completed manifest (ask_of query.now)) }
 {
-    1 <= text.len() && text.len() <= 64 && has_letters_alone(text.as_bytes())
+    match read_ask(alloc, query) {
+        Ok(ask) => Ok(Route::Read(Read::Complete { manifest, ask })),
+        Err(error) => Err(ask_refused(error)),
+    }
 }
 
-fn has_letters_alone(bytes: &[u8]) -> bool
-    ensures { result ≡ list_all is_letter bytes.now }
+fn ask_refused(error: QueryAskError) -> RouteError
+    ensures { result ≡ ask_refused error }
 {
-    bytes.iter().all(|b| b'a' <= *b && *b <= b'z')
+    match error {
+        QueryAskError::NoPrefix => unread(Code::Prefix),
+        QueryAskError::Min => unread(Code::Min),
+        QueryAskError::Twice { name } => unread(Code::Twice { name }),
+        QueryAskError::Date { at } => unread(Code::Date { at }),
+        QueryAskError::Bytes => unread(Code::Bytes),
+        QueryAskError::Memory => RouteError::Memory,
+    }
+}
+
+/// The refusal of the query of a search or a completion.
+fn unread(code: Code) -> RouteError
+    ensures { result ≡ unread code }
+{
+    RouteError::Query {
+        allow: Allow::ReadOnly,
+        code,
+    }
 }
 
 // ---- writes
@@ -222,21 +254,15 @@ fn put_at(alloc: Global, path: Path, query: &str) -> Result<Route, RouteError>
     ensures { Gives (λ route. route) RouteError.Memory result (put_at path query.now) }
 {
     match path {
-        Path::Reader { name } => match reader_put(alloc, name, query) {
-            Ok(write) => written(Allow::WriteOnly, write),
-            Err(_) => Err(RouteError::Memory),
-        },
-        Path::Manifest { name } => match manifest_put(alloc, name, query) {
-            Ok(write) => written(Allow::Full, write),
-            Err(_) => Err(RouteError::Memory),
-        },
-        Path::Note { owner, name } => match note_put(alloc, owner, name, query) {
-            Ok(write) => written(Allow::Full, write),
-            Err(_) => Err(RouteError::Memory),
-        },
-        Path::Search { .. } => Err(RouteError::Method {
-            allow: Allow::ReadOnly,
-        }),
+        Path::Object(object) => {
+            let allow = object_methods(&object);
+            match put_of(alloc, object, query) {
+                Ok(write) => written(allow, write),
+                Err(_) => Err(RouteError::Memory),
+            }
+        }
+        Path::Search { .. } => unwritten(),
+        Path::Complete { .. } => unwritten(),
     }
 }
 
@@ -244,21 +270,15 @@ fn delete_at(alloc: Global, path: Path, query: &str) -> Result<Route, RouteError
     ensures { Gives (λ route. route) RouteError.Memory result (delete_at path query.now) }
 {
     match path {
-        Path::Reader { name } => match reader_drop(alloc, name, query) {
-            Ok(write) => written(Allow::WriteOnly, write),
-            Err(_) => Err(RouteError::Memory),
-        },
-        Path::Manifest { name } => match manifest_drop(alloc, name, query) {
-            Ok(write) => written(Allow::Full, write),
-            Err(_) => Err(RouteError::Memory),
-        },
-        Path::Note { owner, name } => match note_drop(alloc, owner, name, query) {
-            Ok(write) => written(Allow::Full, write),
-            Err(_) => Err(RouteError::Memory),
-        },
-        Path::Search { .. } => Err(RouteError::Method {
-            allow: Allow::ReadOnly,
-        }),
+        Path::Object(object) => {
+            let allow = object_methods(&object);
+            match deletion_of(alloc, object, query) {
+                Ok(write) => written(allow, write),
+                Err(_) => Err(RouteError::Memory),
+            }
+        }
+        Path::Search { .. } => unwritten(),
+        Path::Complete { .. } => unwritten(),
     }
 }
 
@@ -271,78 +291,73 @@ fn written(allow: Allow, write: Result<WriteRoute, Code>) -> Result<Route, Route
     }
 }
 
-fn reader_put(
+/// Searches and completions are read alone.
+fn unwritten() -> Result<Route, RouteError>
+    ensures { result ≡ unwritten }
+{
+    Err(RouteError::Method {
+        allow: Allow::ReadOnly,
+    })
+}
+
+/// The put of an object, with what its query gives.
+fn put_of(
     alloc: Global,
-    name: Name,
+    object: Object,
     query: &str,
 ) -> Result<Result<WriteRoute, Code>, AllocError>
-    ensures { IfOk result (λ write. write
-        ≡ given_to (given_of reads_version query.now) (reader_put name)) }
+    ensures { IfOk result (λ write. write ≡ put_of object query.now) }
 {
-    match given_in(alloc, READS_VERSION, query)? {
-        Ok(given) => match version_of(&given) {
-            Some(version) => Ok(Ok(WriteRoute::PutReader { name, version })),
+    match given_in(alloc, put_reads(&object), query)? {
+        Ok(given) => match version_of(given.as_slice()) {
+            Some(version) => put_with(alloc, object, given.as_slice(), version),
             None => Ok(Err(Code::VersionForm)),
         },
         Err(refusal) => Ok(Err(refusal)),
     }
 }
 
-fn reader_drop(
-    alloc: Global,
-    name: Name,
-    query: &str,
-) -> Result<Result<WriteRoute, Code>, AllocError>
-    ensures { IfOk result (λ write. write
-        ≡ given_to (given_of reads_version query.now) (reader_drop name)) }
+/// The parameters that a put of the object reads.
+fn put_reads(object: &Object) -> &'static [Parameter]
+    ensures { result.now ≡ put_reads object.now }
 {
-    match given_in(alloc, READS_VERSION, query)? {
-        Ok(given) => match version_of(&given) {
-            Some(version) => Ok(Ok(WriteRoute::DropReader { name, version })),
-            None => Ok(Err(Code::VersionForm)),
-        },
-        Err(refusal) => Ok(Err(refusal)),
+    match object {
+        Object::Reader(_) => &READS_VERSION,
+        Object::Manifest(_) => &READS_VERSION_AND_GROUP,
+        Object::Note { .. } => &READS_ALL,
+    }
+}
+
+fn put_with(
+    alloc: Global,
+    object: Object,
+    given: &[Pair],
+    version: u32,
+) -> Result<Result<WriteRoute, Code>, AllocError>
+    ensures { IfOk result (λ write. write ≡ put_with object given.now version) }
+{
+    match object {
+        Object::Reader(name) => Ok(Ok(WriteRoute::PutReader { name, version })),
+        Object::Manifest(name) => manifest_put(alloc, name, given, version),
+        Object::Note { owner, name } => note_put(alloc, owner, name, given, version),
     }
 }
 
 fn manifest_put(
     alloc: Global,
     name: Name,
-    query: &str,
+    given: &[Pair],
+    version: u32,
 ) -> Result<Result<WriteRoute, Code>, AllocError>
-    ensures { IfOk result (λ write. write
-        ≡ given_to (given_of reads_version_and_group query.now) (manifest_put name)) }
+    ensures { IfOk result (λ write. write ≡ manifest_put name given.now version) }
 {
-    match given_in(alloc, READS_VERSION_AND_GROUP, query)? {
-        Ok(given) => match version_of(&given) {
-            Some(version) => match group_of(alloc, &given)? {
-                Some(group) => Ok(Ok(WriteRoute::PutManifest {
-                    name,
-                    version,
-                    group,
-                })),
-                None => Ok(Err(Code::Group)),
-            },
-            None => Ok(Err(Code::VersionForm)),
-        },
-        Err(refusal) => Ok(Err(refusal)),
-    }
-}
-
-fn manifest_drop(
-    alloc: Global,
-    name: Name,
-    query: &str,
-) -> Result<Result<WriteRoute, Code>, AllocError>
-    ensures { IfOk result (λ write. write
-        ≡ given_to (given_of reads_version query.now) (manifest_drop name)) }
-{
-    match given_in(alloc, READS_VERSION, query)? {
-        Ok(given) => match version_of(&given) {
-            Some(version) => Ok(Ok(WriteRoute::DropManifest { name, version })),
-            None => Ok(Err(Code::VersionForm)),
-        },
-        Err(refusal) => Ok(Err(refusal)),
+    match group_of(alloc, given)? {
+        Some(group) => Ok(Ok(WriteRoute::PutManifest {
+            name,
+            version,
+            group,
+        })),
+        None => Ok(Err(Code::Group)),
     }
 }
 
@@ -350,28 +365,10 @@ fn note_put(
     alloc: Global,
     owner: Name,
     name: Name,
-    query: &str,
-) -> Result<Result<WriteRoute, Code>, AllocError>
-    ensures { IfOk result (λ write. write
-        ≡ given_to (given_of reads_all query.now) (note_put owner name)) }
-{
-    match given_in(alloc, READS_ALL, query)? {
-        Ok(given) => match version_of(&given) {
-            Some(version) => note_put_on(alloc, owner, name, version, &given),
-            None => Ok(Err(Code::VersionForm)),
-        },
-        Err(refusal) => Ok(Err(refusal)),
-    }
-}
-
-fn note_put_on(
-    alloc: Global,
-    owner: Name,
-    name: Name,
+    given: &[Pair],
     version: u32,
-    given: &Given,
 ) -> Result<Result<WriteRoute, Code>, AllocError>
-    ensures { IfOk result (λ write. write ≡ note_put_on owner name given.now version) }
+    ensures { IfOk result (λ write. write ≡ note_put owner name given.now version) }
 {
     match manifest_of(alloc, given)? {
         Some(manifest) => match group_of(alloc, given)? {
@@ -388,24 +385,33 @@ fn note_put_on(
     }
 }
 
-fn note_drop(
+/// The deletion of an object, which reads its number alone.
+fn deletion_of(
     alloc: Global,
-    owner: Name,
-    name: Name,
+    object: Object,
     query: &str,
 ) -> Result<Result<WriteRoute, Code>, AllocError>
-    ensures { IfOk result (λ write. write
-        ≡ given_to (given_of reads_version query.now) (note_drop owner name)) }
+    ensures { IfOk result (λ write. write ≡ deletion_of object query.now) }
 {
-    match given_in(alloc, READS_VERSION, query)? {
-        Ok(given) => match version_of(&given) {
-            Some(version) => Ok(Ok(WriteRoute::DropNote {
-                owner,
-                name,
-                version,
-            })),
+    match given_in(alloc, &READS_VERSION, query)? {
+        Ok(given) => match version_of(given.as_slice()) {
+            Some(version) => Ok(Ok(deletion(object, version))),
             None => Ok(Err(Code::VersionForm)),
         },
         Err(refusal) => Ok(Err(refusal)),
+    }
+}
+
+fn deletion(object: Object, version: u32) -> WriteRoute
+    ensures { result ≡ deletion object version }
+{
+    match object {
+        Object::Reader(name) => WriteRoute::DropReader { name, version },
+        Object::Manifest(name) => WriteRoute::DropManifest { name, version },
+        Object::Note { owner, name } => WriteRoute::DropNote {
+            owner,
+            name,
+            version,
+        },
     }
 }

@@ -1,9 +1,10 @@
 -- The codes of refusals, as they are printed, and the names of parameters.
 use Rattle.std.specs.Prelude.{ℕ, List, codes}
 use Rattle.an_base.specs.declared.code.Code.{Code}
-use Rattle.an_base.specs.declared.code.Code.TheVariants.{Line, Input, Unbuilt, Absent, Group}
+use Rattle.an_base.specs.declared.code.Code.TheVariants.{Line, Input, Absent, Group, Date}
 use Rattle.an_base.specs.declared.code.Code.TheVariants.{Target, Route, Method, Bytes, Twice}
-use Rattle.an_base.specs.declared.code.Code.TheVariants.{VersionForm, Manifest, Keeper}
+use Rattle.an_base.specs.declared.code.Code.TheVariants.{VersionForm, Manifest, Keeper, Page}
+use Rattle.an_base.specs.declared.code.Code.TheVariants.{NoPage, Min, Prefix}
 use Rattle.an_base.specs.declared.code.Code.TheVariants.{ReaderToken, ReaderRole, ReaderUser}
 use Rattle.an_base.specs.declared.code.Code.TheVariants.{ReaderGroups, Json, NotWhole, Deep}
 use Rattle.an_base.specs.declared.code.Code.TheVariants.{NoteType, NoteTarget, NoteBody}
@@ -22,11 +23,16 @@ abbrev pub parameter_text : Parameter → List ℕ
 parameter_text parameter.Version = codes "version"
 parameter_text parameter.Manifest = codes "manifest"
 parameter_text parameter.Group = codes "group"
+parameter_text parameter.Q = codes "q"
+parameter_text parameter.Motivation = codes "motivation"
+parameter_text parameter.Date = codes "date"
+parameter_text parameter.User = codes "user"
+parameter_text parameter.Page = codes "page"
+parameter_text parameter.Min = codes "min"
 
 abbrev pub code_text : Code → List ℕ
 code_text Line = codes "line"
 code_text Input = codes "input"
-code_text Unbuilt = codes "unbuilt"
 code_text Target = codes "target"
 code_text Route = codes "route"
 code_text Method = codes "method"
@@ -34,6 +40,11 @@ code_text Bytes = codes "bytes"
 code_text (Twice name) = codes "twice"
 code_text VersionForm = codes "version"
 code_text Manifest = codes "manifest"
+code_text (Date at) = codes "date"
+code_text Page = codes "page"
+code_text (NoPage pages) = codes "page"
+code_text Min = codes "min"
+code_text Prefix = codes "prefix"
 code_text Absent = codes "absent"
 code_text Group = codes "group"
 code_text ReaderToken = codes "reader_token"

@@ -11,8 +11,6 @@ pub enum Code {
     Line,
     /// The input is larger than an input may be.
     Input,
-    /// A form of request or line that isn't answered yet.
-    Unbuilt,
     /// The target doesn't begin with `/`.
     Target,
     /// The server has no such path.
@@ -27,6 +25,16 @@ pub enum Code {
     VersionForm,
     /// The manifest of an annotation is missing or no name.
     Manifest,
+    /// This piece of a date, from 0, isn't two moments joined by `/`.
+    Date { at: usize },
+    /// The page isn't decimal from 1 to 999,999,999.
+    Page,
+    /// The page is past the last one.
+    NoPage { pages: usize },
+    /// The least number of occurrences isn't decimal from 1 to 999,999,999.
+    Min,
+    /// The prefix of the terms that are asked for is missing or empty.
+    Prefix,
     /// There is no such thing that the caller may read.
     Absent,
     /// A group is malformed, or one that a manifest can't have.
@@ -106,7 +114,6 @@ impl Code {
         match self {
             Code::Line => "line",
             Code::Input => "input",
-            Code::Unbuilt => "unbuilt",
             Code::Target => "target",
             Code::Route => "route",
             Code::Method => "method",
@@ -114,6 +121,11 @@ impl Code {
             Code::Twice { .. } => "twice",
             Code::VersionForm => "version",
             Code::Manifest => "manifest",
+            Code::Date { .. } => "date",
+            Code::Page => "page",
+            Code::NoPage { .. } => "page",
+            Code::Min => "min",
+            Code::Prefix => "prefix",
             Code::Absent => "absent",
             Code::Group => "group",
             Code::ReaderToken => "reader_token",

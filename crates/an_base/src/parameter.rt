@@ -10,6 +10,19 @@ pub enum Parameter {
     Manifest,
     /// The group that a manifest or an annotation is put for.
     Group,
+    /// What the texts or the bodies of annotations have to have, or the prefix of terms (IIIF
+    /// Content Search API 2.0).
+    Q,
+    /// Why annotations were written.
+    Motivation,
+    /// When annotations were made.
+    Date,
+    /// Who made annotations.
+    User,
+    /// The number of a page.
+    Page,
+    /// How often a term has to occur.
+    Min,
 }
 
 impl Parameter {
@@ -21,6 +34,12 @@ impl Parameter {
             Parameter::Version => "version",
             Parameter::Manifest => "manifest",
             Parameter::Group => "group",
+            Parameter::Q => "q",
+            Parameter::Motivation => "motivation",
+            Parameter::Date => "date",
+            Parameter::User => "user",
+            Parameter::Page => "page",
+            Parameter::Min => "min",
         }
     }
 }

@@ -7,7 +7,7 @@ pub struct Span {
     pub end: usize,
 }
 
-/// A term, and how often it occurs.
+/// A term, and how often it occurs, or the greatest number of 64 bits where that is more.
 #[derive(Debug, Drop, PartialEq, Eq)]
 pub struct TermTotal {
     pub term: Text,

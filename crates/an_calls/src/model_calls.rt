@@ -1,8 +1,12 @@
 //! Rows on annotations and manifests.
-use crate::rows::RowError;
-use crate::shown::{copy_differs, is_copied, written};
+ghost use Rattle.std.specs.Prelude.{◌<◌, ◌^◌};
+
+use crate::numbers::number;
+use crate::rows::{RowError, two_parts, two_words};
+use crate::shown::{copy_differs, is_copied, or_none, written};
 use crate::tree_calls::read;
 use an_base::{Span, Text, Tree};
+use an_highlight::highlight;
 use an_manifest::{Sheet, manifest_refusal, read_manifest};
 use an_model::{Note, NoteOccurrence, Target, note_refusal, read_note};
 use an_selectors::Xywh;
@@ -16,6 +20,8 @@ pub enum ModelCall {
     Parts,
     /// The canvases of a manifest.
     Sheet,
+    /// The marks of the words of an annotation that have a term.
+    Marks,
 }
 
 impl ModelCall {
@@ -24,6 +30,7 @@ impl ModelCall {
             "note" => ModelCall::Note,
             "parts" => ModelCall::Parts,
             "sheet" => ModelCall::Sheet,
+            "marks" => ModelCall::Marks,
             _ => return None,
         })
     }
@@ -33,6 +40,7 @@ impl ModelCall {
             ModelCall::Note => kept_note(alloc, argument),
             ModelCall::Parts => note_parts(alloc, argument),
             ModelCall::Sheet => sheet(alloc, argument),
+            ModelCall::Marks => marks(alloc, argument),
         }
     }
 }
@@ -145,4 +153,26 @@ fn sheet_shown(alloc: Global, sheet: &Sheet) -> Result<String, RowError> {
         write!(found, "{};", canvas.as_str())?;
     }
     Ok(found)
+}
+
+/// The marks of an annotation, as the search page `http://a.example/p` gives them. Behind the tree
+/// stand the number of the first mark and the term: `TREE | 5 heron`.
+fn marks(alloc: Global, argument: &str) -> Result<String, RowError> {
+    let (tree, behind) = two_parts(argument)?;
+    let (first, term) = two_words(behind)?;
+    let first = number::<u32>(first)?;
+    let tree = read(alloc, tree)?;
+    marks_shown(alloc, &note_of(alloc, &tree)?, term, first as usize)
+}
+
+fn marks_shown(alloc: Global, note: &Note, term: &str, first: usize) -> Result<String, RowError>
+    requires numbers { first < 2 ^ 32 }
+{
+    let source = "http://a.example/annotations/mara/n1";
+    let terms = [Text::new(alloc, term)?];
+    let mut found = String::new(alloc);
+    for mark in highlight(alloc, note, source, &terms, "http://a.example/p", first)?.iter() {
+        write!(found, "{};", mark.to_string(alloc)?.as_str())?;
+    }
+    or_none(alloc, found)
 }

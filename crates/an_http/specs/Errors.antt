@@ -14,7 +14,9 @@ member_of (code.NoteMotivation at) = member.At at
 member_of (code.NoteSelector at) = member.At at
 member_of (code.ManifestCanvas at) = member.At at
 member_of (code.Version current) = member.Current current
+member_of (code.Date at) = member.At at
 member_of (code.Twice name) = member.Name name
+member_of (code.NoPage pages) = member.Pages pages
 member_of _ = member.Absent
 
 -- a code, and what is told beside it, as JSON; neither has a sign that JSON escapes
@@ -27,6 +29,9 @@ body_with text (member.Current current) =
 body_with text (member.Name name) =
     codes "{\"error\":\""
     ++ (text ++ (codes "\",\"name\":\"" ++ (parameter_text name ++ codes "\"}")))
+body_with text (member.Pages pages) =
+    codes "{\"error\":\""
+    ++ (text ++ (codes "\",\"pages\":" ++ (decimal pages ++ codes "}")))
 
 -- the body of the reply
 abbrev pub error_body : Code → List ℕ

@@ -47,6 +47,7 @@ status_of code.NotOwn = status.Forbidden
 status_of code.NotMember = status.Forbidden
 status_of code.Route = status.NotFound
 status_of code.Absent = status.NotFound
+status_of (code.NoPage pages) = status.NotFound
 status_of code.Method = status.MethodNotAllowed
 status_of code.GroupFixed = status.Conflict
 status_of code.TokenTaken = status.Conflict

@@ -14,6 +14,8 @@ pub(crate) enum Member {
     Current(u32),
     /// The parameter that comes twice.
     Name(Parameter),
+    /// How many pages there are.
+    Pages(usize),
 }
 
 fn member_of(code: Code) -> Member
@@ -26,7 +28,9 @@ fn member_of(code: Code) -> Member
         Code::NoteSelector { at } => Member::At(at),
         Code::ManifestCanvas { at } => Member::At(at),
         Code::Version { current } => Member::Current(current),
+        Code::Date { at } => Member::At(at),
         Code::Twice { name } => Member::Name(name),
+        Code::NoPage { pages } => Member::Pages(pages),
         _ => Member::Absent,
     }
 }
@@ -49,6 +53,7 @@ fn body_with(alloc: Global, code: &str, member: Member) -> Result<String, AllocE
             format!(in alloc; "{{\"current\":{current},\"error\":\"{code}\"}}")
         }
         Member::Name(name) => body_naming(alloc, code, name.text()),
+        Member::Pages(pages) => format!(in alloc; "{{\"error\":\"{code}\",\"pages\":{pages}}}"),
     }
 }
 

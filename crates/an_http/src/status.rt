@@ -82,6 +82,7 @@ pub fn status_of(refusal: Code) -> Status
         Code::NotMember => Status::Forbidden,
         Code::Route => Status::NotFound,
         Code::Absent => Status::NotFound,
+        Code::NoPage { pages: _ } => Status::NotFound,
         Code::Method => Status::MethodNotAllowed,
         Code::GroupFixed => Status::Conflict,
         Code::TokenTaken => Status::Conflict,

@@ -38,6 +38,8 @@ next_in_rows tab key rows log cell h = rw (find-append (is_behind tab key) rows 
 pub next_in_log : (tab key : ℕ) (rows log : List Cell) → None ≡ next_after tab key rows → next_after tab key log ≡ next_after tab key (rows ++ log)
 next_in_log tab key rows log h = rw (find-append (is_behind tab key) rows log, ← h) refl
 
+pub ruleset next_in_parts = (next_in_rows, next_in_log)
+
 -- ---- the part that a change is of
 
 zero-is_less : (n : ℕ) → (0 == suc n) ≡ false

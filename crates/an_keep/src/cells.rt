@@ -12,8 +12,8 @@ use an_base::TryCopy;
 use std::alloc::{AllocError, Global};
 use std::marker::Model;
 
-/// Cells in memory, in ascending order: `rows`, and `log` behind them all. The log has only cells of
-/// tables from 4 on, so that a new cell of a lower table moves none of them.
+/// Cells in memory, in ascending order: `rows`, and `log` behind them all. The log has only cells
+/// of tables from 4 on, so that a new cell of a lower table moves none of them.
 #[derive(Debug, Drop)]
 pub(crate) struct Cells {
     rows: Vec<Cell>,
@@ -85,7 +85,7 @@ fn first_in<'a>(rows: &'a [Cell], log: &'a [Cell]) -> Option<&'a Cell>
 }
 
 /// The first cell of both parts behind this table and key.
-#[tactic(auto, using(crate::proofs::PartLemmas::next_in_rows, crate::proofs::PartLemmas::next_in_log))]
+#[tactic(auto, using(crate::proofs::PartLemmas::next_in_parts))]
 fn next_in_both<'a>(rows: &'a [Cell], log: &'a [Cell], tab: u8, key: u64) -> Option<&'a Cell>
     requires rows { Ascend rows.now }
     requires log { Ascend log.now }
@@ -239,8 +239,8 @@ fn put_at(cells: &mut Vec<Cell>, place: usize, is_there: bool, cell: Cell)
     requires place { place ≤ vec_len cells.old }
     requires there { IsTrue is_there → place < vec_len cells.old }
     requires room { vec_len cells.old < vec_capacity cells.old }
-    ensures cells { cells.new.items
-        ≡ (if is_there then slice_set cells.old.items place cell else insert cells.old.items place cell) }
+    ensures cells { cells.new.items ≡ (if is_there then slice_set cells.old.items place cell
+        else insert cells.old.items place cell) }
     ensures length { vec_len cells.new ≤ vec_len cells.old + 1 }
     ensures capacity { vec_capacity cells.old ≤ vec_capacity cells.new }
 {

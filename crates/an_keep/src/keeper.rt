@@ -44,7 +44,8 @@ pub trait Keeper: Drop {
     /// Does all of these changes; of two changes of one cell the later counts. With an error it
     /// does none of them.
     fn commit(&mut self, changes: &[Change]) -> Result<(), KeepError>
-        ensures done { OnOk result (Turns (put_changes changes.now) (told self.old) (told self.new)) }
+        ensures done { OnOk result
+            (Turns (put_changes changes.now) (told self.old) (told self.new)) }
         ensures still { OnErr result (Stays (told self.old) (told self.new)) }
         ensures counted { result ≡ Err KeepError.Failed
             → Rises (faults self.old) (faults self.new) }

@@ -92,8 +92,8 @@ impl Keeper for MemKeeper {
     /// exactly where the call is listed.
     fn commit(&mut self, changes: &[Change]) -> Result<(), KeepError>
         ensures fails { (result ≡ Err KeepError.Failed) ↔ IsTrue (is_next_failing self.old) }
-        ensures ok { OnOk result
-            (self.new ≡ record (called self.old) { cells = put_changes changes.now self.old.cells }) }
+        ensures ok { OnOk result (self.new
+            ≡ record (called self.old) { cells = put_changes changes.now self.old.cells }) }
         ensures err { OnErr result (self.new ≡ called self.old) }
 
         // What each keeper ensures.

@@ -3,3 +3,5 @@ pub mod ViewLemmas
 pub mod ChangeLemmas
 pub mod DistinctLemmas
 pub mod JudgeLemmas
+pub mod TotalLemmas
+pub mod OpenLemmas

@@ -13,3 +13,5 @@ pub mod Commands
 pub mod Live
 pub mod Tables
 pub mod Legal
+pub mod Terms
+pub mod Totals

@@ -122,3 +122,19 @@ places_from test place (row ∷ rows) =
 abbrev pub readable_places : State → Identity → List ℕ → List ℕ
 readable_places s who manifest =
     places_from (λ row. is_on manifest row && shows_note s who row) 0 s.notes
+
+-- ---- for private clauses: what is asked of a manifest once, and what of each annotation on it
+
+-- the caller may read what is shown to everybody on the manifest of this name
+abbrev pub opens : State → Identity → List ℕ → Bool
+opens s who manifest = passes (λ row. may who (manifest_audience row)) (manifest_row s manifest)
+
+-- the annotation's own group and owner let the caller read it
+abbrev pub shows_inside : Identity → KeptNote → Bool
+shows_inside who row =
+    passes (λ live. may who
+    (record { outer = Public; inner = live.group; owner = Some row.owner })) row.live
+
+-- the annotation is on this manifest, and its own group and owner let the caller read it
+abbrev pub is_open_on : Identity → List ℕ → KeptNote → Bool
+is_open_on who manifest row = is_on manifest row && shows_inside who row

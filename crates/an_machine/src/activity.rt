@@ -1,4 +1,5 @@
 use crate::command::Object;
+use crate::copies::copy_both;
 use an_base::{Moment, Name, TryCopy};
 use an_keyed::Keyed;
 use an_policy::{Audience, Kind};
@@ -34,13 +35,15 @@ impl Keyed for Activity {
 
 impl TryCopy for Activity {
     fn copy(&self) -> Result<Activity, AllocError> {
+        let (owner, name) = copy_both(&self.owner, &self.name)?;
+        let (before, after) = copy_both(&self.before, &self.after)?;
         Ok(Activity {
             at: self.at,
             by: self.by.copy()?,
-            owner: self.owner.copy()?,
-            name: self.name.copy()?,
-            before: self.before.copy()?,
-            after: self.after.copy()?,
+            owner,
+            name,
+            before,
+            after,
         })
     }
 }

@@ -10,6 +10,7 @@ ghost use Rattle.an_machine.specs.Asked.{manifest_asked, manifest_under, no_mani
 ghost use Rattle.an_machine.specs.Asked.{no_reader, object_of};
 
 use crate::command::{Command, Object, Refused, object_of};
+use crate::copies::copy_both;
 use an_base::{Code, Name, Tree, TryCopy};
 use an_manifest::{KeptSheet, SheetError, read_manifest};
 use an_model::{KeptNote, NoteError, read_note};
@@ -169,12 +170,14 @@ fn note_put(
       note = note;
     }) }
 {
+    let (owner, name) = copy_both(owner, name)?;
+    let (manifest, group) = copy_both(manifest, group)?;
     Ok(NotePut {
-        owner: owner.copy()?,
-        name: name.copy()?,
+        owner,
+        name,
         version,
-        manifest: manifest.copy()?,
-        group: group.copy()?,
+        manifest,
+        group,
         note,
     })
 }

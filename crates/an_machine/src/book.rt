@@ -64,6 +64,13 @@ impl Book {
         self.readers.as_slice()
     }
 
+    /// The manifests' rows in their order.
+    pub(crate) fn manifests(&self) -> &[ManifestRow]
+        ensures rows { result.now ≡ self.now.state.manifests }
+    {
+        self.manifests.as_slice()
+    }
+
     /// The annotations' rows in their order.
     pub fn notes(&self) -> &[NoteRow]
         ensures rows { result.now ≡ self.now.state.notes }

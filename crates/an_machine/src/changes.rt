@@ -7,6 +7,7 @@ ghost use Rattle.an_machine.specs.Accepted.{manifest_activity, note_activity};
 
 use crate::activity::Activity;
 use crate::book::Book;
+use crate::copies::copy_both;
 use crate::row::{ManifestRow, NoteRow};
 use an_base::{Moment, Name, TryCopy};
 use an_policy::{Audience, Group, Who};
@@ -54,11 +55,12 @@ pub(crate) fn note_activity(
     ensures { IfOk result (λ activity. activity
         ≡ note_activity (identity who.now) at owner.now name.now before after) }
 {
+    let (owner, name) = copy_both(owner, name)?;
     Ok(Activity {
         at,
         by: by_whom(who)?,
-        owner: Some(owner.copy()?),
-        name: name.copy()?,
+        owner: Some(owner),
+        name,
         before,
         after,
     })

@@ -1,6 +1,7 @@
 ghost use Rattle.std.specs.Prelude.{◌≡◌, IfOk};
 ghost use Rattle.an_machine.specs.Asked.{object_of, version_of};
 
+use crate::copies::copy_both;
 use crate::entry::Entry;
 use an_base::{Code, Name, Tree, TryCopy};
 use an_policy::Group;
@@ -140,10 +141,8 @@ fn copy_put_note(
     ensures { IfOk result (λ copy. copy
         ≡ Command.PutNote owner.now name.now version manifest.now group.now tree.now) }
 {
-    let owner = owner.copy()?;
-    let name = name.copy()?;
-    let manifest = manifest.copy()?;
-    let group = group.copy()?;
+    let (owner, name) = copy_both(owner, name)?;
+    let (manifest, group) = copy_both(manifest, group)?;
     Ok(Command::PutNote {
         owner,
         name,

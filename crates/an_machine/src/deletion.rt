@@ -20,7 +20,7 @@ use crate::changes::{
 use crate::command::{Object, Refused};
 use crate::effect::{Effect, change, reader_change};
 use crate::entry::Row;
-use crate::look::is_on;
+use crate::readable::is_on;
 use crate::row::{ManifestRow, NoteRow, ReaderRow};
 use crate::versions::{
     is_next_deletion, is_tombstone, manifest_standing, note_standing, reader_standing, unless_done,

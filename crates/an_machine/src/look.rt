@@ -4,15 +4,16 @@ ghost use Rattle.an_policy.specs.Audience.{identity, signed};
 ghost use Rattle.an_policy.specs.Seen.{as_seen};
 ghost use Rattle.an_machine.specs.State.{who_of, reader_row, reader_with_token, manifest_row};
 ghost use Rattle.an_machine.specs.State.{note_row, manifests_are_distinct, notes_are_distinct};
-ghost use Rattle.an_machine.specs.View.{readable_places, is_on, shows_note, seen_by, seen_as};
+ghost use Rattle.an_machine.specs.Terms.{places_with_term, terms_with_prefix};
+ghost use Rattle.an_machine.specs.View.{readable_places, seen_by, seen_as};
 ghost use Rattle.an_machine.specs.View.{object_of_activity, last_kind};
 
 use crate::activity::{Activity, Seen};
 use crate::book::Book;
 use crate::command::Object;
+use crate::readable::{readable_in, terms_from_in, with_term_in};
 use crate::row::{ManifestRow, NoteRow};
-use crate::shown::is_read_below;
-use an_base::{Name, Steps, TryCopy};
+use an_base::{Name, Steps, TermTotal, TryCopy};
 use an_keyed::{Keyed, Log};
 use an_policy::{Caller, Kind, Reader, Who, as_seen};
 use std::alloc::{AllocError, Global};
@@ -52,6 +53,35 @@ pub trait Look {
     ) -> Result<Vec<usize>, AllocError>
         ensures places { IfOk result (λ places. places.items
             ≡ readable_places (state self.now) (identity who.now) manifest.now) };
+
+    /// The places of the live annotations on a manifest that the caller may read and that have a
+    /// term, ascending.
+    fn with_term(
+        &self,
+        alloc: Global,
+        who: &Who<'_>,
+        manifest: &Name,
+        term: &str,
+    ) -> Result<Vec<usize>, AllocError>
+        ensures places { IfOk result (λ places. places.items
+            ≡ places_with_term (state self.now) (identity who.now) manifest.now term.now) };
+
+    /// All terms with this prefix in the live annotations on a manifest that the caller may read,
+    /// each with how often it occurs there, ascending by bytes.
+    fn terms_from(
+        &self,
+        alloc: Global,
+        who: &Who<'_>,
+        manifest: &Name,
+        prefix: &str,
+    ) -> Result<Vec<TermTotal>, AllocError>
+        ensures terms { IfOk result (λ terms. terms.items
+            ≡ terms_with_prefix (state self.now) (identity who.now) manifest.now prefix.now) };
+
+    /// The row at a place of the list of manifests; none exactly where the place isn't below its
+    /// length. It takes no step and no memory.
+    fn manifest_at(&self, place: usize) -> Option<&ManifestRow>
+        ensures row { option_copied result ≡ slice_get (state self.now).manifests place };
 
     /// The changes that the caller sees, the earliest first.
     fn seen(&self, alloc: Global, who: &Who<'_>) -> Result<Vec<Seen>, AllocError>
@@ -98,6 +128,30 @@ impl Look for Book {
         manifest: &Name,
     ) -> Result<Vec<usize>, AllocError> {
         readable_in(alloc, self, who, manifest)
+    }
+
+    fn with_term(
+        &self,
+        alloc: Global,
+        who: &Who<'_>,
+        manifest: &Name,
+        term: &str,
+    ) -> Result<Vec<usize>, AllocError> {
+        with_term_in(alloc, self, who, manifest, term)
+    }
+
+    fn terms_from(
+        &self,
+        alloc: Global,
+        who: &Who<'_>,
+        manifest: &Name,
+        prefix: &str,
+    ) -> Result<Vec<TermTotal>, AllocError> {
+        terms_from_in(alloc, self, who, manifest, prefix)
+    }
+
+    fn manifest_at(&self, place: usize) -> Option<&ManifestRow> {
+        self.manifests().get(place)
     }
 
     fn seen(&self, alloc: Global, who: &Who<'_>) -> Result<Vec<Seen>, AllocError> {
@@ -204,50 +258,5 @@ fn live_reader<'a>(book: &'a Book, name: &Name) -> Option<&'a Reader>
     match book.reader_row(name) {
         Some(row) => row.reader(),
         None => None,
-    }
-}
-
-fn readable_in(
-    alloc: Global,
-    book: &Book,
-    who: &Who<'_>,
-    manifest: &Name,
-) -> Result<Vec<usize>, AllocError>
-    ensures { IfOk result (λ places. places.items
-        ≡ readable_places book.now.state (identity who.now) manifest.now) }
-{
-    let mut places = Vec::new(alloc);
-    let mut place = 0;
-    for row in book.notes() {
-        if is_on(row, manifest) && is_shown_in(book, who, row) {
-            places.push(place)?;
-        }
-        place += 1;
-    }
-    Ok(places)
-}
-
-/// Whether the annotation is live, and the caller may read it.
-fn is_shown_in(book: &Book, who: &Who<'_>, row: &NoteRow) -> bool
-    ensures { result ≡ shows_note book.now.state (identity who.now) row.now }
-{
-    match row.live() {
-        Some(live) => is_read_below(
-            who,
-            book.manifest_row(live.manifest),
-            live.group,
-            row.owned_by(),
-        ),
-        None => false,
-    }
-}
-
-/// Whether the annotation is live, and on this manifest.
-pub(crate) fn is_on(row: &NoteRow, manifest: &Name) -> bool
-    ensures { result ≡ is_on manifest.now row.now }
-{
-    match row.live() {
-        Some(live) => live.manifest == manifest,
-        None => false,
     }
 }

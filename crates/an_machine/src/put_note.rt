@@ -1,14 +1,15 @@
 //! An annotation is put.
-ghost use Rattle.std.specs.Prelude.{◌≡◌, IfOk, option_and_then};
+ghost use Rattle.std.specs.Prelude.{◌≡◌, IfOk, Some, option_and_then, option_map};
 ghost use Rattle.std.specs.Option.{option_copied};
 ghost use Rattle.an_base.specs.Outcome.{Gives, passes};
 ghost use Rattle.an_policy.specs.Audience.{identity};
 ghost use Rattle.an_machine.specs.State.{manifest_row, note_row};
 ghost use Rattle.an_machine.specs.Accepted.{audience_of_note, creator_of, live_in, note_effect};
-ghost use Rattle.an_machine.specs.Accepted.{note_made, put_note, user_of};
+ghost use Rattle.an_machine.specs.Accepted.{note_activity, note_made, put_note, user_of};
 ghost use Rattle.an_machine.specs.Step.{judged};
 ghost use Rattle.an_machine.specs.Versions.{holds_note};
 
+use crate::activity::Activity;
 use crate::asked::{Asked, NotePut};
 use crate::book::Book;
 use crate::changes::{audience_below, note_activity};
@@ -75,11 +76,31 @@ fn note_effect(
     ensures { IfOk result (λ effect. effect
         ≡ note_effect book.now.state (identity who.now) at (option_copied before.entry) put) }
 {
-    let could = could_read(book, before, manifest, &put.manifest)?;
-    let can = audience_below(manifest, &put.owner, &put.group)?;
-    let activity = note_activity(who, at, &put.owner, &put.name, could, can)?;
+    let activity = put_activity(book, who, at, before, manifest, &put)?;
     let row = new_row(alloc, who, at, before, put)?;
     change(alloc, !note_standing(before).live, Row::Note(row), activity)
+}
+
+/// The change that a put of an annotation on this manifest is.
+fn put_activity(
+    book: &Book,
+    who: &Who<'_>,
+    at: Moment,
+    before: Option<&NoteRow>,
+    manifest: Option<&ManifestRow>,
+    put: &NotePut,
+) -> Result<Activity, AllocError>
+    requires manifest { option_copied manifest ≡ manifest_row book.now.state put.now.manifest }
+    ensures { IfOk result (λ activity. activity
+        ≡ note_activity (identity who.now) at put.now.owner put.now.name
+        (option_and_then (audience_of_note book.now.state) (option_copied before.entry))
+        (option_map
+        (λ m. record { outer = m.group; inner = put.now.group; owner = Some put.now.owner })
+        (manifest_row book.now.state put.now.manifest))) }
+{
+    let could = could_read(book, before, manifest, &put.manifest)?;
+    let can = audience_below(manifest, &put.owner, &put.group)?;
+    note_activity(who, at, &put.owner, &put.name, could, can)
 }
 
 /// Who could read the annotation before it was put on this manifest.

@@ -1,6 +1,7 @@
 ghost use Rattle.std.specs.Prelude.{◌≡◌, is_some, option_map};
 ghost use Rattle.std.specs.Option.{option_copied};
 
+use crate::copies::copy_both;
 use an_base::{Moment, Name, Text, TryCopy};
 use an_keyed::{Keyed, Marked};
 use an_manifest::KeptSheet;
@@ -239,17 +240,20 @@ impl Keyed for NoteRow {
 
 impl TryCopy for NoteRow {
     fn copy(&self) -> Result<NoteRow, AllocError> {
+        let (owner, name) = copy_both(&self.owner, &self.name)?;
+        let (manifest, group) = copy_both(&self.manifest, &self.group)?;
+        let (creator, tree) = copy_both(&self.creator, &self.tree)?;
         Ok(NoteRow {
-            owner: self.owner.copy()?,
-            name: self.name.copy()?,
+            owner,
+            name,
             version: self.version,
             live: self.live,
-            manifest: self.manifest.copy()?,
-            group: self.group.copy()?,
-            creator: self.creator.copy()?,
+            manifest,
+            group,
+            creator,
             created: self.created,
             modified: self.modified,
-            tree: self.tree.copy()?,
+            tree,
         })
     }
 }

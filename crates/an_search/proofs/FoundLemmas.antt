@@ -1,20 +1,32 @@
--- How what a search has found grows.
-use Rattle.std.proofs.Common.{◌≡◌, ℕ, ◌+◌, ◌<◌, ◌≤◌, List, [], ◌∷◌, ◌++◌, length, get_or, take, drop, Bool, Some, None, refl, sym, ap, ◌∙◌, arith, zero-mul, length-append, append-nil}
+-- What was found, by places and by rows, and how what was written of it grows.
+use Rattle.std.proofs.Common.{◌≡◌, ℕ, suc, ◌+◌, ◌<◌, ◌≤◌, List, [], ◌∷◌, ◌++◌, map, length, get_or, take, drop, Bool, true, false, cond, Option, Some, None, Ok, Err, nat_lt, ◌==◌, codes, refl, sym, ap, subst, ◌∙◌, arith, length-append, append-nil, append_assoc}
+use Rattle.std.proofs.lemmas.Bool.Decides.{nat_tests}
 use Rattle.std.specs.List.{filter_map, cons_option}
 use Rattle.std.specs.Prelude.{filter, slice_get}
-use Rattle.std.proofs.lemmas.List.{take_all, take_more, take-append-le}
-use Rattle.std.proofs.lemmas.List.Elements.{filter-append, filter_map-append}
+use Rattle.std.proofs.lemmas.List.{drop-map, take-map, take_more}
+use Rattle.std.proofs.lemmas.List.Elements.{filter_map-append}
 use Rattle.serde_json.specs.Data.{Data}
 use Rattle.serde_json.specs.View.{items_of}
+use Rattle.serde_json.specs.Written.{compact_text}
+use Rattle.an_base.specs.Outcome.{passes}
+use Rattle.an_base.specs.TextSet.{has_text}
 use Rattle.an_base.specs.Write.{item_text, item_commas}
 use Rattle.an_base.proofs.WriteLemmas.{item_commas-append}
-use Rattle.an_machine.specs.State.{KeptNote}
+use Rattle.an_highlight.specs.Marks.{highlights_of, marked}
+use Rattle.an_machine.specs.State.{KeptNote, LiveNote}
+use Rattle.an_model.specs.Bodies.{note_occurrences}
+use Rattle.an_model.specs.declared.occurrence.NoteOccurrence.{NoteOccurrence}
+use Rattle.an_search.specs.Found.{HasListed, StandAt, is_wanted_at}
+use Rattle.an_search.specs.Listed.{listed_note, note_iri}
+use Rattle.an_search.specs.Page.{list_page, page_count, page_iri, page_of, start_of}
+use Rattle.an_search.specs.Query.{QueryRecord}
+use Rattle.an_search.specs.Search.{found_text, marks_of, row_marks, search_context, whole_of}
 use Rattle.an_search.specs.Site.{Site}
-use Rattle.an_search.specs.Search.{search_iri, page_of_search}
-use Rattle.an_search.specs.Page.{search_page}
-use Rattle.an_search.specs.Listed.{listed_note}
-use Rattle.an_search.specs.Found.{HasFound}
-use Rattle.an_search.specs.declared.hits.Found.{Found}
+use Rattle.an_search.specs.Wanted.{matches, wanted_terms}
+use Rattle.an_search.specs.declared.items.Listed.{Listed}
+use Rattle.an_search.specs.declared.page.Whole.{Whole}
+use Rattle.an_search.specs.declared.searching.AskError.TheVariants.{NoPage}
+use Rattle.an_search.specs.declared.wanted.Wanted.{Wanted}
 
 -- ---- one annotation, as an item
 
@@ -24,62 +36,177 @@ listed_item base row tree is = rw (sym is) (append-nil (item_text tree))
 pub deleted_item : (base : List ℕ) (row : KeptNote) → None ≡ listed_note base row → item_commas (items_of (filter_map (listed_note base) (row ∷ []))) ≡ []
 deleted_item base row is = rw (sym is) refl
 
--- ---- one more
+-- ---- rows at places
 
-one_more : (rows : List KeptNote) (row : KeptNote) → length (rows ++ row ∷ []) ≡ length rows + 1
-one_more rows row = length-append rows (row ∷ [])
+-- the annotations at the wanted places are those at all places that are wanted
+pub stand-wanted : (notes : List KeptNote) (wanted : Wanted) (places : List ℕ)
+    → StandAt notes (filter (is_wanted_at notes wanted) places) (filter (matches wanted) (filter_map (slice_get notes) places))
+stand-wanted notes wanted [] = refl
+stand-wanted notes wanted (place ∷ places) = by (slice_get notes place) refl (stand-wanted notes wanted places)
+  where
+    kept : (row : KeptNote) (b : Bool) → slice_get notes place ≡ Some row → StandAt notes (filter (is_wanted_at notes wanted) places) (filter (matches wanted) (filter_map (slice_get notes) places))
+        → map (slice_get notes) (cond b (place ∷ filter (is_wanted_at notes wanted) places) (filter (is_wanted_at notes wanted) places))
+        ≡ map Some (cond b (row ∷ filter (matches wanted) (filter_map (slice_get notes) places)) (filter (matches wanted) (filter_map (slice_get notes) places)))
+    kept row true at rest = rw (at, rest) refl
+    kept row false at rest = rest
 
-module _ (base : List ℕ) (size : ℕ) (rows : List KeptNote) (row : KeptNote) (old new : Found) (found : HasFound base size rows old) (total : new.total ≡ old.total + 1) where
-  count : new.total ≡ length (rows ++ row ∷ [])
-  count = total ∙ ap (λ n. n + 1) found.total ∙ sym (one_more rows row)
+    by : (found : Option KeptNote) → slice_get notes place ≡ found → StandAt notes (filter (is_wanted_at notes wanted) places) (filter (matches wanted) (filter_map (slice_get notes) places))
+        → map (slice_get notes) (cond (passes (matches wanted) found) (place ∷ filter (is_wanted_at notes wanted) places) (filter (is_wanted_at notes wanted) places))
+        ≡ map Some (filter (matches wanted) (cons_option found (filter_map (slice_get notes) places)))
+    by None at rest = rest
+    by (Some row) at rest = kept row (matches wanted row) at rest
 
-  -- while there is room on the page, the first rows are all of them
-  pub HasFound-listed : new.total ≤ size → new.items.items ≡ old.items.items ++ item_commas (items_of (filter_map (listed_note base) (row ∷ []))) → HasFound base size (rows ++ row ∷ []) new
-  HasFound-listed room text =
-      let before : length rows ≤ size = omega (arith, found.total) in
-      let after : length (rows ++ row ∷ []) ≤ size = omega (arith, count) in
-      let listed = filter_map (listed_note base) in
-      record {
-        total = count;
-        items = text
-            ∙ ap (λ items. items ++ item_commas (items_of (listed (row ∷ [])))) (found.items ∙ ap (λ first. item_commas (items_of (listed first))) (take_all size rows before))
-            ∙ sym (item_commas-append (listed rows) (listed (row ∷ [])))
-            ∙ ap (λ trees. item_commas (items_of trees)) (sym (filter_map-append (listed_note base) rows (row ∷ [])))
-            ∙ ap (λ first. item_commas (items_of (listed first))) (sym (take_all size (rows ++ row ∷ []) after));
-      }
+-- rows that stand at places are those that are found there, and as many
+pub stand-found : (notes : List KeptNote) (places : List ℕ) (rows : List KeptNote) → StandAt notes places rows → filter_map (slice_get notes) places ≡ rows
+stand-found notes [] [] stand = refl
+stand-found notes [] (row ∷ rows) stand = absurd (cc)
+stand-found notes (place ∷ places) [] stand = absurd (cc)
+stand-found notes (place ∷ places) (row ∷ rows) stand =
+    let here : slice_get notes place ≡ Some row = (cc) in
+    let rest : StandAt notes places rows = (cc) in
+    rw (here) (ap (λ more. row ∷ more) (stand-found notes places rows rest))
 
-  -- the page is full
-  pub HasFound-full : size < new.total → new.items ≡ old.items → HasFound base size (rows ++ row ∷ []) new
-  HasFound-full full same =
-      let within : size ≤ length rows = omega (arith, found.total, total) in
-      record {
-        total = count;
-        items = ap (λ items. items.items) same ∙ found.items ∙ ap (λ first. item_commas (items_of (filter_map (listed_note base) first))) (sym (take-append-le size rows (row ∷ []) within));
-      }
+pub stand-count : (notes : List KeptNote) (places : List ℕ) (rows : List KeptNote) → StandAt notes places rows → length places ≡ length rows
+stand-count notes [] [] stand = refl
+stand-count notes [] (row ∷ rows) stand = absurd (cc)
+stand-count notes (place ∷ places) [] stand = absurd (cc)
+stand-count notes (place ∷ places) (row ∷ rows) stand =
+    let rest : StandAt notes places rows = (cc) in
+    ap suc (stand-count notes places rows rest)
 
--- the first page of what was found
-pub page_of_found : (site : Site) (manifest word : List ℕ) (rows : List KeptNote) (total : ℕ) → total ≡ length rows
-    → search_page (search_iri site.base manifest word) 1 site.size total (items_of (filter_map (listed_note site.base) (take site.size rows))) ≡ page_of_search site manifest word 1 rows
-unfolding page_of_search
-page_of_found site manifest word rows total is =
-    ap (λ n. search_page (search_iri site.base manifest word) 1 site.size n (items_of (filter_map (listed_note site.base) (take site.size rows)))) is
-    ∙ ap (λ start. search_page (search_iri site.base manifest word) 1 site.size (length rows) (items_of (filter_map (listed_note site.base) (take site.size (drop start rows))))) (sym (zero-mul site.size))
+-- the same of a page
+pub stand-page : (notes : List KeptNote) (page size : ℕ) (places : List ℕ) (rows : List KeptNote) → StandAt notes places rows → StandAt notes (page_of page size places) (page_of page size rows)
+stand-page notes page size places rows stand =
+    first size (drop (start_of page size) places) (drop (start_of page size) rows) (later (start_of page size) places rows stand)
+  where
+    first : (n : ℕ) (ps : List ℕ) (rs : List KeptNote) → StandAt notes ps rs → StandAt notes (take n ps) (take n rs)
+    first n ps rs stand = sym (take-map (slice_get notes) n ps) ∙ ap (take n) stand ∙ take-map Some n rs
 
--- one place more
-module _ (test : KeptNote → Bool) (notes : List KeptNote) (places : List ℕ) (i : ℕ) (within : i < length places) where
-  place_more : filter test (filter_map (slice_get notes) (take (i + 1) places))
-      ≡ filter test (filter_map (slice_get notes) (take i places)) ++ filter test (filter_map (slice_get notes) (get_or places i 0 ∷ []))
-  place_more =
-      ap (λ ps. filter test (filter_map (slice_get notes) ps)) (take_more places i 0 within)
-      ∙ ap (filter test) (filter_map-append (slice_get notes) (take i places) (get_or places i 0 ∷ []))
-      ∙ filter-append test _ _
+    later : (n : ℕ) (ps : List ℕ) (rs : List KeptNote) → StandAt notes ps rs → StandAt notes (drop n ps) (drop n rs)
+    later n ps rs stand = sym (drop-map (slice_get notes) n ps) ∙ ap (drop n) stand ∙ drop-map Some n rs
 
+-- ---- one place more
+
+module _ (notes : List KeptNote) (places : List ℕ) (i : ℕ) (within : i < length places) where
   pub place_with_row : (row : KeptNote) → Some row ≡ slice_get notes (get_or places i 0)
-      → filter test (filter_map (slice_get notes) (take (i + 1) places)) ≡ filter test (filter_map (slice_get notes) (take i places)) ++ filter test (row ∷ [])
+      → filter_map (slice_get notes) (take (i + 1) places) ≡ filter_map (slice_get notes) (take i places) ++ row ∷ []
   place_with_row row is =
-      place_more ∙ ap (λ found. filter test (filter_map (slice_get notes) (take i places)) ++ filter test (cons_option found [])) (sym is)
+      ap (filter_map (slice_get notes)) (take_more places i 0 within)
+      ∙ filter_map-append (slice_get notes) (take i places) (get_or places i 0 ∷ [])
+      ∙ ap (λ found. filter_map (slice_get notes) (take i places) ++ cons_option found []) (sym is)
 
-  pub place_without : None ≡ slice_get notes (get_or places i 0)
-      → filter test (filter_map (slice_get notes) (take (i + 1) places)) ≡ filter test (filter_map (slice_get notes) (take i places))
+  pub place_without : None ≡ slice_get notes (get_or places i 0) → filter_map (slice_get notes) (take (i + 1) places) ≡ filter_map (slice_get notes) (take i places)
   place_without is =
-      place_more ∙ ap (λ found. filter test (filter_map (slice_get notes) (take i places)) ++ filter test (cons_option found [])) (sym is) ∙ append-nil _
+      ap (filter_map (slice_get notes)) (take_more places i 0 within)
+      ∙ filter_map-append (slice_get notes) (take i places) (get_or places i 0 ∷ [])
+      ∙ ap (λ found. filter_map (slice_get notes) (take i places) ++ cons_option found []) (sym is)
+      ∙ append-nil _
+
+-- ---- marks
+
+marks_of-append : (base : List ℕ) (terms : List (List ℕ)) (page : List ℕ) (number : ℕ) (rows : List KeptNote) (row : KeptNote)
+    → marks_of base terms page number (rows ++ row ∷ []) ≡ marks_of base terms page number rows ++ row_marks base terms page (number + length (marks_of base terms page number rows)) row
+marks_of-append base terms page number [] row = append-nil _ ∙ ap (λ n. row_marks base terms page n row) (omega arith)
+marks_of-append base terms page number (first ∷ rows) row =
+    let own = row_marks base terms page number first in
+    let next = number + length own in
+    ap (λ more. own ++ more) (marks_of-append base terms page next rows row)
+    ∙ sym (append_assoc own (marks_of base terms page next rows) _)
+    ∙ ap (λ n. (own ++ marks_of base terms page next rows) ++ row_marks base terms page n row)
+    (let joined = length-append own (marks_of base terms page next rows) in omega arith)
+
+-- no term marks nothing
+none_marked : (words : List NoteOccurrence) → filter (λ word. has_text word.term []) words ≡ []
+none_marked [] = refl
+none_marked (word ∷ words) = none_marked words
+
+pub no_marks : (base : List ℕ) (page : List ℕ) (number : ℕ) (row : KeptNote) → row_marks base [] page number row ≡ []
+unfolding highlights_of
+no_marks base page number row = by row.live
+  where
+    by : (live : Option LiveNote) → ◌≡◌ {A = List Data} (elim live [
+      | None ↦ []
+      | Some live ↦ highlights_of live.tree (note_iri base row.owner row.name) [] page number
+    ]) []
+    by None = refl
+    by (Some live) = rw (none_marked (note_occurrences live.tree)) refl
+
+-- ---- what was written
+
+module _ (base : List ℕ) (terms : List (List ℕ)) (page : List ℕ) (rows : List KeptNote) (row : KeptNote) (old new : Listed) (has : HasListed base terms page rows old) where
+  pub HasListed-more : new.items.items ≡ old.items.items ++ item_commas (items_of (filter_map (listed_note base) (row ∷ [])))
+      → new.marks.text.items ≡ old.marks.text.items ++ item_commas (items_of (row_marks base terms page (old.marks.count + 1) row))
+      → new.marks.count ≡ old.marks.count + length (row_marks base terms page (old.marks.count + 1) row)
+      → HasListed base terms page (rows ++ row ∷ []) new
+  HasListed-more items text count =
+      let listed = filter_map (listed_note base) in
+      let before = marks_of base terms page 1 rows in
+      let number : old.marks.count + 1 ≡ 1 + length before = omega (arith, has.count) in
+      let more = row_marks base terms page (1 + length before) row in
+      let all = marks_of-append base terms page 1 rows row in
+      record {
+        items = items
+            ∙ ap (λ first. first ++ item_commas (items_of (listed (row ∷ [])))) has.items
+            ∙ sym (item_commas-append (listed rows) (listed (row ∷ [])))
+            ∙ ap (λ trees. item_commas (items_of trees)) (sym (filter_map-append (listed_note base) rows (row ∷ [])));
+        marks = text
+            ∙ ap (λ first. first ++ item_commas (items_of (row_marks base terms page (old.marks.count + 1) row))) has.marks
+            ∙ ap (λ n. item_commas (items_of before) ++ item_commas (items_of (row_marks base terms page n row))) number
+            ∙ sym (item_commas-append before more)
+            ∙ ap (λ trees. item_commas (items_of trees)) (sym all);
+        count = count
+            ∙ ap (λ n. n + length (row_marks base terms page (old.marks.count + 1) row)) has.count
+            ∙ ap (λ n. length before + length (row_marks base terms page n row)) number
+            ∙ sym (length-append before more)
+            ∙ ap (λ (trees : List Data). length trees) (sym all);
+      }
+
+-- ---- nothing to mark
+
+empty_of : {A : Type 0} (xs : List A) → length xs ≡ 0 → xs ≡ []
+empty_of [] is = refl
+empty_of (x ∷ xs) is = absurd (omega (arith, is))
+
+pub none_of : {A : Type 0} (xs : List A) → true ≡ (length xs == 0) → xs ≡ []
+none_of xs is = let count : length xs ≡ 0 = grind (arith, nat_tests) in empty_of xs count
+
+module _ (base : List ℕ) (terms : List (List ℕ)) (page : List ℕ) (number : ℕ) (row : KeptNote) where
+  unmarked : terms ≡ [] → row_marks base terms page number row ≡ []
+  unmarked none = ap (λ terms. row_marks base terms page number row) none ∙ no_marks base page number row
+
+  pub unmarked-text : (text : List ℕ) → terms ≡ [] → text ≡ text ++ item_commas (items_of (row_marks base terms page number row))
+  unmarked-text text none = sym (append-nil text) ∙ ap (λ marks. text ++ item_commas (items_of marks)) (sym (unmarked none))
+
+  pub unmarked-count : (count : ℕ) → terms ≡ [] → count ≡ count + length (row_marks base terms page number row)
+  unmarked-count count none = let nothing = ap (λ (marks : List Data). length marks) (unmarked none) in omega (arith, nothing)
+
+-- ---- which page
+
+lt_true : (a b : ℕ) → a < b → nat_lt a b ≡ true
+lt_true a b h = grind (arith, nat_tests)
+
+lt_false : (a b : ℕ) → b ≤ a → nat_lt a b ≡ false
+lt_false a b h = grind (arith, nat_tests)
+
+count-is : (site : Site) (rows : List KeptNote) (total size pages : ℕ) → total ≡ length rows → size ≡ site.size → pages ≡ page_count total size → page_count (length rows) site.size ≡ pages
+count-is site rows total size pages total_is size_is is = sym (is ∙ ap (λ n. page_count n size) total_is ∙ ap (page_count (length rows)) size_is)
+
+pub past-pages : (site : Site) (manifest : List ℕ) (query : QueryRecord) (rows : List KeptNote) (total size page pages : ℕ) → total ≡ length rows → size ≡ site.size → page ≡ query.page
+    → pages ≡ page_count total size → pages < page → found_text site manifest query rows ≡ Err (NoPage pages)
+unfolding found_text
+past-pages site manifest query rows total size page pages total_is size_is page_is pages_are past =
+    let count = count-is site rows total size pages total_is size_is pages_are in
+    let over : nat_lt pages query.page ≡ true = rw page_is at (lt_true pages page past) in
+    rw (count, over) refl
+
+pub found-page : (site : Site) (manifest : List ℕ) (query : QueryRecord) (rows : List KeptNote) (whole : Whole) (base : List ℕ) (total size page pages : ℕ) (terms ignored : List (List ℕ)) (text : List ℕ)
+    → whole ≡ whole_of base manifest query → base ≡ site.base → total ≡ length rows → size ≡ site.size → page ≡ query.page → terms ≡ wanted_terms query.q → ignored ≡ query.ignored
+    → pages ≡ page_count total size → page ≤ pages
+    → text ≡ compact_text (list_page search_context whole page size total (items_of (filter_map (listed_note base) (page_of page size rows))) (items_of (marks_of base terms (page_iri whole page) 1 (page_of page size rows))) ignored)
+    → found_text site manifest query rows ≡ Ok text
+unfolding found_text
+found-page site manifest query rows whole base total size page pages terms ignored text whole_is base_is total_is size_is page_is terms_are ignored_are pages_are within is =
+    let count = count-is site rows total size pages total_is size_is pages_are in
+    let over : nat_lt pages query.page ≡ false = rw page_is at (lt_false pages page within) in
+    let same = rw (whole_is, base_is, total_is, size_is, page_is, terms_are, ignored_are) at is in
+    rw (count, over) (ap Ok (sym same))

@@ -1,15 +1,15 @@
 -- What a caller may read, by the places of rows and by filters.
-use Rattle.std.proofs.Common.{◌≡◌, ℕ, ◌+◌, List, [], ◌∷◌, ◌++◌, length, Bool, true, false, cond, ◌&&◌, Option, Some, None, Ok, Err, refl, sym, ap, ◌∙◌, subst, append_assoc, length-append}
-use Rattle.std.specs.Prelude.{filter, slice_get, IsTrue}
+use Rattle.std.proofs.Common.{◌≡◌, ℕ, ◌+◌, List, [], ◌∷◌, ◌++◌, length, Bool, true, false, cond, ◌&&◌, Some, refl, sym, ap, ◌∙◌, subst, append_assoc, length-append}
+use Rattle.std.specs.Prelude.{filter, slice_get}
 use Rattle.std.specs.List.{filter_map}
 use Rattle.an_policy.specs.Audience.{Identity}
-use Rattle.an_machine.specs.State.{State, KeptManifest, manifests_are_distinct}
-use Rattle.an_machine.specs.View.{view_of, is_on, shows_note, places_from, readable_places, manifest_in}
-use Rattle.an_search.specs.Search.{matches, hits, page_of_search, search_of}
-use Rattle.an_search.specs.Site.{Site}
-use Rattle.an_search.specs.declared.hits.AskError.TheVariants.{NoManifest}
-use Rattle.an_terms.specs.Terms.{terms_of}
-use Rattle.serde_json.specs.Written.{compact_text}
+use Rattle.an_machine.specs.State.{State}
+use Rattle.an_machine.specs.View.{view_of, is_on, shows_note, places_from, readable_places}
+use Rattle.an_search.specs.Found.{StandAt, is_wanted_at}
+use Rattle.an_search.specs.Search.{hits}
+use Rattle.an_search.specs.Wanted.{matches}
+use Rattle.an_search.specs.declared.wanted.Wanted.{Wanted}
+use Rattle.an_search.proofs.FoundLemmas.{stand-wanted}
 
 -- ---- rows at places
 
@@ -31,7 +31,7 @@ rows_at_places {A = A} test before (row ∷ rows) =
       | false ↦ next
     ]
 
-filter_both : {A : Type 0} (p q : A → Bool) (rows : List A) → filter p (filter q rows) ≡ filter (λ row. p row && q row) rows
+pub filter_both : {A : Type 0} (p q : A → Bool) (rows : List A) → filter p (filter q rows) ≡ filter (λ row. p row && q row) rows
 filter_both p q [] = refl
 filter_both p q (row ∷ rows) = elim (q row) as (λ b. filter p (cond b (row ∷ filter q rows) (filter q rows)) ≡ cond (p row && b) (row ∷ filter (λ row. p row && q row) rows) (filter (λ row. p row && q row) rows)) [
   | true ↦ elim (p row) as (λ b. cond b (row ∷ filter p (filter q rows)) (filter p (filter q rows)) ≡ cond (b && true) (row ∷ filter (λ row. p row && q row) rows) (filter (λ row. p row && q row) rows)) [
@@ -44,19 +44,17 @@ filter_both p q (row ∷ rows) = elim (q row) as (λ b. filter p (cond b (row �
   ]
 ]
 
--- the annotations at the readable places that match are the hits of the view
-pub hits-places : (s : State) (who : Identity) (manifest : List ℕ) (wanted : List (List ℕ))
-    → filter (matches wanted) (filter_map (slice_get s.notes) (readable_places s who manifest)) ≡ hits (view_of s who) manifest wanted
+-- the annotations at the readable places are those of the view on the manifest
+pub readable_rows : (s : State) (who : Identity) (manifest : List ℕ)
+    → filter_map (slice_get s.notes) (readable_places s who manifest) ≡ filter (is_on manifest) (filter (shows_note s who) s.notes)
+readable_rows s who manifest =
+    rows_at_places (λ row. is_on manifest row && shows_note s who row) [] s.notes ∙ sym (filter_both (is_on manifest) (shows_note s who) s.notes)
+
+-- the hits of the view stand at the readable places that are wanted
+pub hits-stand : (s : State) (who : Identity) (manifest : List ℕ) (wanted : Wanted)
+    → StandAt s.notes (filter (is_wanted_at s.notes wanted) (readable_places s who manifest)) (hits (view_of s who) manifest wanted)
 unfolding hits
-hits-places s who manifest wanted =
-    ap (filter (matches wanted)) (rows_at_places (λ row. is_on manifest row && shows_note s who row) [] s.notes ∙ sym (filter_both (is_on manifest) (shows_note s who) s.notes))
-
--- ---- the answer
-
-pub search_of-hidden : (site : Site) (s : State) (who : Identity) (manifest word : List ℕ) (shown : Option KeptManifest) → (IsTrue (manifests_are_distinct s) → shown ≡ manifest_in (view_of s who) manifest) → shown ≡ None
-    → IsTrue (manifests_are_distinct s) → search_of site (view_of s who) manifest word ≡ Err NoManifest
-search_of-hidden site s who manifest word shown is hidden distinct = rw (sym (is distinct) ∙ hidden) refl
-
-pub search_of-shown : (site : Site) (s : State) (who : Identity) (manifest word page : List ℕ) (row : KeptManifest) → manifest_in (view_of s who) manifest ≡ Some row
-    → page ≡ compact_text (page_of_search site manifest word 1 (hits (view_of s who) manifest (terms_of word))) → search_of site (view_of s who) manifest word ≡ Ok page
-search_of-shown site s who manifest word page row shown page_is = rw (shown, page_is) refl
+hits-stand s who manifest wanted =
+    subst (λ rows. StandAt s.notes (filter (is_wanted_at s.notes wanted) (readable_places s who manifest)) (filter (matches wanted) rows))
+    (readable_rows s who manifest)
+    (stand-wanted s.notes wanted (readable_places s who manifest))

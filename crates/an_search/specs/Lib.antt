@@ -5,3 +5,9 @@ pub mod PageText
 pub mod Listed
 pub mod Found
 pub mod Search
+pub mod Pairs
+pub mod Given
+pub mod Dates
+pub mod Query
+pub mod Wanted
+pub mod Form

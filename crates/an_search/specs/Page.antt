@@ -1,11 +1,15 @@
--- The pages of a list, and the page of a search (IIIF Content Search API 2.0; Web Annotation Data
--- Model, section 5).
-use Rattle.std.specs.Prelude.{ℕ, ◌+◌, ◌-◌, ◌*◌, max, nat_lt, List, ◌++◌, take, drop, codes, decimal}
-use Rattle.std.specs.Prelude.{Option, Some, None, if◌then◌else◌}
+-- The pages of a list (IIIF Content Search API 2.0; Web Annotation Data Model, section 5).
+use Rattle.std.specs.Prelude.{ℕ, ◌+◌, ◌-◌, ◌*◌, ◌==◌, max, nat_lt, List, ◌++◌, length}
+use Rattle.std.specs.Prelude.{map, take, drop, codes, decimal, Option, Some, None, if◌then◌else◌}
 use Rattle.std.specs.Int.{div_ceil}
-use Rattle.serde_json.specs.Data.{Data, number, unsigned, string, array, object, Items, member}
-use Rattle.serde_json.specs.Data.{no_members}
+use Rattle.serde_json.specs.Data.{Data, number, unsigned, string, array, object, Items, no_items}
+use Rattle.serde_json.specs.Data.{item, member, no_members}
+use Rattle.serde_json.specs.View.{items_of}
 use Rattle.an_base.specs.Object.{with_member_if}
+use Rattle.an_model.specs.Targets.{is_empty}
+use Rattle.an_search.specs.declared.page.Whole.{Whole}
+
+-- ---- which items stand on a page
 
 -- how many pages a list has: one at least, and as many as hold its items
 abbrev pub page_count : ℕ → ℕ → ℕ
@@ -19,49 +23,84 @@ start_of page size = (page - 1) * size
 abbrev pub page_of : {A : Type 0} → ℕ → ℕ → List A → List A
 page_of page size items = take size (drop (start_of page size) items)
 
--- the page's IRI: that of the whole, and the page as its last parameter
-abbrev pub page_iri : List ℕ → ℕ → List ℕ
-page_iri whole page = whole ++ (codes "&page=" ++ decimal page)
+-- ---- IRIs
+
+-- `Whole` is a list that is served in pages: its IRI without parameters, and its parameters as a
+-- form writes them, of which there may be none
+
+-- the IRI of the list: PATH, or PATH?PARAMETERS
+abbrev pub whole_iri : Whole → List ℕ
+whole_iri whole =
+    if length whole.parameters == 0 then whole.path
+    else whole.path ++ (codes "?" ++ whole.parameters)
+
+-- that of a page, its number the last parameter: PATH?page=PAGE, or PATH?PARAMETERS&page=PAGE
+abbrev pub page_iri : Whole → ℕ → List ℕ
+page_iri whole page =
+    if length whole.parameters == 0 then whole.path ++ (codes "?page=" ++ decimal page)
+    else whole.path ++ (codes "?" ++ (whole.parameters ++ (codes "&page=" ++ decimal page)))
+
+-- ---- links
 
 -- a page, as another names it
-abbrev pub page_link : List ℕ → ℕ → Data
+abbrev pub page_link : Whole → ℕ → Data
 page_link whole page =
     object (member (codes "id") (string (page_iri whole page))
     (member (codes "type") (string (codes "AnnotationPage")) no_members))
 
 -- the whole, as a page of it names it
-abbrev pub whole_link : List ℕ → ℕ → ℕ → Data
+abbrev pub whole_link : Whole → ℕ → ℕ → Data
 whole_link whole pages total =
     object (member (codes "first") (page_link whole 1)
-    (member (codes "id") (string whole)
+    (member (codes "id") (string (whole_iri whole))
     (member (codes "last") (page_link whole pages)
     (member (codes "total") (number (unsigned total))
     (member (codes "type") (string (codes "AnnotationCollection")) no_members)))))
 
 -- the page after this one, of so many, and the one before it, where there is one
-abbrev pub link_after : List ℕ → ℕ → ℕ → Option Data
+abbrev pub link_after : Whole → ℕ → ℕ → Option Data
 link_after whole pages page = if nat_lt page pages then Some (page_link whole (page + 1)) else None
 
-abbrev pub link_before : List ℕ → ℕ → Option Data
+abbrev pub link_before : Whole → ℕ → Option Data
 link_before whole page = if nat_lt 1 page then Some (page_link whole (page - 1)) else None
 
--- the context of searches (IIIF Content Search API 2.0)
-abbrev pub search_context : List ℕ
-search_context = codes "http://iiif.io/api/search/2/context.json"
+-- ---- what a page may have besides
 
--- the members that every page of a search has
-abbrev pub page_members : List ℕ → ℕ → ℕ → ℕ → Items → Data
-page_members whole page size total items =
-    object (member (codes "@context") (string search_context)
+-- the marks of the page of this IRI, as a page of annotations of their own
+abbrev pub marks_page : List ℕ → Items → Data
+marks_page page marks =
+    object (member (codes "id") (string (page ++ codes "#match"))
+    (member (codes "items") (array marks)
+    (member (codes "type") (string (codes "AnnotationPage")) no_members)))
+
+-- that page alone, where there are marks
+abbrev pub marks_beside : List ℕ → Items → Option Data
+marks_beside page marks =
+    if is_empty marks then None else Some (array (item (marks_page page marks) no_items))
+
+-- the texts, where there are some
+abbrev pub texts_beside : List (List ℕ) → Option Data
+texts_beside texts = if length texts == 0 then None else Some (array (items_of (map string texts)))
+
+-- ---- a page
+
+-- the members that every page has
+abbrev pub page_members : List ℕ → Whole → ℕ → ℕ → ℕ → Items → Data
+page_members context whole page size total items =
+    object (member (codes "@context") (string context)
     (member (codes "id") (string (page_iri whole page))
     (member (codes "items") (array items)
     (member (codes "partOf") (whole_link whole (page_count total size) total)
     (member (codes "startIndex") (number (unsigned (start_of page size)))
     (member (codes "type") (string (codes "AnnotationPage")) no_members))))))
 
--- a page of a search that finds so many annotations, with those of them that it has
-unfoldable pub search_page : List ℕ → ℕ → ℕ → ℕ → Items → Data
-search_page whole page size total items =
-    with_member_if (codes "prev") (link_before whole page)
+-- a page of a list of so many items: those of them that it has, the marks of what was found in
+-- these, and the names of the parameters that were ignored
+unfoldable pub list_page
+    : List ℕ → Whole → ℕ → ℕ → ℕ → Items → Items → List (List ℕ) → Data
+list_page context whole page size total items marks ignored =
+    with_member_if (codes "annotations") (marks_beside (page_iri whole page) marks)
+    (with_member_if (codes "ignored") (texts_beside ignored)
+    (with_member_if (codes "prev") (link_before whole page)
     (with_member_if (codes "next") (link_after whole (page_count total size) page)
-    (page_members whole page size total items))
+    (page_members context whole page size total items))))

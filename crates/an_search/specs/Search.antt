@@ -1,48 +1,87 @@
--- A search for one word in the annotations on a manifest (IIIF Content Search API 2.0).
-use Rattle.std.specs.Prelude.{ℕ, List, [], ◌++◌, length, filter, codes, bytes_eq, Bool, is_some}
-use Rattle.std.specs.Prelude.{if◌then◌else◌, Result, Ok, Err}
-use Rattle.std.specs.List.{list_all, list_any, filter_map}
+-- A search in the annotations on a manifest (IIIF Content Search API 2.0).
+use Rattle.std.specs.Prelude.{ℕ, ◌+◌, List, [], ◌∷◌, ◌++◌, length, filter, codes, is_some, nat_lt}
+use Rattle.std.specs.Prelude.{if◌then◌else◌, Some, None, Result, Ok, Err}
+use Rattle.std.specs.List.{filter_map}
 use Rattle.serde_json.specs.Data.{Data}
 use Rattle.serde_json.specs.View.{items_of}
 use Rattle.serde_json.specs.Written.{compact_text}
-use Rattle.form_urlencoded.specs.Form.{append_pair}
-use Rattle.an_base.specs.Outcome.{passes}
-use Rattle.an_terms.specs.Terms.{terms_of}
-use Rattle.an_model.specs.Bodies.{note_terms}
+use Rattle.an_base.specs.declared.parameter.Parameter.TheVariants as parameter
+use Rattle.an_highlight.specs.Marks.{highlights_of}
 use Rattle.an_machine.specs.State.{KeptNote}
 use Rattle.an_machine.specs.View.{View, is_on, manifest_in}
+use Rattle.an_search.specs.Form.{form_of}
+use Rattle.an_search.specs.Listed.{listed_note, note_iri}
+use Rattle.an_search.specs.Page.{list_page, page_count, page_iri, page_of}
+use Rattle.an_search.specs.Query.{QueryRecord}
 use Rattle.an_search.specs.Site.{Site}
-use Rattle.an_search.specs.Listed.{listed_note}
-use Rattle.an_search.specs.Page.{page_of, search_page}
-use Rattle.an_search.specs.declared.hits.AskError.{AskError}
-use Rattle.an_search.specs.declared.hits.AskError.TheVariants.{NoManifest}
+use Rattle.an_search.specs.Wanted.{matches, wanted_of, wanted_terms}
+use Rattle.an_search.specs.declared.searching.AskError.{AskError}
+use Rattle.an_search.specs.declared.searching.AskError.TheVariants.{NoManifest, NoPage}
+use Rattle.an_search.specs.declared.page.Whole.{Whole}
+use Rattle.an_search.specs.declared.wanted.Wanted.{Wanted}
 
--- each of the terms that are wanted is among the terms
-abbrev pub has_terms : List (List ℕ) → List (List ℕ) → Bool
-has_terms wanted terms = list_all (λ term. list_any (λ other. bytes_eq other term) terms) wanted
+-- ---- what is found
 
--- the annotation's texts have each of the terms
-abbrev pub matches : List (List ℕ) → KeptNote → Bool
-matches wanted row = passes (λ live. has_terms wanted (note_terms live.tree)) row.live
-
--- the annotations of the view on the manifest that have each of the terms, in their order
-unfoldable pub hits : View → List ℕ → List (List ℕ) → List KeptNote
+-- the annotations of the view on the manifest that are wanted, in their order
+unfoldable pub hits : View → List ℕ → Wanted → List KeptNote
 hits view manifest wanted = filter (matches wanted) (filter (is_on manifest) view.notes)
 
--- the IRI of all that a search finds
-abbrev pub search_iri : List ℕ → List ℕ → List ℕ → List ℕ
-search_iri base manifest word =
-    base ++ (codes "/search/" ++ (manifest ++ (codes "?" ++ append_pair [] (codes "q") word)))
+-- ---- the marks of a page
 
--- a page of what a search finds
-unfoldable pub page_of_search : Site → List ℕ → List ℕ → ℕ → List KeptNote → Data
-page_of_search site manifest word page found =
-    search_page (search_iri site.base manifest word) page site.size (length found)
-    (items_of (filter_map (listed_note site.base) (page_of page site.size found)))
+-- the marks of an annotation of a list on a page; one that was deleted has none
+abbrev pub row_marks : List ℕ → List (List ℕ) → List ℕ → ℕ → KeptNote → List Data
+row_marks base terms page number row = elim row.live [
+  | None ↦ []
+  | Some live ↦ highlights_of live.tree (note_iri base row.owner row.name) terms page number
+]
 
--- the first page of a search for a word, as text
-abbrev pub search_of : Site → View → List ℕ → List ℕ → Result (List ℕ) AskError
-search_of site view manifest word =
-    if is_some (manifest_in view manifest) then Ok (compact_text
-    (page_of_search site manifest word 1 (hits view manifest (terms_of word))))
+-- those of all annotations of the page, numbered on
+abbrev pub marks_of : List ℕ → List (List ℕ) → List ℕ → ℕ → List KeptNote → List Data
+marks_of base terms page number [] = []
+marks_of base terms page number (row ∷ rows) =
+    let first = row_marks base terms page number row in
+    first ++ marks_of base terms page (number + length first) rows
+
+-- ---- the answer
+
+-- the parameters of a query that choose what is found, as a form
+abbrev pub query_form : QueryRecord → List ℕ
+query_form query =
+    form_of ((parameter.Q, query.q)
+    ∷ (parameter.Motivation, query.motivation)
+    ∷ (parameter.Date, query.date)
+    ∷ (parameter.User, query.user) ∷ [])
+
+-- the context of searches
+abbrev pub search_context : List ℕ
+search_context = codes "http://iiif.io/api/search/2/context.json"
+
+-- all that a search finds
+abbrev pub whole_of : List ℕ → List ℕ → QueryRecord → Whole
+whole_of base manifest query = record {
+  path = base ++ (codes "/search/" ++ manifest);
+  parameters = query_form query;
+}
+
+-- the page of what was found that the query asks for
+abbrev pub found_page : Site → Whole → QueryRecord → List KeptNote → Data
+found_page site whole query found =
+    let rows = page_of query.page site.size found in
+    list_page search_context whole query.page site.size (length found)
+    (items_of (filter_map (listed_note site.base) rows))
+    (items_of (marks_of site.base (wanted_terms query.q) (page_iri whole query.page) 1 rows))
+    query.ignored
+
+-- the same as text, unless it is past the last page
+unfoldable pub found_text : Site → List ℕ → QueryRecord → List KeptNote → Result (List ℕ) AskError
+found_text site manifest query found =
+    if nat_lt (page_count (length found) site.size) query.page
+    then Err (NoPage (page_count (length found) site.size))
+    else Ok (compact_text (found_page site (whole_of site.base manifest query) query found))
+
+-- the answer to a search, from the caller's view alone
+abbrev pub search_of : Site → View → List ℕ → QueryRecord → Result (List ℕ) AskError
+search_of site view manifest query =
+    if is_some (manifest_in view manifest)
+    then found_text site manifest query (hits view manifest (wanted_of query))
     else Err NoManifest

@@ -1,11 +1,26 @@
 //! Searches, the pages of lists, and the settings of the server.
 #![tactic(auto)]
 
-pub use hits::{AskError, search};
+pub use dates::{DateRange, bad_date, range_of};
+pub use form::append_given;
+pub use given::{copied_value, is_bad_number, number_in, others_in, twice_in, value_in};
 pub use listed::note_iri;
+pub use page::push_ignored;
+pub use pairs::{Pair, escaped_text, query_pairs, text_of};
+pub use query::{Query, QueryError, read_query};
+pub use searching::{AskError, SEARCH_CONTEXT, search};
 pub use settings::{Settings, SettingsError, read_settings};
+pub use wanted::{Wanted, matches, wanted_by, wants_nothing};
 
+mod dates;
+mod form;
+mod given;
 mod hits;
+mod items;
 mod listed;
 mod page;
+mod pairs;
+mod query;
+mod searching;
 mod settings;
+mod wanted;

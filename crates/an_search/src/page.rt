@@ -1,18 +1,27 @@
-ghost use Rattle.std.specs.Prelude.{◌≡◌, ◌++◌, ◌≤◌, codes, IfOk, string_bytes};
-ghost use Rattle.serde_json.specs.Data.{Items, array, string};
+ghost use Rattle.std.specs.Prelude.{◌≡◌, ◌++◌, ◌≤◌, codes, map, vec_len, IfOk, string_bytes};
+ghost use Rattle.serde_json.specs.Data.{Items, array, item, no_items, string};
+ghost use Rattle.serde_json.specs.View.{items_of};
 ghost use Rattle.serde_json.specs.Written.{compact_text};
-ghost use Rattle.an_base.specs.Write.{commas, item_commas, member_text};
-ghost use Rattle.an_search.specs.Page.{page_count, start_of, page_iri, page_link, whole_link};
-ghost use Rattle.an_search.specs.Page.{link_after, link_before, search_context, search_page};
-ghost use Rattle.an_search.specs.PageText.{content_text, text_if, place_members};
+ghost use Rattle.an_base.specs.Write.{commas, item_commas, item_text, member_text};
+ghost use Rattle.an_search.specs.Page.{page_count, start_of, whole_iri, page_iri, page_link};
+ghost use Rattle.an_search.specs.Page.{whole_link, link_after, link_before, marks_page};
+ghost use Rattle.an_search.specs.Page.{marks_beside, texts_beside, list_page};
+ghost use Rattle.an_search.specs.PageText.{head_text, content_text, text_if, place_members};
 
 use an_base::{
-    Bytes, close_members, push_array_member, push_name, push_number_member, push_text_member,
+    Bytes, Text, close_items, close_members, push_array_member, push_comma, push_name,
+    push_number_member, push_text, push_text_member,
 };
 use std::alloc::{AllocError, Global};
 
-/// The context of searches (IIIF Content Search API 2.0).
-const SEARCH_CONTEXT: &str = "http://iiif.io/api/search/2/context.json";
+/// A list that is served in pages.
+#[derive(Drop)]
+pub(crate) struct Whole {
+    /// Its IRI without parameters.
+    pub path: Text,
+    /// Its parameters as a form writes them, of which there may be none.
+    pub parameters: Text,
+}
 
 /// Which page of a list, from 1, how many items a page has at most, and how many the list has.
 #[derive(Clone, Copy)]
@@ -24,7 +33,7 @@ pub(crate) struct Paging {
 
 impl Paging {
     /// How many items stand on the pages before.
-    fn start(self) -> u64
+    pub fn start(self) -> u64
         requires page { 1 ≤ self.page }
         ensures { result ≡ start_of self.page self.size }
     {
@@ -32,7 +41,7 @@ impl Paging {
     }
 
     /// How many pages the list has.
-    fn pages(self) -> usize
+    pub fn pages(self) -> usize
         requires size { 1 ≤ self.size }
         ensures count { result ≡ page_count self.total self.size }
         ensures some { 1 ≤ result }
@@ -41,42 +50,176 @@ impl Paging {
     }
 }
 
-/// The text of a page of a search, its members in the order of their names. `whole` is the IRI of
-/// the list, which has parameters; `items` are the texts of the page's items, each behind a comma.
+/// The text of a page of a list, its members in the order of their names. `items` are the texts of
+/// the page's items, and `marks` those of the marks in them, each behind a comma; `ignored` are the
+/// names of parameters that were ignored.
 pub(crate) fn page_text(
     alloc: Global,
-    whole: &str,
+    context: &str,
+    whole: &Whole,
     paging: Paging,
     items: &[u8],
+    marks: &[u8],
+    ignored: &[Text],
 ) -> Result<Bytes, AllocError>
     requires page { 1 ≤ paging.page }
     requires size { 1 ≤ paging.size }
-    ensures text { (list : Items) → items.now ≡ item_commas list → IfOk result (λ text. text
-        ≡ compact_text (search_page whole.now paging.page paging.size paging.total list)) }
+    ensures text { (list marked : Items) → items.now ≡ item_commas list
+        → marks.now ≡ item_commas marked → IfOk result (λ text. text ≡ compact_text (list_page
+        context.now whole.now paging.page paging.size paging.total list marked ignored.now)) }
 {
-    let out = push_content(alloc, Vec::new(alloc), whole, paging, items)?;
+    let out = push_head(alloc, Vec::new(alloc), context, whole, paging, marks)?;
+    let out = push_content(alloc, out, whole, paging, items, ignored)?;
     let out = push_place(alloc, out, whole, paging)?;
     let out = close_members(out, 0)?;
     Ok(Bytes::from_vec(out))
 }
 
-/// Writes the context, the page's IRI, its items, and the link to the page after it.
+/// Writes the context, the marks, and the page's IRI.
+fn push_head(
+    alloc: Global,
+    out: Vec<u8>,
+    context: &str,
+    whole: &Whole,
+    paging: Paging,
+    marks: &[u8],
+) -> Result<Vec<u8>, AllocError>
+    ensures text { (marked : Items) → marks.now ≡ item_commas marked → IfOk result (λ v. v.items
+        ≡ out.items ++ head_text context.now whole.now paging.page marked) }
+{
+    let id = page_iri(alloc, whole, paging.page as usize)?;
+    let out = push_text_member(out, "@context", context)?;
+    let out = push_marks(alloc, out, id.as_str(), marks)?;
+    let out = push_text_member(out, "id", id.as_str())?;
+    Ok(out)
+}
+
+/// Writes the marks of the page of this IRI, where there are some.
+fn push_marks(alloc: Global, out: Vec<u8>, page: &str, marks: &[u8]) -> Result<Vec<u8>, AllocError>
+    ensures text { (marked : Items) → marks.now ≡ item_commas marked → IfOk result (λ v. v.items
+        ≡ out.items ++ text_if (codes "annotations") (marks_beside page.now marked)) }
+{
+    if marks.is_empty() {
+        Ok(out)
+    } else {
+        push_annotations(alloc, out, page, marks)
+    }
+}
+
+/// Writes the page that the marks have, as the only one of an array.
+fn push_annotations(
+    alloc: Global,
+    out: Vec<u8>,
+    page: &str,
+    marks: &[u8],
+) -> Result<Vec<u8>, AllocError>
+    ensures text { (marked : Items) → marks.now ≡ item_commas marked → IfOk result (λ v. v.items
+        ≡ out.items ++ member_text (codes "annotations")
+        (array (item (marks_page page.now marked) no_items))) }
+{
+    let out = push_name(out, "annotations")?;
+    let start = out.len();
+    let out = push_comma(out)?;
+    let out = push_marks_page(alloc, out, page, marks)?;
+    let out = close_items(out, start)?;
+    Ok(out)
+}
+
+/// Writes the page that the marks have.
+fn push_marks_page(
+    alloc: Global,
+    out: Vec<u8>,
+    page: &str,
+    marks: &[u8],
+) -> Result<Vec<u8>, AllocError>
+    ensures text { (marked : Items) → marks.now ≡ item_commas marked → IfOk result (λ v. v.items
+        ≡ out.items ++ compact_text (marks_page page.now marked)) }
+    ensures grows { IfOk result (λ v. vec_len out ≤ vec_len v) }
+{
+    let start = out.len();
+    let id = format!(in alloc; "{page}#match")?;
+    let out = push_text_member(out, "id", id.as_str())?;
+    let out = push_marks_items(out, marks)?;
+    let out = push_text_member(out, "type", "AnnotationPage")?;
+    let out = close_members(out, start)?;
+    Ok(out)
+}
+
+/// Writes the marks as the items of their page.
+fn push_marks_items(out: Vec<u8>, marks: &[u8]) -> Result<Vec<u8>, AllocError>
+    ensures text { (marked : Items) → marks.now ≡ item_commas marked → IfOk result
+        (λ v. v.items ≡ out.items ++ member_text (codes "items") (array marked)) }
+    ensures grows { IfOk result (λ v. vec_len out ≤ vec_len v) }
+{
+    let mut out = push_name(out, "items")?;
+    let start = out.len();
+    out.extend_from_slice(marks)?;
+    let out = close_items(out, start)?;
+    Ok(out)
+}
+
+/// Writes the names of parameters that were ignored, the page's items, and the link to the page
+/// after it.
 fn push_content(
     alloc: Global,
     out: Vec<u8>,
-    whole: &str,
+    whole: &Whole,
     paging: Paging,
     items: &[u8],
+    ignored: &[Text],
 ) -> Result<Vec<u8>, AllocError>
     requires size { 1 ≤ paging.size }
     ensures text { (list : Items) → items.now ≡ item_commas list → IfOk result (λ v. v.items
-        ≡ out.items ++ content_text whole.now paging.page paging.size paging.total list) }
+        ≡ out.items
+        ++ content_text whole.now paging.page paging.size paging.total list ignored.now) }
 {
-    let id = page_iri(alloc, whole, paging.page as usize)?;
-    let out = push_text_member(out, "@context", SEARCH_CONTEXT)?;
-    let out = push_text_member(out, "id", id.as_str())?;
+    let out = push_ignored(out, ignored)?;
     let out = push_array_member(out, "items", items)?;
     let out = push_next(alloc, out, whole, paging)?;
+    Ok(out)
+}
+
+/// Writes the names of parameters that were ignored, where there are some.
+pub fn push_ignored(out: Vec<u8>, ignored: &[Text]) -> Result<Vec<u8>, AllocError>
+    ensures text { IfOk result
+        (λ v. v.items ≡ out.items ++ text_if (codes "ignored") (texts_beside ignored.now)) }
+{
+    if ignored.is_empty() {
+        Ok(out)
+    } else {
+        push_texts_member(out, "ignored", ignored)
+    }
+}
+
+/// Writes texts as a member of this name.
+fn push_texts_member(out: Vec<u8>, name: &str, texts: &[Text]) -> Result<Vec<u8>, AllocError>
+    ensures text { IfOk result (λ v. v.items
+        ≡ out.items ++ member_text name.now (array (items_of (map string texts.now)))) }
+{
+    let out = push_name(out, name)?;
+    let start = out.len();
+    let out = push_text_items(out, texts)?;
+    let out = close_items(out, start)?;
+    Ok(out)
+}
+
+/// Writes texts as items, each behind a comma.
+fn push_text_items(out: Vec<u8>, texts: &[Text]) -> Result<Vec<u8>, AllocError>
+    ensures text { IfOk result
+        (λ v. v.items ≡ out.items ++ item_commas (items_of (map string texts.now))) }
+{
+    let mut out = out;
+    for text in texts {
+        out = push_text_item(out, text.as_str())?;
+    }
+    Ok(out)
+}
+
+fn push_text_item(out: Vec<u8>, text: &str) -> Result<Vec<u8>, AllocError>
+    ensures text { IfOk result (λ v. v.items ≡ out.items ++ item_text (string text.now)) }
+{
+    let out = push_comma(out)?;
+    let out = push_text(out, text)?;
     Ok(out)
 }
 
@@ -84,7 +227,7 @@ fn push_content(
 fn push_next(
     alloc: Global,
     out: Vec<u8>,
-    whole: &str,
+    whole: &Whole,
     paging: Paging,
 ) -> Result<Vec<u8>, AllocError>
     requires size { 1 ≤ paging.size }
@@ -104,7 +247,7 @@ fn push_next(
 fn push_place(
     alloc: Global,
     out: Vec<u8>,
-    whole: &str,
+    whole: &Whole,
     paging: Paging,
 ) -> Result<Vec<u8>, AllocError>
     requires page { 1 ≤ paging.page }
@@ -124,7 +267,7 @@ fn push_place(
 fn push_prev(
     alloc: Global,
     out: Vec<u8>,
-    whole: &str,
+    whole: &Whole,
     paging: Paging,
 ) -> Result<Vec<u8>, AllocError>
     ensures text { IfOk result (λ v. v.items
@@ -142,7 +285,7 @@ fn push_prev(
 fn push_whole(
     alloc: Global,
     out: Vec<u8>,
-    whole: &str,
+    whole: &Whole,
     pages: usize,
     total: usize,
 ) -> Result<Vec<u8>, AllocError>
@@ -151,11 +294,20 @@ fn push_whole(
 {
     let start = out.len();
     let out = push_link_member(alloc, out, "first", whole, 1)?;
-    let out = push_text_member(out, "id", whole)?;
+    let out = push_whole_id(alloc, out, whole)?;
     let out = push_link_member(alloc, out, "last", whole, pages)?;
     let out = push_number_member(out, "total", total as u64)?;
     let out = push_text_member(out, "type", "AnnotationCollection")?;
     let out = close_members(out, start)?;
+    Ok(out)
+}
+
+fn push_whole_id(alloc: Global, out: Vec<u8>, whole: &Whole) -> Result<Vec<u8>, AllocError>
+    ensures text { IfOk result (λ v. v.items
+        ≡ out.items ++ member_text (codes "id") (string (whole_iri whole.now))) }
+{
+    let id = whole_iri(alloc, whole)?;
+    let out = push_text_member(out, "id", id.as_str())?;
     Ok(out)
 }
 
@@ -164,7 +316,7 @@ fn push_link_member(
     alloc: Global,
     out: Vec<u8>,
     name: &str,
-    whole: &str,
+    whole: &Whole,
     number: usize,
 ) -> Result<Vec<u8>, AllocError>
     ensures text { IfOk result
@@ -176,7 +328,12 @@ fn push_link_member(
 }
 
 /// Writes a page, as another names it.
-fn push_link(alloc: Global, out: Vec<u8>, whole: &str, number: usize) -> Result<Vec<u8>, AllocError>
+fn push_link(
+    alloc: Global,
+    out: Vec<u8>,
+    whole: &Whole,
+    number: usize,
+) -> Result<Vec<u8>, AllocError>
     ensures text { IfOk result
         (λ v. v.items ≡ out.items ++ compact_text (page_link whole.now number)) }
 {
@@ -188,8 +345,28 @@ fn push_link(alloc: Global, out: Vec<u8>, whole: &str, number: usize) -> Result<
     Ok(out)
 }
 
-fn page_iri(alloc: Global, whole: &str, number: usize) -> Result<String, AllocError>
-    ensures { IfOk result (λ iri. string_bytes iri ≡ page_iri whole.now number) }
+/// The IRI of the list.
+pub(crate) fn whole_iri(alloc: Global, whole: &Whole) -> Result<String, AllocError>
+    ensures iri { IfOk result (λ iri. string_bytes iri ≡ whole_iri whole.now) }
 {
-    format!(in alloc; "{whole}&page={number}")
+    let path = whole.path.as_str();
+    let parameters = whole.parameters.as_str();
+    if parameters.is_empty() {
+        format!(in alloc; "{path}")
+    } else {
+        format!(in alloc; "{path}?{parameters}")
+    }
+}
+
+/// The IRI of a page of the list.
+pub(crate) fn page_iri(alloc: Global, whole: &Whole, number: usize) -> Result<String, AllocError>
+    ensures iri { IfOk result (λ iri. string_bytes iri ≡ page_iri whole.now number) }
+{
+    let path = whole.path.as_str();
+    let parameters = whole.parameters.as_str();
+    if parameters.is_empty() {
+        format!(in alloc; "{path}?page={number}")
+    } else {
+        format!(in alloc; "{path}?{parameters}&page={number}")
+    }
 }

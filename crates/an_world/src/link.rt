@@ -50,7 +50,8 @@ pub trait Link: Drop {
 
         // A failed write moves no bytes.
         ensures fault_still { OnErr result (traffic self.new ≡ traffic self.old) }
-        ensures fault_counted { OnErr result (Rises (write_faults self.old) (write_faults self.new)) }
+        ensures fault_counted { OnErr result
+            (Rises (write_faults self.old) (write_faults self.new)) }
         ensures read_faults_kept { read_faults self.old ≤ read_faults self.new }
         ensures write_faults_kept { write_faults self.old ≤ write_faults self.new };
 

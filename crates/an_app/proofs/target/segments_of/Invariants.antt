@@ -1,10 +1,11 @@
 use Rattle.std.proofs.Common.{◌≡◌, ◌++◌, drop, map}
 use Rattle.std.specs.Prelude.{option_map}
-use Rattle.an_app.specs.Target.{all_there, segment, segments_of}
+use Rattle.an_search.specs.Pairs.{all_there, escaped_text}
+use Rattle.an_app.specs.Target.{segments_of}
 use Rattle.an_app.proofs.target.segments_of.Given as goal
 
 -- the segments that are left stand behind those that were decoded
 abbrev pub invariant-loop-piece : goal.invariant-loop-piece
 invariant-loop-piece l =
-    option_map (λ xs. l.segments.items ++ xs) (all_there (map segment (map (λ x. x.now) (drop l.piece-index l.piece-items))))
+    option_map (λ xs. l.segments.items ++ xs) (all_there (map escaped_text (map (λ x. x.now) (drop l.piece-index l.piece-items))))
     ≡ segments_of l.path

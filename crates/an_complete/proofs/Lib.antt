@@ -1,0 +1,5 @@
+pub mod AskLemmas
+mod AskRows
+mod CompleteRows
+pub mod NoteLemmas
+pub mod TextLemmas

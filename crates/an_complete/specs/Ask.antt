@@ -1,0 +1,66 @@
+-- The query of a completion (IIIF Content Search API 2.0).
+use Rattle.std.specs.Prelude.{ℕ, List, [], ◌∷◌, length, nat_lt, Option, Some, None, option_map}
+use Rattle.std.specs.Prelude.{option_and_then, unwrap_or, Result, Bool, true, is_none, not, ◌&&◌}
+use Rattle.an_base.specs.Outcome.{when, first_of, unless, or_refuse, passes}
+use Rattle.an_terms.specs.Terms.{term_of}
+use Rattle.an_search.specs.Dates.{bad_date}
+use Rattle.an_search.specs.Given.{value_of, twice_of, others_of, is_number, number_in}
+use Rattle.an_search.specs.Given.{is_bad_number}
+use Rattle.an_search.specs.Pairs.{pairs_of}
+use Rattle.an_search.specs.declared.pairs.Pair.{Pair}
+use Rattle.an_base.specs.declared.parameter.Parameter.{Parameter}
+use Rattle.an_base.specs.declared.parameter.Parameter.TheVariants as parameter
+use Rattle.an_complete.specs.declared.ask.QueryAskError.{QueryAskError}
+use Rattle.an_complete.specs.declared.ask.QueryAskError.TheVariants as refusal
+
+-- the values that were given, and the names of no parameter of a completion
+pub record AskRecord : Type 0 where
+  pub q : List ℕ
+  pub min : Option ℕ
+  pub motivation : Option (List ℕ)
+  pub date : Option (List ℕ)
+  pub user : Option (List ℕ)
+  pub ignored : List (List ℕ)
+
+-- what may be given is a number
+abbrev pub is_number_if : Option ℕ → Bool
+is_number_if None = true
+is_number_if (Some n) = is_number n
+
+-- each piece of the date is a range, and the least number of occurrences a number
+abbrev pub is_ask : Option (List ℕ) → Option ℕ → Bool
+is_ask date min = is_none (bad_date date) && is_number_if min
+
+-- the parameters of a completion
+abbrev pub ask_parameters : List Parameter
+ask_parameters =
+    parameter.Q ∷ parameter.Min ∷ parameter.Motivation ∷ parameter.Date ∷ parameter.User ∷ []
+
+-- there is a prefix: a value whose folded text isn't empty
+abbrev pub has_prefix : Option (List ℕ) → Bool
+has_prefix q = passes (λ value. nat_lt 0 (length (term_of value))) q
+
+-- why pairs give no query, in the order of the refusals
+abbrev pub ask_refusals : List Pair → List (Option QueryAskError)
+ask_refusals pairs =
+    option_map refusal.Twice (twice_of ask_parameters pairs)
+    ∷ when (not (has_prefix (value_of parameter.Q pairs))) refusal.NoPrefix
+    ∷ when (is_bad_number (value_of parameter.Min pairs)) refusal.Min
+    ∷ option_map refusal.Date (bad_date (value_of parameter.Date pairs)) ∷ []
+
+-- the query that pairs give
+abbrev pub ask_in : List Pair → AskRecord
+ask_in pairs = record {
+  q = unwrap_or (value_of parameter.Q pairs) [];
+  min = option_and_then number_in (value_of parameter.Min pairs);
+  motivation = value_of parameter.Motivation pairs;
+  date = value_of parameter.Date pairs;
+  user = value_of parameter.User pairs;
+  ignored = others_of ask_parameters pairs;
+}
+
+-- the query that a text is, or the first refusal
+unfoldable pub ask_of : List ℕ → Result AskRecord QueryAskError
+ask_of text =
+    or_refuse refusal.Bytes (pairs_of text) (λ pairs.
+    unless (first_of (ask_refusals pairs)) (ask_in pairs))

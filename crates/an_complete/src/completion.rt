@@ -1,0 +1,93 @@
+ghost use Rattle.std.specs.Prelude.{◌≡◌, IfOk};
+ghost use Rattle.serde_json.specs.Written.{compact_text};
+ghost use Rattle.an_base.specs.Outcome.{Gives};
+ghost use Rattle.an_policy.specs.Audience.{identity};
+ghost use Rattle.an_machine.specs.View.{view_of};
+ghost use Rattle.an_complete.specs.Complete.{ask_iri, asked_terms, complete_of, filters_of};
+ghost use Rattle.an_complete.specs.Complete.{terms_page};
+
+use crate::ask::Ask;
+use crate::page::{ask_iri, terms_text};
+use crate::totals::{asked_totals, first_terms};
+use an_base::{Bytes, Name, Steps, TermTotal};
+use an_machine::{Look, shown_manifest};
+use an_policy::Who;
+use an_search::{Settings, Wanted, wanted_by};
+use an_terms::term_of;
+use std::alloc::{AllocError, Global};
+use std::sync::ledger::Ledger;
+
+/// Why a completion has no answer.
+#[derive(Clone, Copy, Debug, PartialEq, Eq)]
+pub enum CompleteError {
+    /// There is no such manifest that the caller may read.
+    NoManifest,
+    Memory,
+}
+
+/// The terms that complete a prefix (IIIF Content Search API 2.0): the first 100 of those that
+/// begin with it and occur often enough in the annotations on a manifest that the caller may read
+/// and that pass the filters, each with its total.
+pub fn complete<T: Look, L: Ledger>(
+    alloc: Global,
+    look: &T,
+    who: &Who<'_>,
+    manifest: &Name,
+    ask: &Ask,
+    settings: &Settings,
+    steps: &mut Steps<L>,
+) -> Result<Bytes, CompleteError>
+    ensures answer { Gives (λ page. page) CompleteError.Memory result (complete_of settings.now
+        (view_of (T.state look.now) (identity who.now)) manifest.now ask.now) }
+{
+    match shown_manifest(look, who, manifest) {
+        Some(_) => match page_of_terms(alloc, look, who, manifest, ask, settings, steps) {
+            Ok(page) => Ok(page),
+            Err(_) => Err(CompleteError::Memory),
+        },
+        None => Err(CompleteError::NoManifest),
+    }
+}
+
+fn page_of_terms<T: Look, L: Ledger>(
+    alloc: Global,
+    look: &T,
+    who: &Who<'_>,
+    manifest: &Name,
+    ask: &Ask,
+    settings: &Settings,
+    steps: &mut Steps<L>,
+) -> Result<Bytes, AllocError>
+    ensures { IfOk result (λ page. page ≡ compact_text
+        (terms_page (ask_iri settings.now.base manifest.now ask.now) ask.now.ignored
+        (asked_terms (view_of (T.state look.now) (identity who.now)) manifest.now ask.now))) }
+{
+    let terms = asked_terms(alloc, look, who, manifest, ask, steps)?;
+    let iri = ask_iri(alloc, settings.base(), manifest, ask)?;
+    terms_text(alloc, iri.as_str(), ask.ignored(), terms.as_slice())
+}
+
+/// The terms that are given.
+fn asked_terms<T: Look, L: Ledger>(
+    alloc: Global,
+    look: &T,
+    who: &Who<'_>,
+    manifest: &Name,
+    ask: &Ask,
+    steps: &mut Steps<L>,
+) -> Result<Vec<TermTotal>, AllocError>
+    ensures { IfOk result (λ terms. terms.items ≡ asked_terms
+        (view_of (T.state look.now) (identity who.now)) manifest.now ask.now) }
+{
+    let prefix = term_of(alloc, ask.q())?;
+    let filters = filters_of(alloc, ask)?;
+    let totals = asked_totals(alloc, look, who, manifest, prefix.as_str(), &filters, steps)?;
+    first_terms(alloc, ask.min(), totals)
+}
+
+/// What the filters want of an annotation.
+fn filters_of(alloc: Global, ask: &Ask) -> Result<Wanted, AllocError>
+    ensures { IfOk result (λ filters. filters ≡ filters_of ask.now) }
+{
+    wanted_by(alloc, None, ask.motivation(), ask.date(), ask.user())
+}

@@ -1,0 +1,106 @@
+ghost use Rattle.std.specs.Prelude.{◌≡◌, List, [], ◌∷◌, ◌++◌, filter, slice_get, IfOk, OnOk};
+ghost use Rattle.std.specs.List.{filter_map};
+ghost use Rattle.an_policy.specs.Audience.{identity};
+ghost use Rattle.an_machine.specs.State.{KeptNote};
+ghost use Rattle.an_machine.specs.Terms.{totals_in};
+ghost use Rattle.an_machine.specs.View.{view_of};
+ghost use Rattle.an_search.specs.Wanted.{matches};
+ghost use Rattle.an_complete.specs.Complete.{asked_notes, first_terms, is_enough};
+
+use an_base::{Name, Steps, TermTotal};
+use an_machine::{Look, NoteRow, TermTotals};
+use an_policy::Who;
+use an_search::{Wanted, matches, wants_nothing};
+use std::alloc::{AllocError, Global};
+use std::sync::ledger::Ledger;
+
+/// How many terms are given at most.
+const MOST_TERMS: usize = 100;
+
+/// How often each term with this prefix occurs in the annotations on a manifest that the caller may
+/// read and that the filters let pass. Without a filter it takes no step, and else one for each
+/// annotation on the manifest that the caller may read.
+pub(crate) fn asked_totals<T: Look, L: Ledger>(
+    alloc: Global,
+    look: &T,
+    who: &Who<'_>,
+    manifest: &Name,
+    prefix: &str,
+    filters: &Wanted,
+    steps: &mut Steps<L>,
+) -> Result<Vec<TermTotal>, AllocError>
+    ensures totals { IfOk result (λ totals. totals.items ≡ totals_in prefix.now
+        (asked_notes (view_of (T.state look.now) (identity who.now)) manifest.now filters.now)) }
+{
+    if wants_nothing(filters) {
+        look.terms_from(alloc, who, manifest, prefix)
+    } else {
+        let places = look.readable(alloc, who, manifest)?;
+        count(alloc, look, places.as_slice(), prefix, filters, steps)
+    }
+}
+
+/// The same of the annotations at these places.
+fn count<T: Look, L: Ledger>(
+    alloc: Global,
+    look: &T,
+    places: &[usize],
+    prefix: &str,
+    filters: &Wanted,
+    steps: &mut Steps<L>,
+) -> Result<Vec<TermTotal>, AllocError>
+    ensures { IfOk result (λ totals. totals.items ≡ totals_in prefix.now
+        (filter (matches filters.now)
+        (filter_map (slice_get (T.state look.now).notes) places.now))) }
+{
+    let mut totals = TermTotals::new(alloc);
+    for place in places {
+        match look.note_at(*place, steps) {
+            Some(row) => try_row(&mut totals, row, prefix, filters)?,
+            None => {}
+        }
+    }
+    totals.into_vec()
+}
+
+/// Counts the terms of the annotation if the filters let it pass.
+fn try_row(
+    totals: &mut TermTotals,
+    row: &NoteRow,
+    prefix: &str,
+    filters: &Wanted,
+) -> Result<(), AllocError>
+    ensures row { OnOk result ((rows : List KeptNote) → totals.old ≡ totals_in prefix.now rows
+        → totals.new ≡ totals_in prefix.now (rows ++ filter (matches filters.now) (row.now ∷ []))) }
+{
+    if matches(row, filters) {
+        totals.add_row(row, prefix)
+    } else {
+        Ok(())
+    }
+}
+
+/// The first of the terms that occur often enough.
+pub(crate) fn first_terms(
+    alloc: Global,
+    min: Option<u32>,
+    terms: Vec<TermTotal>,
+) -> Result<Vec<TermTotal>, AllocError>
+    ensures first { IfOk result (λ first. first.items ≡ first_terms min terms.items) }
+{
+    terms
+        .into_iter()
+        .filter(|term| is_enough(min, term))
+        .take(MOST_TERMS)
+        .collect(alloc)
+}
+
+/// Whether the term occurs often enough: once, where no number is given.
+fn is_enough(min: Option<u32>, term: &TermTotal) -> bool
+    ensures { result ≡ is_enough min term.now }
+{
+    match min {
+        Some(min) => u64::from(min) <= term.total,
+        None => 1 <= term.total,
+    }
+}

@@ -1,0 +1,63 @@
+-- The annotations that mark the words by which a search found an annotation (match annotations of
+-- the IIIF Content Search API 2.0).
+use Rattle.std.specs.Prelude.{ℕ, ◌+◌, List, [], ◌∷◌, ◌++◌, filter, take, codes, decimal}
+use Rattle.std.specs.Prelude.{slice_index_or}
+use Rattle.serde_json.specs.Data.{Data, string, array, object, item, no_items, member, no_members}
+use Rattle.an_base.specs.TextSet.{has_text}
+use Rattle.an_selectors.specs.Places.{quote_of_span}
+use Rattle.an_selectors.specs.declared.quote.Quote.{Quote}
+use Rattle.an_model.specs.Bodies.{texts_of, note_occurrences}
+use Rattle.an_model.specs.declared.occurrence.NoteOccurrence.{NoteOccurrence}
+
+-- ---- which words are marked
+
+-- the first ten words whose term is one of those that are sought
+abbrev pub marked : List (List ℕ) → List NoteOccurrence → List NoteOccurrence
+marked terms words = take 10 (filter (λ word. has_text word.term terms) words)
+
+-- ---- the mark of one
+
+-- the word as it is written, with up to 16 code points of its text before and behind it
+abbrev pub quoted : List (List ℕ) → NoteOccurrence → Quote
+quoted texts word = quote_of_span (slice_index_or texts word.text []) word.span 16
+
+-- a Text Quote Selector (Web Annotation Data Model, section 4.2.4)
+abbrev pub quote_tree : Quote → Data
+quote_tree quote =
+    object (member (codes "exact") (string quote.exact)
+    (member (codes "prefix") (string quote.prefix)
+    (member (codes "suffix") (string quote.suffix)
+    (member (codes "type") (string (codes "TextQuoteSelector")) no_members))))
+
+-- the part of a source that is quoted: a Specific Resource (section 4)
+abbrev pub target_tree : List ℕ → Quote → Data
+target_tree source quote =
+    object (member (codes "selector") (array (item (quote_tree quote) no_items))
+    (member (codes "source") (string source)
+    (member (codes "type") (string (codes "SpecificResource")) no_members)))
+
+-- the IRI of the mark of this number on a page
+abbrev pub mark_iri : List ℕ → ℕ → List ℕ
+mark_iri page number = page ++ (codes "#match-" ++ decimal number)
+
+-- the annotation that marks a word of these texts
+abbrev pub mark_tree : List (List ℕ) → List ℕ → List ℕ → ℕ → NoteOccurrence → Data
+mark_tree texts source page number word =
+    object (member (codes "id") (string (mark_iri page number))
+    (member (codes "motivation") (string (codes "highlighting"))
+    (member (codes "target") (target_tree source (quoted texts word))
+    (member (codes "type") (string (codes "Annotation")) no_members))))
+
+-- ---- the marks of an annotation
+
+-- the marks of words, numbered on from this number
+abbrev pub marks_from
+    : List (List ℕ) → List ℕ → List ℕ → ℕ → List NoteOccurrence → List Data
+marks_from texts source page number [] = []
+marks_from texts source page number (word ∷ words) =
+    mark_tree texts source page number word ∷ marks_from texts source page (number + 1) words
+
+-- the marks of an annotation with the IRI `source` for these terms, numbered on from this number
+unfoldable pub highlights_of : Data → List ℕ → List (List ℕ) → List ℕ → ℕ → List Data
+highlights_of tree source terms page number =
+    marks_from (texts_of tree) source page number (marked terms (note_occurrences tree))

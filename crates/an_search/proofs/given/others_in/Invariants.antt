@@ -1,0 +1,11 @@
+use Rattle.std.proofs.Common.{◌≡◌, drop, map}
+use Rattle.std.specs.Prelude.{fold, filter}
+use Rattle.an_base.specs.TextSet.{with_text}
+use Rattle.an_search.specs.Given.{is_other, others_of}
+use Rattle.an_search.proofs.given.others_in.Given as goal
+
+-- the other names so far, with those that are left
+abbrev pub invariant-loop-pair : goal.invariant-loop-pair
+invariant-loop-pair l =
+    fold with_text l.others.items (filter (is_other l.reads) (map (λ pair. pair.name) (drop l.pair-index l.pairs)))
+    ≡ others_of l.reads l.pairs

@@ -1,0 +1,19 @@
+use Rattle.std.proofs.Common.{◌≡◌, ap, ◌∙◌, codes}
+use Rattle.std.specs.List.{filter_map}
+use Rattle.serde_json.specs.View.{items_of}
+use Rattle.serde_json.specs.Written.{compact_text}
+use Rattle.an_search.specs.Listed.{listed_note}
+use Rattle.an_search.specs.Page.{list_page, page_iri}
+use Rattle.an_search.specs.Search.{marks_of, search_context}
+use Rattle.an_search.proofs.searching.write_page.Goals as goal
+
+pub returns : goal.returns
+returns g c = λ rows stand.
+    let listed = c.in_ok-listed.ensures.listed rows stand in
+    let iri : c.as_str.result.now ≡ page_iri c.args.whole.now c.args.paging.page = c.as_str.ensures.value ∙ c.in_ok-iri.ensures.iri in
+    let items = c.as_slice-items.ensures.value ∙ listed.items in
+    let marks = c.as_slice-marks.ensures.value ∙ listed.marks in
+    let whole = c.args.whole.now in
+    let shown = items_of (filter_map (listed_note c.args.base.now) rows) in
+    c.in_ok-text.ensures.text shown (items_of (marks_of c.args.base.now c.args.terms.now c.as_str.result.now 1 rows)) items marks
+    ∙ ap (λ iri. compact_text (list_page search_context whole c.args.paging.page c.args.paging.size c.args.paging.total shown (items_of (marks_of c.args.base.now c.args.terms.now iri 1 rows)) c.args.ignored.now)) iri

@@ -1,0 +1,100 @@
+-- What a query wants of an annotation (IIIF Content Search API 2.0).
+use Rattle.std.specs.Prelude.{ℕ, ℤ, List, [], ◌∷◌, ◌++◌, length, codes, nat_eq, filter, Bool, true}
+use Rattle.std.specs.Prelude.{false, not, ◌&&◌, ◌||◌, ◌==◌, int_le, if◌then◌else◌, Option, Some}
+use Rattle.std.specs.Prelude.{None}
+use Rattle.std.specs.List.{list_all, list_any, filter_map, starts_with}
+use Rattle.serde_json.specs.Data.{Data}
+use Rattle.an_base.specs.Outcome.{passes}
+use Rattle.an_base.specs.TextSet.{has_text}
+use Rattle.an_terms.specs.Terms.{terms_of}
+use Rattle.an_model.specs.Bodies.{iris_of, note_terms}
+use Rattle.an_model.specs.Note.{motivations_of}
+use Rattle.an_machine.specs.State.{KeptNote, LiveNote}
+use Rattle.an_search.specs.Dates.{pieces_of, range_of}
+use Rattle.an_search.specs.Query.{QueryRecord}
+use Rattle.an_search.specs.declared.dates.DateRange.{DateRange}
+use Rattle.an_search.specs.declared.wanted.Wanted.{Wanted}
+
+-- ---- the pieces of a query
+
+abbrev pub given_pieces : Option (List ℕ) → List (List ℕ)
+given_pieces None = []
+given_pieces (Some value) = pieces_of value
+
+-- a piece with `://` in it is an IRI, and any other is words
+abbrev pub is_iri : List ℕ → Bool
+is_iri [] = false
+is_iri (b ∷ bytes) = starts_with nat_eq (b ∷ bytes) (codes "://") || is_iri bytes
+
+-- the terms of the pieces that are words, one piece behind the other
+abbrev pub words_of : List (List ℕ) → List (List ℕ)
+words_of [] = []
+words_of (piece ∷ pieces) =
+    (if is_iri piece then [] else terms_of piece) ++ words_of pieces
+
+-- the IRIs and the terms that a value asks for
+abbrev pub wanted_iris : Option (List ℕ) → List (List ℕ)
+wanted_iris q = filter is_iri (given_pieces q)
+
+abbrev pub wanted_terms : Option (List ℕ) → List (List ℕ)
+wanted_terms q = words_of (given_pieces q)
+
+abbrev pub wanted_ranges : Option (List ℕ) → List DateRange
+wanted_ranges date = filter_map range_of (given_pieces date)
+
+-- what is wanted where these values of `q`, `motivation`, `date` and `user` are given
+abbrev pub wanted_by : Option (List ℕ) → Option (List ℕ) → Option (List ℕ) → Option (List ℕ)
+    → Wanted
+wanted_by q motivation date user = record {
+  iris = wanted_iris q;
+  terms = wanted_terms q;
+  motivations = given_pieces motivation;
+  ranges = wanted_ranges date;
+  users = given_pieces user;
+}
+
+abbrev pub wanted_of : QueryRecord → Wanted
+wanted_of query = wanted_by query.q query.motivation query.date query.user
+
+-- nothing is wanted: no condition is set
+abbrev pub wants_nothing : Wanted → Bool
+wants_nothing wanted =
+    length wanted.iris == 0 && (length wanted.terms == 0 && (length wanted.motivations == 0
+    && (length wanted.ranges == 0 && length wanted.users == 0)))
+
+-- ---- what fits it
+
+-- no piece sets no condition
+abbrev pub is_none_or : {A : Type 0} → List A → Bool → Bool
+is_none_or [] fits = true
+is_none_or (one ∷ others) fits = fits
+
+-- one of the motivations is a piece, or `non-painting` is one and none of them is `painting`
+abbrev pub fits_motivations : List (List ℕ) → List (List ℕ) → Bool
+fits_motivations pieces motivations =
+    is_none_or pieces (list_any (λ piece. has_text piece motivations) pieces
+    || (has_text (codes "non-painting") pieces && not (has_text (codes "painting") motivations)))
+
+-- the moment lies in one of the ranges, both ends included
+abbrev pub is_in : ℤ → DateRange → Bool
+is_in moment range = int_le range.from moment && int_le moment range.to
+
+abbrev pub fits_ranges : List DateRange → ℤ → Bool
+fits_ranges ranges moment = is_none_or ranges (list_any (is_in moment) ranges)
+
+abbrev pub fits_users : List (List ℕ) → List ℕ → Bool
+fits_users users creator = is_none_or users (has_text creator users)
+
+-- each of these is among the others
+abbrev pub has_all : List (List ℕ) → List (List ℕ) → Bool
+has_all wanted texts = list_all (λ text. has_text text texts) wanted
+
+-- the annotation has each IRI among its bodies' and each term among its texts', and fits the rest
+abbrev pub fits : Wanted → LiveNote → Bool
+fits wanted live =
+    has_all wanted.iris (iris_of live.tree) && (has_all wanted.terms (note_terms live.tree)
+    && (fits_motivations wanted.motivations (motivations_of live.tree)
+    && (fits_ranges wanted.ranges live.created && fits_users wanted.users live.creator)))
+
+abbrev pub matches : Wanted → KeptNote → Bool
+matches wanted row = passes (fits wanted) row.live

@@ -1,0 +1,195 @@
+ghost use Rattle.std.specs.Prelude.{◌≡◌, IfOk, IsTrue, None};
+ghost use Rattle.std.specs.Option.{option_copied};
+ghost use Rattle.an_base.specs.Outcome.{Gives, first_of, unless, when};
+ghost use Rattle.an_search.specs.Given.{value_of, is_number, is_bad_number};
+ghost use Rattle.an_search.specs.Query.{query_refusals, query_in, query_of, page_in};
+ghost use Rattle.an_base.specs.declared.parameter.Parameter.TheVariants as parameter;
+
+use crate::dates::bad_date;
+use crate::given::{copied_value, is_bad_number, number_in, others_in, twice_in, value_in};
+use crate::pairs::{Pair, query_pairs};
+use an_base::{List, Parameter, Text};
+use std::alloc::{AllocError, Global};
+use std::marker::Model;
+
+/// The parameters of a search.
+const SEARCH_PARAMETERS: [Parameter; 5] = [
+    Parameter::Q,
+    Parameter::Motivation,
+    Parameter::Date,
+    Parameter::User,
+    Parameter::Page,
+];
+
+/// The query of a search: the values that were given, decoded.
+#[derive(Debug, Drop)]
+pub struct Query {
+    pub q: Option<Text>,
+    pub motivation: Option<Text>,
+    /// Each of its pieces is two texts of moments, joined by `/`.
+    pub date: Option<Text>,
+    pub user: Option<Text>,
+    /// From 1 to 999,999,999.
+    pub page: u32,
+    /// The names of no parameter of a search, each where it first came.
+    pub ignored: List<Text>,
+}
+
+impl Model for Query {
+    ghost use Rattle.std.specs.Prelude.{IsTrue};
+    ghost use Rattle.an_search.specs.Query.{QueryRecord, is_query};
+
+    ghost Value = { QueryRecord };
+
+    ghost view = { λ q. record {
+      q = q.q;
+      motivation = q.motivation;
+      date = q.date;
+      user = q.user;
+      page = q.page;
+      ignored = q.ignored;
+    } };
+
+    ghost invariant = { λ q. IsTrue (is_query q.date q.page) };
+}
+
+/// Why a text is no query of a search.
+#[derive(Clone, Copy, Debug, PartialEq, Eq)]
+pub enum QueryError {
+    /// A parameter comes twice; of several it is the one whose second coming stands first.
+    Twice { name: Parameter },
+    /// This piece of the date, from 0, isn't two texts of moments, joined by `/`.
+    Date { at: usize },
+    /// The page isn't decimal from 1 to 999,999,999 without leading zeros.
+    Page,
+    /// A name or a value, of whatever parameter, isn't UTF-8 once it is decoded.
+    Bytes,
+    Memory,
+}
+
+impl Query {
+    ghost use Rattle.an_search.specs.Dates.{bad_date};
+    ghost use Rattle.an_search.specs.Given.{is_number};
+
+    /// What is searched for.
+    pub fn q(&self) -> Option<&Text>
+        ensures value { option_copied result ≡ self.now.q }
+    {
+        self.q.as_ref()
+    }
+
+    /// The motivations that are asked for.
+    pub fn motivation(&self) -> Option<&Text>
+        ensures value { option_copied result ≡ self.now.motivation }
+    {
+        self.motivation.as_ref()
+    }
+
+    /// When annotations were made.
+    pub fn date(&self) -> Option<&Text>
+        ensures value { option_copied result ≡ self.now.date }
+        ensures ranges { bad_date self.now.date ≡ None }
+    {
+        self.date.as_ref()
+    }
+
+    /// Who made them.
+    pub fn user(&self) -> Option<&Text>
+        ensures value { option_copied result ≡ self.now.user }
+    {
+        self.user.as_ref()
+    }
+
+    /// The page that is asked for.
+    pub fn page(&self) -> u32
+        ensures value { result ≡ self.now.page }
+        ensures number { IsTrue (is_number result) }
+    {
+        self.page
+    }
+
+    /// The names of no parameter of a search.
+    pub fn ignored(&self) -> &[Text]
+        ensures value { result.now ≡ self.now.ignored }
+    {
+        self.ignored.as_slice()
+    }
+}
+
+/// The query of a search that a text is (IIIF Content Search API 2.0; URL Standard, section 5.1),
+/// or the first of the refusals in this order: `Bytes`, `Twice`, `Date`, `Page`.
+#[tactic(auto, unfolding(crate::specs::Query::query_of))]
+pub fn read_query(alloc: Global, text: &str) -> Result<Query, QueryError>
+    ensures query { Gives (λ query. query) QueryError.Memory result (query_of text.now) }
+{
+    match query_pairs(alloc, text) {
+        Ok(Some(pairs)) => query_in(alloc, pairs.as_slice()),
+        Ok(None) => Err(QueryError::Bytes),
+        Err(_) => Err(QueryError::Memory),
+    }
+}
+
+fn query_in(alloc: Global, pairs: &[Pair]) -> Result<Query, QueryError>
+    ensures { Gives (λ query. query) QueryError.Memory result
+        (unless (first_of (query_refusals pairs.now)) (query_in pairs.now)) }
+{
+    match refusal_in(pairs) {
+        Some(refusal) => Err(refusal),
+        None => match filled(alloc, pairs) {
+            Ok(query) => Ok(query),
+            Err(_) => Err(QueryError::Memory),
+        },
+    }
+}
+
+/// The first refusal of the pairs.
+fn refusal_in(pairs: &[Pair]) -> Option<QueryError>
+    ensures { result ≡ first_of (query_refusals pairs.now) }
+{
+    match twice_in(&SEARCH_PARAMETERS, pairs) {
+        Some(name) => Some(QueryError::Twice { name }),
+        None => match bad_date(value_in(Parameter::Date, pairs)) {
+            Some(at) => Some(QueryError::Date { at }),
+            None => bad_page(pairs),
+        },
+    }
+}
+
+fn bad_page(pairs: &[Pair]) -> Option<QueryError>
+    ensures { result ≡ when (is_bad_number (value_of parameter.Page pairs.now)) QueryError.Page }
+{
+    if is_bad_number(value_in(Parameter::Page, pairs)) {
+        Some(QueryError::Page)
+    } else {
+        None
+    }
+}
+
+/// The query that the pairs give.
+fn filled(alloc: Global, pairs: &[Pair]) -> Result<Query, AllocError>
+    requires { first_of (query_refusals pairs.now) ≡ None }
+    ensures { IfOk result (λ query. query ≡ query_in pairs.now) }
+{
+    Ok(Query {
+        q: copied_value(Parameter::Q, pairs)?,
+        motivation: copied_value(Parameter::Motivation, pairs)?,
+        date: copied_value(Parameter::Date, pairs)?,
+        user: copied_value(Parameter::User, pairs)?,
+        page: page_in(pairs),
+        ignored: others_in(alloc, &SEARCH_PARAMETERS, pairs)?,
+    })
+}
+
+/// The page that is asked for, the first where none is.
+fn page_in(pairs: &[Pair]) -> u32
+    ensures page { result ≡ page_in pairs.now }
+    ensures number { IsTrue (is_number result) }
+{
+    match value_in(Parameter::Page, pairs) {
+        Some(value) => match number_in(value.as_str()) {
+            Some(page) => page,
+            None => 1,
+        },
+        None => 1,
+    }
+}

@@ -1,0 +1,220 @@
+ghost use Rattle.std.specs.Prelude.{◌≡◌, ◌≤◌, List, ◌++◌, codes, length, string_bytes, IfOk};
+ghost use Rattle.std.specs.List.{filter_map};
+ghost use Rattle.serde_json.specs.View.{items_of};
+ghost use Rattle.serde_json.specs.Written.{compact_text};
+ghost use Rattle.an_base.specs.Outcome.{Gives};
+ghost use Rattle.an_policy.specs.Audience.{identity};
+ghost use Rattle.an_machine.specs.State.{KeptNote};
+ghost use Rattle.an_machine.specs.View.{view_of};
+ghost use Rattle.an_search.specs.Found.{StandAt};
+ghost use Rattle.an_search.specs.Listed.{listed_note};
+ghost use Rattle.an_search.specs.Page.{list_page, page_iri, page_of};
+ghost use Rattle.an_search.specs.Search.{found_page, found_text, hits, marks_of, query_form};
+ghost use Rattle.an_search.specs.Search.{search_context, search_of};
+ghost use Rattle.an_search.specs.Search.{whole_of};
+ghost use Rattle.an_search.specs.Wanted.{wanted_of, wanted_terms};
+
+use crate::form::append_given;
+use crate::hits::hit_places;
+use crate::items::list_items;
+use crate::page::{Paging, Whole, page_iri, page_text};
+use crate::query::Query;
+use crate::settings::Settings;
+use crate::wanted::wanted_of;
+use an_base::{Bytes, Name, Parameter, Steps, Text};
+use an_machine::{Look, shown_manifest};
+use an_policy::Who;
+use form_urlencoded::Serializer;
+use std::alloc::{AllocError, Global};
+use std::sync::ledger::Ledger;
+
+/// The context of searches (IIIF Content Search API 2.0).
+pub const SEARCH_CONTEXT: &str = "http://iiif.io/api/search/2/context.json";
+
+/// Why a search has no answer.
+#[derive(Clone, Copy, Debug, PartialEq, Eq)]
+pub enum AskError {
+    /// There is no such manifest that the caller may read.
+    NoManifest,
+    /// The page is past the last one, which has this number.
+    NoPage { pages: usize },
+    Memory,
+}
+
+impl From<AllocError> for AskError {
+    ghost use Rattle.an_search.specs.declared.searching.AskError.TheVariants.{Memory};
+
+    ghost from_gives = { λ e error. error ≡ Memory };
+
+    fn from(_error: AllocError) -> AskError {
+        AskError::Memory
+    }
+}
+
+/// A page of a search in the annotations on a manifest (IIIF Content Search API 2.0): those that
+/// the caller may read and that are wanted, in their order, and the words that were found in them.
+pub fn search<T: Look, L: Ledger>(
+    alloc: Global,
+    look: &T,
+    who: &Who<'_>,
+    manifest: &Name,
+    query: &Query,
+    settings: &Settings,
+    steps: &mut Steps<L>,
+) -> Result<Bytes, AskError>
+    ensures answer { Gives (λ page. page) AskError.Memory result (search_of settings.now
+        (view_of (T.state look.now) (identity who.now)) manifest.now query.now) }
+{
+    match shown_manifest(look, who, manifest) {
+        Some(_) => search_shown(alloc, look, who, manifest, query, settings, steps),
+        None => Err(AskError::NoManifest),
+    }
+}
+
+fn search_shown<T: Look, L: Ledger>(
+    alloc: Global,
+    look: &T,
+    who: &Who<'_>,
+    manifest: &Name,
+    query: &Query,
+    settings: &Settings,
+    steps: &mut Steps<L>,
+) -> Result<Bytes, AskError>
+    ensures { Gives (λ page. page) AskError.Memory result
+        (found_text settings.now manifest.now query.now
+        (hits (view_of (T.state look.now) (identity who.now)) manifest.now
+        (wanted_of query.now))) }
+{
+    let wanted = wanted_of(alloc, query)?;
+    let places = hit_places(alloc, look, who, manifest, &wanted, steps)?;
+    let terms = wanted.terms.as_slice();
+    page_at(
+        alloc,
+        look,
+        manifest,
+        query,
+        settings,
+        places.as_slice(),
+        terms,
+        steps,
+    )
+}
+
+/// The page of what was found at these places.
+fn page_at<T: Look, L: Ledger>(
+    alloc: Global,
+    look: &T,
+    manifest: &Name,
+    query: &Query,
+    settings: &Settings,
+    places: &[usize],
+    terms: &[Text],
+    steps: &mut Steps<L>,
+) -> Result<Bytes, AskError>
+    requires terms { terms.now ≡ wanted_terms query.now.q }
+    ensures { (rows : List KeptNote) → StandAt (T.state look.now).notes places.now rows
+        → Gives (λ page. page) AskError.Memory result
+        (found_text settings.now manifest.now query.now rows) }
+{
+    let paging = Paging {
+        page: query.page(),
+        size: settings.size(),
+        total: places.len(),
+    };
+    let pages = paging.pages();
+    if pages < paging.page as usize {
+        return Err(AskError::NoPage { pages });
+    }
+    let base = settings.base();
+    let whole = whole_of(alloc, base, manifest, query)?;
+    let ignored = query.ignored();
+    let shown = page_of(places, paging);
+    Ok(write_page(
+        alloc,
+        look,
+        &whole,
+        paging,
+        base,
+        shown,
+        terms,
+        ignored,
+        steps,
+    )?)
+}
+
+fn write_page<T: Look, L: Ledger>(
+    alloc: Global,
+    look: &T,
+    whole: &Whole,
+    paging: Paging,
+    base: &str,
+    places: &[usize],
+    terms: &[Text],
+    ignored: &[Text],
+    steps: &mut Steps<L>,
+) -> Result<Bytes, AllocError>
+    requires few { length places.now ≤ 100 }
+    requires page { 1 ≤ paging.page }
+    requires size { 1 ≤ paging.size }
+    ensures { (rows : List KeptNote) → StandAt (T.state look.now).notes places.now rows
+        → IfOk result (λ text. text ≡ compact_text
+        (list_page search_context whole.now paging.page paging.size paging.total
+        (items_of (filter_map (listed_note base.now) rows))
+        (items_of (marks_of base.now terms.now (page_iri whole.now paging.page) 1 rows))
+        ignored.now)) }
+{
+    let iri = page_iri(alloc, whole, paging.page as usize)?;
+    let listed = list_items(alloc, look, places, terms, base, iri.as_str(), steps)?;
+    let items = listed.items.as_slice();
+    let marks = listed.marks.text.as_slice();
+    let text = page_text(alloc, SEARCH_CONTEXT, whole, paging, items, marks, ignored)?;
+    Ok(text)
+}
+
+/// The places whose annotations stand on the page.
+fn page_of(places: &[usize], paging: Paging) -> &[usize]
+    requires page { 1 ≤ paging.page }
+    ensures page { result.now ≡ page_of paging.page paging.size places.now }
+{
+    let start = (paging.start() as usize).min(places.len());
+    let end = start
+        .saturating_add(paging.size as usize)
+        .min(places.len());
+    &places[start..end]
+}
+
+/// All that a search finds.
+fn whole_of(
+    alloc: Global,
+    base: &str,
+    manifest: &Name,
+    query: &Query,
+) -> Result<Whole, AllocError>
+    ensures { IfOk result (λ whole. whole ≡ whole_of base.now manifest.now query.now) }
+{
+    let path = search_path(alloc, base, manifest.as_str())?;
+    let parameters = query_form(alloc, query)?;
+    Ok(Whole {
+        path: Text::from_string(path),
+        parameters: Text::from_string(parameters),
+    })
+}
+
+fn search_path(alloc: Global, base: &str, manifest: &str) -> Result<String, AllocError>
+    ensures { IfOk result (λ path. string_bytes path
+        ≡ base.now ++ (codes "/search/" ++ manifest.now)) }
+{
+    format!(in alloc; "{base}/search/{manifest}")
+}
+
+/// The parameters of a query that choose what is found, as a form.
+fn query_form(alloc: Global, query: &Query) -> Result<String, AllocError>
+    ensures { IfOk result (λ form. string_bytes form ≡ query_form query.now) }
+{
+    let mut form = Serializer::new(String::new(alloc));
+    append_given(&mut form, Parameter::Q, query.q())?;
+    append_given(&mut form, Parameter::Motivation, query.motivation())?;
+    append_given(&mut form, Parameter::Date, query.date())?;
+    append_given(&mut form, Parameter::User, query.user())?;
+    Ok(form.finish())
+}

@@ -1,0 +1,280 @@
+ghost use Rattle.std.specs.Prelude.{◌≡◌, ◌==◌, [], IfOk, filter, map, if◌then◌else◌};
+ghost use Rattle.std.specs.List.{filter_map, list_any, slice_split};
+ghost use Rattle.std.specs.Option.{option_copied};
+ghost use Rattle.an_terms.specs.Terms.{terms_of};
+ghost use Rattle.an_base.specs.TextSet.{has_text};
+ghost use Rattle.an_machine.specs.Live.{lent_note};
+ghost use Rattle.an_model.specs.Bodies.{iris_of, note_terms};
+ghost use Rattle.an_model.specs.Note.{motivations_of};
+ghost use Rattle.an_search.specs.Dates.{pieces_of, range_of};
+ghost use Rattle.an_search.specs.Wanted.{fits, fits_motivations, fits_ranges, fits_users};
+ghost use Rattle.an_search.specs.Wanted.{given_pieces, has_all, is_in, is_iri, matches, wanted_iris};
+ghost use Rattle.an_search.specs.Wanted.{wanted_by, wanted_of, wanted_ranges, wanted_terms};
+ghost use Rattle.an_search.specs.Wanted.{wants_nothing, words_of};
+
+use crate::dates::{DateRange, range_of};
+use crate::given::has_text;
+use crate::query::Query;
+use an_base::{List, Moment, Text, TryCopy};
+use an_machine::{LiveNote, NoteRow};
+use an_model as model;
+use an_terms::occurrences;
+use std::alloc::{AllocError, Global};
+
+/// What a query wants of an annotation. No piece of a kind sets no condition.
+#[derive(Debug, Drop)]
+pub struct Wanted {
+    /// The IRIs that its bodies have to have.
+    pub iris: List<Text>,
+    /// The terms that its texts have to have.
+    pub terms: List<Text>,
+    pub motivations: List<Text>,
+    /// When it has to have been made.
+    pub ranges: List<DateRange>,
+    /// Who may have made it.
+    pub users: List<Text>,
+}
+
+/// What a query wants.
+pub(crate) fn wanted_of(alloc: Global, query: &Query) -> Result<Wanted, AllocError>
+    ensures { IfOk result (λ wanted. wanted ≡ wanted_of query.now) }
+{
+    wanted_by(
+        alloc,
+        query.q(),
+        query.motivation(),
+        query.date(),
+        query.user(),
+    )
+}
+
+/// What is wanted where these values are given.
+pub fn wanted_by(
+    alloc: Global,
+    q: Option<&Text>,
+    motivation: Option<&Text>,
+    date: Option<&Text>,
+    user: Option<&Text>,
+) -> Result<Wanted, AllocError>
+    ensures wanted { IfOk result (λ wanted. wanted ≡ wanted_by (option_copied q.entry)
+        (option_copied motivation.entry) (option_copied date.entry) (option_copied user.entry)) }
+{
+    let (iris, terms) = sought(alloc, q)?;
+    let ranges = wanted_ranges(alloc, date)?;
+    Ok(Wanted {
+        iris,
+        terms,
+        motivations: given_pieces(alloc, motivation)?,
+        ranges,
+        users: given_pieces(alloc, user)?,
+    })
+}
+
+/// Whether nothing is wanted, so that every annotation fits.
+pub fn wants_nothing(wanted: &Wanted) -> bool
+    ensures nothing { result ≡ wants_nothing wanted.now }
+{
+    wanted.iris.as_slice().is_empty()
+        && wanted.terms.as_slice().is_empty()
+        && wanted.motivations.as_slice().is_empty()
+        && wanted.ranges.as_slice().is_empty()
+        && wanted.users.as_slice().is_empty()
+}
+
+/// The IRIs and the terms that are sought.
+fn sought(alloc: Global, q: Option<&Text>) -> Result<(List<Text>, List<Text>), AllocError>
+    ensures iris { IfOk result (λ both. both.0 ≡ wanted_iris (option_copied q.entry)) }
+    ensures terms { IfOk result (λ both. both.1 ≡ wanted_terms (option_copied q.entry)) }
+{
+    let pieces = given_pieces(alloc, q)?;
+    let iris = iris_among(alloc, pieces.as_slice())?;
+    let terms = words_of(alloc, pieces.as_slice())?;
+    Ok((iris, terms))
+}
+
+#[tactic(auto, using(crate::proofs::PieceLemmas::pieces_left))]
+fn iris_among(alloc: Global, pieces: &[Text]) -> Result<List<Text>, AllocError>
+    ensures { IfOk result (λ iris. iris ≡ filter is_iri pieces.now) }
+{
+    let mut iris = Vec::new(alloc);
+    for piece in pieces {
+        if is_iri(piece.as_str().as_bytes()) {
+            iris.push(piece.copy()?)?;
+        }
+    }
+    Ok(List::from_vec(iris))
+}
+
+/// Whether `://` stands in the bytes.
+fn is_iri(bytes: &[u8]) -> bool
+    ensures { result ≡ is_iri bytes.now }
+{
+    for at in 0..bytes.len() {
+        if bytes[at..].starts_with(b"://") {
+            return true;
+        }
+    }
+    false
+}
+
+/// The terms of the pieces that are words.
+#[tactic(auto, using(crate::proofs::PieceLemmas::pieces_left))]
+fn words_of(alloc: Global, pieces: &[Text]) -> Result<List<Text>, AllocError>
+    ensures { IfOk result (λ terms. terms ≡ words_of pieces.now) }
+{
+    let mut terms = Vec::new(alloc);
+    for piece in pieces {
+        let mut more = terms_of_piece(alloc, piece.as_str())?;
+        terms.append(&mut more)?;
+    }
+    Ok(List::from_vec(terms))
+}
+
+/// An IRI has no terms.
+fn terms_of_piece(alloc: Global, piece: &str) -> Result<Vec<Text>, AllocError>
+    ensures { IfOk result (λ v. v.items
+        ≡ (if is_iri piece.now then [] else terms_of piece.now)) }
+{
+    if is_iri(piece.as_bytes()) {
+        return Ok(Vec::new(alloc));
+    }
+    terms_of(alloc, piece)
+}
+
+#[tactic(auto, unfolding(an_terms::specs::Terms::terms_of))]
+fn terms_of(alloc: Global, text: &str) -> Result<Vec<Text>, AllocError>
+    ensures { IfOk result (λ v. v.items ≡ terms_of text.now) }
+{
+    occurrences(alloc, text)?
+        .into_iter()
+        .map(|occurrence| occurrence.term)
+        .collect(alloc)
+}
+
+/// The pieces of a value that may be given, between its spaces.
+fn given_pieces(alloc: Global, given: Option<&Text>) -> Result<List<Text>, AllocError>
+    ensures { IfOk result (λ pieces. pieces ≡ given_pieces (option_copied given.entry)) }
+{
+    match given {
+        Some(value) => pieces_of(alloc, value.as_str()),
+        None => Ok(List::new(alloc)),
+    }
+}
+
+#[tactic(auto, using(crate::proofs::PieceLemmas::pieces_left))]
+fn pieces_of(alloc: Global, value: &str) -> Result<List<Text>, AllocError>
+    ensures { IfOk result (λ pieces. pieces ≡ pieces_of value.now) }
+{
+    let cut = cut_pieces(alloc, value)?;
+    let mut pieces = Vec::new(alloc);
+    for piece in cut.as_slice() {
+        if !piece.is_empty() {
+            pieces.push(Text::new(alloc, piece)?)?;
+        }
+    }
+    Ok(List::from_vec(pieces))
+}
+
+/// What stands between the spaces, also where that is nothing.
+fn cut_pieces(alloc: Global, value: &str) -> Result<Vec<&str>, AllocError>
+    ensures { IfOk result (λ v. map (λ x. x.now) v.items
+        ≡ slice_split (λ b. b == 32) value.now) }
+{
+    value.split(' ').collect(alloc)
+}
+
+/// The ranges of a date.
+fn wanted_ranges(alloc: Global, date: Option<&Text>) -> Result<List<DateRange>, AllocError>
+    ensures { IfOk result (λ ranges. ranges ≡ wanted_ranges (option_copied date.entry)) }
+{
+    let pieces = given_pieces(alloc, date)?;
+    ranges_among(alloc, pieces.as_slice())
+}
+
+#[tactic(auto, using(crate::proofs::PieceLemmas::pieces_left))]
+fn ranges_among(alloc: Global, pieces: &[Text]) -> Result<List<DateRange>, AllocError>
+    ensures { IfOk result (λ ranges. ranges ≡ filter_map range_of pieces.now) }
+{
+    let mut ranges = Vec::new(alloc);
+    for piece in pieces {
+        match range_of(piece.as_str()) {
+            Some(range) => ranges.push(range)?,
+            None => {}
+        }
+    }
+    Ok(List::from_vec(ranges))
+}
+
+// ---- what fits
+
+/// Whether the annotation is live, and is wanted. Takes no memory.
+pub fn matches(row: &NoteRow, wanted: &Wanted) -> bool
+    ensures fits { result ≡ matches wanted.now row.now }
+{
+    match row.live() {
+        Some(live) => fits(&live, wanted),
+        None => false,
+    }
+}
+
+fn fits(live: &LiveNote<'_>, wanted: &Wanted) -> bool
+    ensures { result ≡ fits wanted.now (lent_note live.now) }
+{
+    has_iris(live.tree, wanted.iris.as_slice())
+        && has_terms(live.tree, wanted.terms.as_slice())
+        && fits_motivations(live.tree, wanted.motivations.as_slice())
+        && fits_ranges(wanted.ranges.as_slice(), live.created)
+        && fits_users(wanted.users.as_slice(), live.creator)
+}
+
+fn has_iris(note: &model::KeptNote, iris: &[Text]) -> bool
+    ensures { result ≡ has_all iris.now (iris_of note.now) }
+{
+    iris.iter().all(|iri| note.has_iri(iri.as_str()))
+}
+
+fn has_terms(note: &model::KeptNote, terms: &[Text]) -> bool
+    ensures { result ≡ has_all terms.now (note_terms note.now) }
+{
+    terms.iter().all(|term| note.has_term(term.as_str()))
+}
+
+fn fits_motivations(note: &model::KeptNote, pieces: &[Text]) -> bool
+    ensures { result ≡ fits_motivations pieces.now (motivations_of note.now) }
+{
+    pieces.is_empty()
+        || has_one_motivation(note, pieces)
+        || (has_text("non-painting", pieces) && !note.has_motivation("painting"))
+}
+
+fn has_one_motivation(note: &model::KeptNote, pieces: &[Text]) -> bool
+    ensures { result ≡ list_any (λ piece. has_text piece (motivations_of note.now)) pieces.now }
+{
+    pieces
+        .iter()
+        .any(|piece| note.has_motivation(piece.as_str()))
+}
+
+fn fits_ranges(ranges: &[DateRange], moment: Moment) -> bool
+    ensures { result ≡ fits_ranges ranges.now moment }
+{
+    ranges.is_empty() || lies_in(ranges, moment)
+}
+
+fn lies_in(ranges: &[DateRange], moment: Moment) -> bool
+    ensures { result ≡ list_any (is_in moment) ranges.now }
+{
+    ranges.iter().any(|range| is_in(moment, *range))
+}
+
+fn is_in(moment: Moment, range: DateRange) -> bool
+    ensures { result ≡ is_in moment range }
+{
+    range.from <= moment && moment <= range.to
+}
+
+fn fits_users(users: &[Text], creator: &Text) -> bool
+    ensures { result ≡ fits_users users.now creator.now }
+{
+    users.is_empty() || has_text(creator.as_str(), users)
+}
