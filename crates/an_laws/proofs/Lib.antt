@@ -1,8 +1,11 @@
+pub mod AnswerLemmas
 pub mod AudienceLemmas
 pub mod BurialLemmas
+pub mod CallerLemmas
 pub mod CoherentLemmas
 pub mod DropLemmas
 pub mod FoundLemmas
+pub mod HiddenLemmas
 pub mod LeadLemmas
 pub mod LeftLemmas
 pub mod MomentLemmas
@@ -17,5 +20,6 @@ pub mod StayLemmas
 pub mod StepLemmas
 pub mod TokensLemmas
 pub mod ToldLemmas
+pub mod UnseenLemmas
 pub mod ValidLemmas
 pub mod ValidStepLemmas

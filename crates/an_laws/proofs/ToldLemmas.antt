@@ -4,14 +4,13 @@ use Rattle.std.specs.Prelude.{All, IsTrue, filter, find}
 use Rattle.std.specs.Option.{option_or}
 use Rattle.std.specs.List.{last_or, cons_option}
 use Rattle.std.proofs.Math.Bool.{and-false}
-use Rattle.std.proofs.lemmas.Bool.{cases_Bool, cond-true, cond-false}
+use Rattle.std.proofs.lemmas.Bool.{cases_Bool}
 use Rattle.std.proofs.lemmas.List.Elements.{All-nil, All-cons, All-head, All-tail}
 use Rattle.an_base.specs.Outcome.{passes}
 use Rattle.an_keyed.specs.Key.{Key, same_key}
 use Rattle.an_policy.specs.Audience.{Identity, may}
 use Rattle.an_policy.specs.Seen.{reads, as_seen, is_deletion}
 use Rattle.an_policy.specs.declared.group.Audience.{Audience}
-use Rattle.an_policy.specs.declared.kind.Kind.{Kind}
 use Rattle.an_policy.specs.declared.kind.Kind.TheVariants.{Create, Update, Delete}
 use Rattle.an_machine.specs.Accepted.{audience_of_manifest, audience_of_note}
 use Rattle.an_machine.specs.Sound.{is_sound}
@@ -37,7 +36,7 @@ passes-manifest who audience None = refl
 passes-manifest who audience (Some live) = refl
 
 -- a manifest is shown to who may read it
-manifest_shown : (who : Identity) (found : Option KeptManifest) → passes (shows_manifest who) found ≡ passes (may who) (option_and_then audience_of_manifest found)
+pub manifest_shown : (who : Identity) (found : Option KeptManifest) → passes (shows_manifest who) found ≡ passes (may who) (option_and_then audience_of_manifest found)
 manifest_shown who None = refl
 manifest_shown who (Some row) = passes-manifest who (manifest_audience row) row.live
 
@@ -48,7 +47,7 @@ note_live s who row None = refl
 note_live s who row (Some live) = sym (passes-option_map (may who) (λ manifest. note_audience manifest row live) (manifest_row s live.manifest))
 
 -- an annotation is shown to who may read it
-note_shown : (s : State) (who : Identity) (found : Option KeptNote) → passes (shows_note s who) found ≡ passes (may who) (option_and_then (audience_of_note s) found)
+pub note_shown : (s : State) (who : Identity) (found : Option KeptNote) → passes (shows_note s who) found ≡ passes (may who) (option_and_then (audience_of_note s) found)
 note_shown s who None = refl
 note_shown s who (Some row) = note_live s who row row.live
 
