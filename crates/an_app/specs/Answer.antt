@@ -1,5 +1,5 @@
 -- The replies to reads and to writes. A read is answered from the caller's view alone.
-use Rattle.std.specs.Prelude.{ℕ, List, ◌++◌, codes, decimal, Bool, true, false, is_none}
+use Rattle.std.specs.Prelude.{ℕ, List, ◌++◌, codes, decimal, Bool, true, false, ◌||◌, is_none}
 use Rattle.std.specs.Prelude.{if◌then◌else◌, Result, Ok, Err}
 use Rattle.an_base.specs.declared.code.Code.{Code}
 use Rattle.an_base.specs.declared.code.Code.TheVariants as code
@@ -23,7 +23,14 @@ use Rattle.an_machine.specs.declared.command.Refused.{Refused}
 use Rattle.an_machine.specs.declared.command.Refused.TheVariants as refused
 use Rattle.an_machine.specs.declared.command.WriteReply.{WriteReply}
 use Rattle.an_policy.specs.declared.who.Caller.{Caller}
+use Rattle.an_base.specs.declared.span.Prefer.{Prefer}
+use Rattle.an_selectors.specs.declared.region.Xywh.{Xywh}
 use Rattle.an_pages.specs.Bodies.{manifest_of_view, annotation_of_view}
+use Rattle.an_pages.specs.Canvas.{canvas_page_of}
+use Rattle.an_pages.specs.Container.{container_of, container_page_of}
+use Rattle.an_stream.specs.Stream.{changes_of, changes_page_of}
+use Rattle.an_stream.specs.declared.stream.StreamError.{StreamError}
+use Rattle.an_stream.specs.declared.stream.StreamError.TheVariants as stream
 use Rattle.an_pages.specs.declared.error.PageError.{PageError}
 use Rattle.an_pages.specs.declared.error.PageError.TheVariants as page
 use Rattle.an_search.specs.Listed.{note_iri}
@@ -75,6 +82,7 @@ shown_reply methods media extra body = record {
 abbrev pub page_refusal : PageError → Code
 page_refusal page.Absent = absent
 page_refusal page.Gone = code.Gone
+page_refusal (page.NoPage pages) = code.NoPage pages
 page_refusal page.Memory = absent
 
 abbrev pub manifest_reply : Result (List ℕ) PageError → Reply
@@ -100,14 +108,45 @@ abbrev pub completion_reply : Result (List ℕ) CompleteError → Reply
 completion_reply (Ok body) = shown_reply allow.ReadOnly media.Search extra.Absent body
 completion_reply (Err error) = refusal_reply allow.ReadOnly absent
 
+-- what is asked for in the query counts as if it were preferred
+abbrev pub with_iris : Prefer → Bool → Prefer
+with_iris prefer iris = record { minimal = prefer.minimal; iris = prefer.iris || iris }
+
+-- a page of a list, or the list itself, which is read alone
+abbrev pub page_reply : Media → Extra → Result (List ℕ) PageError → Reply
+page_reply its_media its_extra (Ok body) = shown_reply allow.ReadOnly its_media its_extra body
+page_reply its_media its_extra (Err error) = refusal_reply allow.ReadOnly (page_refusal error)
+
+abbrev pub changes_reply : List ℕ → Reply
+changes_reply body = shown_reply allow.ReadOnly media.Changes extra.Absent body
+
+-- want of memory is told otherwise
+abbrev pub changes_page_reply : Result (List ℕ) StreamError → Reply
+changes_page_reply (Ok body) = changes_reply body
+changes_page_reply (Err (stream.NoPage pages)) = refusal_reply allow.ReadOnly (code.NoPage pages)
+changes_page_reply (Err stream.Memory) = refusal_reply allow.ReadOnly absent
+
 -- what a view shows of what is read
-abbrev pub read_reply : Site → View → Read → Reply
-read_reply site view (read.Manifest name) = manifest_reply (manifest_of_view site view name)
-read_reply site view (read.Note owner name) = note_reply (annotation_of_view site view owner name)
-read_reply site view (read.Search manifest query) =
+abbrev pub read_reply : Site → View → Prefer → Read → Reply
+read_reply site view prefer (read.Manifest name) =
+    manifest_reply (manifest_of_view site view name)
+read_reply site view prefer (read.Note owner name) =
+    note_reply (annotation_of_view site view owner name)
+read_reply site view prefer (read.Search manifest query) =
     search_reply (search_of site view manifest query)
-read_reply site view (read.Complete manifest ask) =
+read_reply site view prefer (read.Complete manifest ask) =
     completion_reply (complete_of site view manifest ask)
+read_reply site view prefer (read.Canvas manifest canvas region page) =
+    page_reply media.Manifest extra.Absent (canvas_page_of site view manifest canvas region page)
+-- a container is an LDP container (Web Annotation Protocol, section 4)
+read_reply site view prefer (read.Container manifest iris) =
+    page_reply media.Annotation extra.Container
+    (container_of site view manifest (with_iris prefer iris))
+read_reply site view prefer (read.ContainerPage manifest page iris) =
+    page_reply media.Annotation extra.Absent (container_page_of site view manifest page iris)
+read_reply site view prefer read.Changes = changes_reply (changes_of site view)
+read_reply site view prefer (read.ChangesPage page) =
+    changes_page_reply (changes_page_of site view page)
 
 -- the view of a caller, at a state
 abbrev pub view_by : State → Caller → View
@@ -119,8 +158,9 @@ unless_nobody view methods reply =
     if is_none view.who then refusal_reply methods not_signed else reply
 
 -- the answer to a read
-abbrev pub answer_of : Site → View → Read → Reply
-answer_of site view read = unless_nobody view (read_methods read) (read_reply site view read)
+abbrev pub answer_of : Site → View → Prefer → Read → Reply
+answer_of site view prefer read =
+    unless_nobody view (read_methods read) (read_reply site view prefer read)
 
 -- the answer to a read whose query is refused
 abbrev pub query_answer : View → Allow → Code → Reply

@@ -1,7 +1,7 @@
 -- What lines do, one after another: writes change the state, reads print an answer, and the first
 -- refusal of what is not old ends the run.
 use Rattle.std.specs.Prelude.{ℕ, ◌+◌, List, [], ◌∷◌, ◌++◌, length, codes, decimal, nat_lt}
-use Rattle.std.specs.Prelude.{if◌then◌else◌, Option, Some, None, Result, Ok, Err}
+use Rattle.std.specs.Prelude.{if◌then◌else◌, false, Option, Some, None, Result, Ok, Err}
 use Rattle.an_base.specs.declared.code.Code.{Code}
 use Rattle.an_base.specs.declared.code.Code.TheVariants as code
 use Rattle.an_http.specs.Status.{number_of}
@@ -10,6 +10,7 @@ use Rattle.an_policy.specs.declared.who.Caller.{Caller}
 use Rattle.an_policy.specs.declared.who.Caller.TheVariants as caller
 use Rattle.an_machine.specs.State.{State, empty}
 use Rattle.an_search.specs.Site.{Site}
+use Rattle.an_base.specs.declared.span.Prefer.{Prefer}
 use Rattle.an_app.specs.Answer.{answer_of, query_answer, view_by}
 use Rattle.an_app.specs.Asked.{asked_of}
 use Rattle.an_app.specs.Input.{input_limit}
@@ -51,10 +52,14 @@ reply_line reply =
 
 -- ---- a line
 
+-- no line says what it prefers
+abbrev pub no_preference : Prefer
+no_preference = record { minimal = false; iris = false }
+
 abbrev pub asked_turn : Site → State → Result Asked Code → Turn
 asked_turn site s (Ok asked.Nothing) = passes
 asked_turn site s (Ok (asked.Read by read)) =
-    prints (reply_line (answer_of site (view_by s (reader by)) read))
+    prints (reply_line (answer_of site (view_by s (reader by)) no_preference read))
 asked_turn site s (Ok (asked.Unread by methods refusal)) =
     prints (reply_line (query_answer (view_by s (reader by)) methods refusal))
 asked_turn site s (Ok (asked.Write moment by command)) =

@@ -1,6 +1,6 @@
 -- What a query gives to a route (URL Standard, section 5.1).
 use Rattle.std.specs.Prelude.{ℕ, List, [], ◌∷◌, Option, Some, None, option_map, option_and_then}
-use Rattle.std.specs.Prelude.{Result}
+use Rattle.std.specs.Prelude.{Result, Ok, Err, Bool, true, false, bytes_eq, codes, if◌then◌else◌}
 use Rattle.an_base.specs.Name.{is_name}
 use Rattle.an_base.specs.Outcome.{only_if, or_refuse, unless}
 use Rattle.an_base.specs.declared.code.Code.{Code}
@@ -10,6 +10,8 @@ use Rattle.an_base.specs.declared.parameter.Parameter.TheVariants as parameter
 use Rattle.an_policy.specs.Group.{group_named}
 use Rattle.an_policy.specs.declared.group.Group.{Group}
 use Rattle.an_policy.specs.declared.group.Group.TheVariants.{Public}
+use Rattle.an_selectors.specs.Region.{region_of_numbers}
+use Rattle.an_selectors.specs.declared.region.Xywh.{Xywh}
 use Rattle.an_search.specs.Given.{number_in, twice_of, value_of}
 use Rattle.an_search.specs.Pairs.{pairs_of}
 use Rattle.an_search.specs.declared.pairs.Pair.{Pair}
@@ -41,7 +43,40 @@ group_in (Some text) = group_named text
 abbrev pub group_of : List Pair → Option Group
 group_of given = group_in (value_of parameter.Group given)
 
+-- what a value that may be given says, if it says something; or the refusal
+abbrev pub given_as : {A : Type 0} → Code → (List ℕ → Option A) → Option (List ℕ)
+    → Result (Option A) Code
+given_as refusal read None = Ok None
+given_as refusal read (Some text) = or_refuse refusal (read text) (λ value. Ok (Some value))
+
+-- what follows from a value, or its refusal
+abbrev pub and_then : {A B : Type 0} → Result A Code → (A → Result B Code) → Result B Code
+and_then (Ok value) next = next value
+and_then (Err refusal) next = Err refusal
+
+abbrev pub page_of : List Pair → Result (Option ℕ) Code
+page_of given = given_as code.Page number_in (value_of parameter.Page given)
+
+abbrev pub iris_in : Option (List ℕ) → Result Bool Code
+iris_in None = Ok false
+iris_in (Some text) = if bytes_eq text (codes "1") then Ok true else Err code.Iris
+
+abbrev pub iris_of : List Pair → Result Bool Code
+iris_of given = iris_in (value_of parameter.Iris given)
+
+abbrev pub region_of : List Pair → Result (Option Xywh) Code
+region_of given = given_as code.Xywh region_of_numbers (value_of parameter.Xywh given)
+
 -- ---- which parameters are read
+
+abbrev pub reads_page : List Parameter
+reads_page = parameter.Page ∷ []
+
+abbrev pub reads_page_and_iris : List Parameter
+reads_page_and_iris = parameter.Page ∷ parameter.Iris ∷ []
+
+abbrev pub reads_page_and_region : List Parameter
+reads_page_and_region = parameter.Page ∷ parameter.Xywh ∷ []
 
 abbrev pub reads_nothing : List Parameter
 reads_nothing = []

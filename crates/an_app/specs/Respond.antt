@@ -18,6 +18,7 @@ use Rattle.an_machine.specs.declared.command.Command.{Command}
 use Rattle.an_policy.specs.declared.who.Caller.{Caller}
 use Rattle.an_policy.specs.declared.who.Caller.TheVariants as caller
 use Rattle.an_search.specs.Site.{Site}
+use Rattle.an_base.specs.declared.span.Prefer.{Prefer}
 use Rattle.an_app.specs.Answer.{answer_of, not_signed, query_answer, refusal_reply, view_by}
 use Rattle.an_app.specs.Asked.{command_of}
 use Rattle.an_app.specs.Routes.{read_methods, route_of, write_methods}
@@ -65,10 +66,10 @@ query_response s (Some caller) reads methods refusal =
 
 -- ---- reads and writes
 
-abbrev pub read_response : Site → State → Option Caller → Read → Response
-read_response site s None read = response.Ready (refusal_reply (read_methods read) not_signed)
-read_response site s (Some caller) read =
-    response.Ready (answer_of site (view_by s caller) read)
+abbrev pub read_response : Site → State → Option Caller → Prefer → Read → Response
+read_response site s None prefer read = response.Ready (refusal_reply (read_methods read) not_signed)
+read_response site s (Some caller) prefer read =
+    response.Ready (answer_of site (view_by s caller) prefer read)
 
 -- the tree is read before the machine sees the write
 abbrev pub command_response : Allow → Caller → Result Command Code → Response
@@ -86,7 +87,7 @@ write_response (Some caller) write body =
 abbrev pub route_response : Site → State → Request → Result Route RouteError → Response
 route_response site s request (Ok (route.Options methods)) = response.Ready (options_reply methods)
 route_response site s request (Ok (route.Read read)) =
-    read_response site s (caller_of request.auth) read
+    read_response site s (caller_of request.auth) request.prefer read
 route_response site s request (Ok (route.Write write)) =
     write_response (caller_of request.auth) write request.body
 route_response site s request (Err error.Target) =

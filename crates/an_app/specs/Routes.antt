@@ -1,6 +1,7 @@
 -- The routes: what each method means at each path.
 use Rattle.std.specs.Prelude.{ℕ, List, [], ◌∷◌, bytes_eq, codes, if◌then◌else◌, Option, Some, None}
-use Rattle.std.specs.Prelude.{option_and_then, Result, Ok, Err}
+use Rattle.std.specs.Prelude.{option_and_then, option_map, unwrap_or, length, ◌==◌, not, Bool}
+use Rattle.std.specs.Prelude.{Result, Ok, Err}
 use Rattle.std.specs.Result.{result_map_both}
 use Rattle.an_base.specs.Outcome.{or_refuse}
 use Rattle.an_base.specs.declared.code.Code.{Code}
@@ -14,12 +15,15 @@ use Rattle.an_machine.specs.declared.command.Object.TheVariants as object
 use Rattle.an_complete.specs.Ask.{AskRecord, ask_of}
 use Rattle.an_complete.specs.declared.ask.QueryAskError.{QueryAskError}
 use Rattle.an_complete.specs.declared.ask.QueryAskError.TheVariants as no_ask
+use Rattle.an_search.specs.Given.{number_in}
 use Rattle.an_search.specs.Query.{QueryRecord, query_of}
 use Rattle.an_search.specs.declared.pairs.Pair.{Pair}
 use Rattle.an_search.specs.declared.query.QueryError.{QueryError}
 use Rattle.an_search.specs.declared.query.QueryError.TheVariants as no_query
 use Rattle.an_app.specs.Query.{given_of, version_of, manifest_of, group_of, name_in, reads_nothing}
-use Rattle.an_app.specs.Query.{reads_version, reads_version_and_group, reads_all}
+use Rattle.an_app.specs.Query.{reads_version, reads_version_and_group, reads_all, reads_page}
+use Rattle.an_app.specs.Query.{reads_page_and_iris, reads_page_and_region, page_of, iris_of}
+use Rattle.an_app.specs.Query.{and_then, region_of}
 use Rattle.an_app.specs.Target.{target_parts, segments_of}
 use Rattle.an_app.specs.declared.kinds.Path.{Path}
 use Rattle.an_app.specs.declared.kinds.Path.TheVariants as path
@@ -51,12 +55,34 @@ path_owned kind owner name =
     if bytes_eq kind (codes "annotations") then Some (path.Object (object.Note owner name))
     else None
 
+-- `/changes`
+abbrev pub path_alone : List ℕ → Option Path
+path_alone kind = if bytes_eq kind (codes "changes") then Some path.Changes else None
+
+-- `/manifests/M/annotations/`, with nothing behind the last `/`
+abbrev pub container_path : List ℕ → List ℕ → Option Path
+container_path manifest last =
+    if length last == 0 then Some (path.Container manifest) else None
+
+-- `/manifests/M/canvases/K`
+abbrev pub canvas_path : List ℕ → List ℕ → Option Path
+canvas_path manifest last = option_map (path.Canvas manifest) (number_in last)
+
+abbrev pub path_within : List ℕ → List ℕ → List ℕ → List ℕ → Option Path
+path_within kind manifest part last =
+    if not (bytes_eq kind (codes "manifests")) then None
+    else (if bytes_eq part (codes "annotations") then container_path manifest last
+    else (if bytes_eq part (codes "canvases") then canvas_path manifest last else None))
+
 -- the path of these segments; N, M and OWNER are names
 abbrev pub path_of : List (List ℕ) → Option Path
+path_of (kind ∷ []) = path_alone kind
 path_of (kind ∷ name ∷ []) = option_and_then (path_named kind) (name_in name)
 path_of (kind ∷ owner ∷ name ∷ []) =
     option_and_then (λ owner. option_and_then (path_owned kind owner) (name_in name))
     (name_in owner)
+path_of (kind ∷ name ∷ part ∷ last ∷ []) =
+    option_and_then (λ name. path_within kind name part last) (name_in name)
 path_of _ = None
 
 -- the methods of a path
@@ -69,6 +95,9 @@ abbrev pub methods_at : Path → Allow
 methods_at (path.Object object) = object_methods object
 methods_at (path.Search manifest) = allow.ReadOnly
 methods_at (path.Complete manifest) = allow.ReadOnly
+methods_at (path.Canvas manifest canvas) = allow.ReadOnly
+methods_at (path.Container manifest) = allow.ReadOnly
+methods_at path.Changes = allow.ReadOnly
 
 -- HEAD is GET without the body (RFC 9110, section 9.3.2)
 abbrev pub verb_of : List ℕ → Option Verb
@@ -128,19 +157,17 @@ abbrev pub written : Allow → Result WriteRoute Code → Result Route RouteErro
 written allow (Ok write) = Ok (route.Write write)
 written allow (Err refusal) = Err (error.Query allow refusal)
 
--- searches and completions are read alone
+-- what is no object is read alone
 abbrev pub unwritten : Result Route RouteError
 unwritten = Err (error.Method allow.ReadOnly)
 
 abbrev pub put_at : Path → List ℕ → Result Route RouteError
 put_at (path.Object object) query = written (object_methods object) (put_of object query)
-put_at (path.Search manifest) query = unwritten
-put_at (path.Complete manifest) query = unwritten
+put_at _ query = unwritten
 
 abbrev pub delete_at : Path → List ℕ → Result Route RouteError
 delete_at (path.Object object) query = written (object_methods object) (deletion_of object query)
-delete_at (path.Search manifest) query = unwritten
-delete_at (path.Complete manifest) query = unwritten
+delete_at _ query = unwritten
 
 -- ---- reads
 
@@ -176,6 +203,36 @@ abbrev pub shown : Read → Result (List Pair) Code → Result Route RouteError
 shown read (Ok given) = Ok (route.Read read)
 shown read (Err refusal) = Err (error.Query allow.Full refusal)
 
+-- what is read by what is given, or the refusal of that
+abbrev pub read_by : Result (List Pair) Code → (List Pair → Result Read Code)
+    → Result Route RouteError
+read_by (Ok given) read = result_map_both route.Read unread (read given)
+read_by (Err refusal) read = Err (unread refusal)
+
+abbrev pub changes_at : Option ℕ → Read
+changes_at (Some page) = read.ChangesPage page
+changes_at None = read.Changes
+
+abbrev pub changes_read : Result (List Pair) Code → Result Route RouteError
+changes_read given = read_by given (λ given. and_then (page_of given) (λ page. Ok (changes_at page)))
+
+abbrev pub container_at : List ℕ → Option ℕ → Bool → Read
+container_at manifest (Some page) iris = read.ContainerPage manifest page iris
+container_at manifest None iris = read.Container manifest iris
+
+-- the page, and then whether IRIs are asked for
+abbrev pub container_read : List ℕ → Result (List Pair) Code → Result Route RouteError
+container_read manifest given =
+    read_by given (λ given. and_then (page_of given) (λ page.
+    and_then (iris_of given) (λ iris. Ok (container_at manifest page iris))))
+
+-- the page, the first where none is asked for, and then the region
+abbrev pub canvas_read : List ℕ → ℕ → Result (List Pair) Code → Result Route RouteError
+canvas_read manifest canvas given =
+    read_by given (λ given. and_then (page_of given) (λ page.
+    and_then (region_of given) (λ region.
+    Ok (read.Canvas manifest canvas region (unwrap_or page 1)))))
+
 -- readers are never read
 abbrev pub object_read : Object → List ℕ → Result Route RouteError
 object_read (object.Reader name) query = Err (error.Method allow.WriteOnly)
@@ -187,6 +244,11 @@ abbrev pub read_at : Path → List ℕ → Result Route RouteError
 read_at (path.Object object) query = object_read object query
 read_at (path.Search manifest) query = searched manifest (query_of query)
 read_at (path.Complete manifest) query = completed manifest (ask_of query)
+read_at (path.Canvas manifest canvas) query =
+    canvas_read manifest canvas (given_of reads_page_and_region query)
+read_at (path.Container manifest) query =
+    container_read manifest (given_of reads_page_and_iris query)
+read_at path.Changes query = changes_read (given_of reads_page query)
 
 -- ---- all routes
 
@@ -215,6 +277,11 @@ read_methods (read.Manifest name) = allow.Full
 read_methods (read.Note owner name) = allow.Full
 read_methods (read.Search manifest query) = allow.ReadOnly
 read_methods (read.Complete manifest ask) = allow.ReadOnly
+read_methods (read.Canvas manifest canvas region page) = allow.ReadOnly
+read_methods (read.Container manifest iris) = allow.ReadOnly
+read_methods (read.ContainerPage manifest page iris) = allow.ReadOnly
+read_methods read.Changes = allow.ReadOnly
+read_methods (read.ChangesPage page) = allow.ReadOnly
 
 abbrev pub write_methods : WriteRoute → Allow
 write_methods (PutReader name version) = allow.WriteOnly

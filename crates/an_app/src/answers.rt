@@ -1,5 +1,5 @@
-ghost use Rattle.std.specs.Prelude.{◌≡◌, ◌<◌, ◌++◌, IfOk, codes, string_bytes};
-ghost use Rattle.an_manifest.specs.Dress.{manifest_iri};
+ghost use Rattle.std.specs.Prelude.{◌≡◌, ◌<◌, ◌++◌, Err, IfOk, codes, string_bytes};
+ghost use Rattle.an_stream.specs.Stream.{changes_of, changes_page_of};
 ghost use Rattle.an_policy.specs.Audience.{identity};
 ghost use Rattle.an_machine.specs.View.{view_of};
 ghost use Rattle.an_pages.specs.Bodies.{manifest_of_view, annotation_of_view};
@@ -7,6 +7,7 @@ ghost use Rattle.an_search.specs.Search.{search_of};
 ghost use Rattle.an_complete.specs.Complete.{complete_of};
 ghost use Rattle.an_app.specs.Answer.{view_by, challenge, refusal_reply, shown_reply, page_refusal};
 ghost use Rattle.an_app.specs.Answer.{manifest_reply, note_reply, search_reply, completion_reply};
+ghost use Rattle.an_app.specs.Answer.{with_iris, page_reply, changes_reply, changes_page_reply};
 ghost use Rattle.an_app.specs.Answer.{read_reply, answer_of, query_answer, object_iri, bool_text, write_text};
 ghost use Rattle.an_app.specs.Answer.{write_body, write_status, write_refusal, write_answer};
 
@@ -15,28 +16,30 @@ use an_base::{Bytes, Code, Name, Prefer, Steps};
 use an_complete::{Ask, CompleteError, complete};
 use an_http::{Allow, Extra, Media, Reply, Status, error_body, status_of};
 use an_machine::{Look, Object, Refused, WriteReply};
-use an_pages::{PageError, annotation, manifest_answer};
+use an_manifest::manifest_iri;
+use an_pages::{PageError, annotation, canvas_page, container, container_page, manifest_answer};
 use an_policy::{Caller, Who};
 use an_search::{AskError, Query, Settings, note_iri, search};
+use an_stream::{StreamError, changes, changes_page};
 use std::alloc::{AllocError, Global};
 use std::sync::ledger::Ledger;
 
 /// The answer to a read, from what the caller may read alone: 401 where nobody has its token or
-/// name, what is shown, or why it isn't. No read that is answered so far depends on `Prefer`.
+/// name, what is shown, or why it isn't. Containers alone ask what is preferred.
 pub fn answer<T: Look, L: Ledger>(
     alloc: Global,
     look: &T,
     settings: &Settings,
     caller: &Caller,
-    _prefer: Prefer,
+    prefer: Prefer,
     read: &Read,
     steps: &mut Steps<L>,
 ) -> Result<Reply, AllocError>
     ensures answer { IfOk result (λ reply. reply ≡ answer_of settings.now
-        (view_by (T.state look.now) caller.now) read.now) }
+        (view_by (T.state look.now) caller.now) prefer read.now) }
 {
     match look.who(caller) {
-        Some(who) => answer_to(alloc, look, settings, &who, read, steps),
+        Some(who) => answer_to(alloc, look, settings, &who, prefer, read, steps),
         None => refusal_reply(alloc, read.methods(), Code::NotSigned),
     }
 }
@@ -105,11 +108,12 @@ fn answer_to<T: Look, L: Ledger>(
     look: &T,
     settings: &Settings,
     who: &Who<'_>,
+    prefer: Prefer,
     read: &Read,
     steps: &mut Steps<L>,
 ) -> Result<Reply, AllocError>
     ensures { IfOk result (λ reply. reply ≡ read_reply settings.now
-        (view_of (T.state look.now) (identity who.now)) read.now) }
+        (view_of (T.state look.now) (identity who.now)) prefer read.now) }
 {
     match read {
         Read::Manifest { name } => answer_manifest(alloc, look, settings, who, name),
@@ -120,6 +124,32 @@ fn answer_to<T: Look, L: Ledger>(
         Read::Complete { manifest, ask } => {
             answer_completion(alloc, look, settings, who, manifest, ask, steps)
         }
+        Read::Canvas {
+            manifest,
+            canvas,
+            region,
+            page,
+        } => {
+            let shown = canvas_page(
+                alloc, look, who, manifest, *canvas, *region, *page, settings, steps,
+            );
+            page_reply(alloc, Media::Manifest, Extra::Absent, shown)
+        }
+        Read::Container { manifest, iris } => {
+            let prefer = with_iris(prefer, *iris);
+            let shown = container(alloc, look, who, manifest, prefer, settings, steps);
+            page_reply(alloc, Media::Annotation, Extra::Container, shown)
+        }
+        Read::ContainerPage {
+            manifest,
+            page,
+            iris,
+        } => {
+            let shown = container_page(alloc, look, who, manifest, *page, *iris, settings, steps);
+            page_reply(alloc, Media::Annotation, Extra::Absent, shown)
+        }
+        Read::Changes => answer_changes(alloc, look, settings, who),
+        Read::ChangesPage { page } => answer_changes_page(alloc, look, settings, who, *page),
     }
 }
 
@@ -135,7 +165,7 @@ fn answer_manifest<T: Look>(
 {
     match manifest_answer(alloc, look, who, name, settings) {
         Ok(body) => Ok(shown_reply(Allow::Full, Media::Manifest, Extra::Absent, body)),
-        Err(error) => page_refused(alloc, error),
+        Err(error) => page_refused(alloc, Allow::Full, error),
     }
 }
 
@@ -152,7 +182,7 @@ fn answer_note<T: Look>(
 {
     match annotation(alloc, look, who, owner, name, settings) {
         Ok(body) => Ok(shown_reply(Allow::Full, Media::Annotation, Extra::Resource, body)),
-        Err(error) => page_refused(alloc, error),
+        Err(error) => page_refused(alloc, Allow::Full, error),
     }
 }
 
@@ -197,6 +227,64 @@ fn answer_completion<T: Look, L: Ledger>(
     }
 }
 
+/// What is asked for in the query counts as if it were preferred.
+fn with_iris(prefer: Prefer, iris: bool) -> Prefer
+    ensures { result ≡ with_iris prefer iris }
+{
+    Prefer {
+        minimal: prefer.minimal,
+        iris: prefer.iris || iris,
+    }
+}
+
+/// The reply with what is read alone, or with why there is nothing to show.
+fn page_reply(
+    alloc: Global,
+    media: Media,
+    extra: Extra,
+    shown: Result<Bytes, PageError>,
+) -> Result<Reply, AllocError>
+    ensures reply { IfOk result (λ reply. reply ≡ page_reply media extra shown) }
+    ensures memory { IfOk result (λ _. ¬ (shown ≡ Err PageError.Memory)) }
+{
+    match shown {
+        Ok(body) => Ok(shown_reply(Allow::ReadOnly, media, extra, body)),
+        Err(error) => page_refused(alloc, Allow::ReadOnly, error),
+    }
+}
+
+fn answer_changes<T: Look>(
+    alloc: Global,
+    look: &T,
+    settings: &Settings,
+    who: &Who<'_>,
+) -> Result<Reply, AllocError>
+    ensures { IfOk result (λ reply. reply ≡ changes_reply (changes_of settings.now
+        (view_of (T.state look.now) (identity who.now)))) }
+{
+    let body = changes(alloc, look, who, settings)?;
+    Ok(shown_reply(Allow::ReadOnly, Media::Changes, Extra::Absent, body))
+}
+
+fn answer_changes_page<T: Look>(
+    alloc: Global,
+    look: &T,
+    settings: &Settings,
+    who: &Who<'_>,
+    page: u32,
+) -> Result<Reply, AllocError>
+    ensures { IfOk result (λ reply. reply ≡ changes_page_reply (changes_page_of settings.now
+        (view_of (T.state look.now) (identity who.now)) page)) }
+{
+    match changes_page(alloc, look, who, page, settings) {
+        Ok(body) => Ok(shown_reply(Allow::ReadOnly, Media::Changes, Extra::Absent, body)),
+        Err(StreamError::NoPage { pages }) => {
+            refusal_reply(alloc, Allow::ReadOnly, Code::NoPage { pages })
+        }
+        Err(StreamError::Memory) => Err(AllocError),
+    }
+}
+
 fn shown_reply(allow: Allow, media: Media, extra: Extra, body: Bytes) -> Reply
     ensures { result ≡ shown_reply allow media extra body }
 {
@@ -209,13 +297,14 @@ fn shown_reply(allow: Allow, media: Media, extra: Extra, body: Bytes) -> Reply
     }
 }
 
-fn page_refused(alloc: Global, error: PageError) -> Result<Reply, AllocError>
-    ensures refused { IfOk result (λ reply. reply ≡ refusal_reply Allow.Full (page_refusal error)) }
+fn page_refused(alloc: Global, allow: Allow, error: PageError) -> Result<Reply, AllocError>
+    ensures refused { IfOk result (λ reply. reply ≡ refusal_reply allow (page_refusal error)) }
     ensures memory { IfOk result (λ _. ¬ (error ≡ PageError.Memory)) }
 {
     match error {
-        PageError::Absent => refusal_reply(alloc, Allow::Full, Code::Absent),
-        PageError::Gone => refusal_reply(alloc, Allow::Full, Code::Gone),
+        PageError::Absent => refusal_reply(alloc, allow, Code::Absent),
+        PageError::Gone => refusal_reply(alloc, allow, Code::Gone),
+        PageError::NoPage { pages } => refusal_reply(alloc, allow, Code::NoPage { pages }),
         PageError::Memory => Err(AllocError),
     }
 }
@@ -281,12 +370,6 @@ fn reader_iri(alloc: Global, base: &str, name: &str) -> Result<String, AllocErro
     ensures { IfOk result (λ iri. string_bytes iri ≡ base.now ++ (codes "/readers/" ++ name.now)) }
 {
     format!(in alloc; "{base}/readers/{name}")
-}
-
-fn manifest_iri(alloc: Global, base: &str, name: &str) -> Result<String, AllocError>
-    ensures { IfOk result (λ iri. string_bytes iri ≡ manifest_iri base.now name.now) }
-{
-    format!(in alloc; "{base}/manifests/{name}")
 }
 
 /// Why the machine refuses a write.

@@ -7,17 +7,51 @@ use an_http::Allow;
 use an_machine::Object;
 use an_policy::Group;
 use an_search::Query;
+use an_selectors::Xywh;
 
 /// What is read.
 #[derive(Debug, Drop)]
 pub enum Read {
-    Manifest { name: Name },
+    Manifest {
+        name: Name,
+    },
     /// An annotation.
-    Note { owner: Name, name: Name },
+    Note {
+        owner: Name,
+        name: Name,
+    },
     /// The annotations on a manifest that a query asks for (IIIF Content Search API 2.0).
-    Search { manifest: Name, query: Query },
+    Search {
+        manifest: Name,
+        query: Query,
+    },
     /// The terms of the annotations on a manifest that begin with a prefix.
-    Complete { manifest: Name, ask: Ask },
+    Complete {
+        manifest: Name,
+        ask: Ask,
+    },
+    /// A page of the annotations on a canvas, or on a region of it.
+    Canvas {
+        manifest: Name,
+        canvas: u32,
+        region: Option<Xywh>,
+        page: u32,
+    },
+    /// The annotations on a manifest as a container (Web Annotation Protocol, section 4).
+    Container {
+        manifest: Name,
+        iris: bool,
+    },
+    ContainerPage {
+        manifest: Name,
+        page: u32,
+        iris: bool,
+    },
+    /// The stream of changes (IIIF Change Discovery API 1.0).
+    Changes,
+    ChangesPage {
+        page: u32,
+    },
 }
 
 /// What is written: a command without its tree.
@@ -84,6 +118,9 @@ pub(crate) enum Path {
     Object(Object),
     Search { manifest: Name },
     Complete { manifest: Name },
+    Canvas { manifest: Name, canvas: u32 },
+    Container { manifest: Name },
+    Changes,
 }
 
 /// A method that some path has.
@@ -106,6 +143,11 @@ impl Read {
             Read::Note { .. } => Allow::Full,
             Read::Search { .. } => Allow::ReadOnly,
             Read::Complete { .. } => Allow::ReadOnly,
+            Read::Canvas { .. } => Allow::ReadOnly,
+            Read::Container { .. } => Allow::ReadOnly,
+            Read::ContainerPage { .. } => Allow::ReadOnly,
+            Read::Changes => Allow::ReadOnly,
+            Read::ChangesPage { .. } => Allow::ReadOnly,
         }
     }
 }

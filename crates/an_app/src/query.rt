@@ -1,9 +1,11 @@
 ghost use Rattle.std.specs.Prelude.{◌≡◌, IfOk};
 ghost use Rattle.an_app.specs.Query.{given_of, version_of, name_in, manifest_of, group_of};
+ghost use Rattle.an_app.specs.Query.{page_of, iris_of, region_of};
 
 use an_base::{Code, List, Name, NameError, Parameter};
 use an_policy::{Group, group_named};
 use an_search::{Pair, number_in, query_pairs, twice_in, value_in};
+use an_selectors::{Xywh, read_region_numbers};
 use std::alloc::{AllocError, Global};
 
 // ---- which parameters are read
@@ -19,6 +21,12 @@ pub(crate) const READS_ALL: [Parameter; 3] = [
     Parameter::Manifest,
     Parameter::Group,
 ];
+
+pub(crate) const READS_PAGE: [Parameter; 1] = [Parameter::Page];
+
+pub(crate) const READS_PAGE_AND_IRIS: [Parameter; 2] = [Parameter::Page, Parameter::Iris];
+
+pub(crate) const READS_PAGE_AND_REGION: [Parameter; 2] = [Parameter::Page, Parameter::Xywh];
 
 /// The pairs of a query, or the first refusal: a name or a value that isn't UTF-8, or else the
 /// first of the parameters that are read that comes a second time.
@@ -68,6 +76,46 @@ pub(crate) fn group_of(alloc: Global, given: &[Pair]) -> Result<Option<Group>, A
     match value_in(Parameter::Group, given) {
         Some(text) => group_named(alloc, text.as_str()),
         None => Ok(Some(Group::Public)),
+    }
+}
+
+/// The page that is asked for, if one is, or the refusal of what is no number of a page.
+pub(crate) fn page_of(given: &[Pair]) -> Result<Option<u32>, Code>
+    ensures { result ≡ page_of given.now }
+{
+    match value_in(Parameter::Page, given) {
+        Some(text) => match number_in(text.as_str()) {
+            Some(page) => Ok(Some(page)),
+            None => Err(Code::Page),
+        },
+        None => Ok(None),
+    }
+}
+
+/// Whether annotations are asked for by their IRIs alone.
+pub(crate) fn iris_of(given: &[Pair]) -> Result<bool, Code>
+    ensures { result ≡ iris_of given.now }
+{
+    match value_in(Parameter::Iris, given) {
+        Some(text) => if text.as_str() == "1" {
+            Ok(true)
+        } else {
+            Err(Code::Iris)
+        },
+        None => Ok(false),
+    }
+}
+
+/// The region that is asked for, if one is.
+pub(crate) fn region_of(given: &[Pair]) -> Result<Option<Xywh>, Code>
+    ensures { result ≡ region_of given.now }
+{
+    match value_in(Parameter::Xywh, given) {
+        Some(text) => match read_region_numbers(text.as_str()) {
+            Some(region) => Ok(Some(region)),
+            None => Err(Code::Xywh),
+        },
+        None => Ok(None),
     }
 }
 

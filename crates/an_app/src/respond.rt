@@ -180,7 +180,7 @@ fn respond_to_read<T: Look>(
     read: &Read,
 ) -> Result<Response, AllocError>
     ensures { IfOk result (λ response. response
-        ≡ read_response settings.now (T.state look.now) caller read.now) }
+        ≡ read_response settings.now (T.state look.now) caller request.now.prefer read.now) }
 {
     match caller {
         Some(caller) => {

@@ -1,9 +1,12 @@
-ghost use Rattle.std.specs.Prelude.{◌≡◌, IfOk, Some, option_and_then};
+ghost use Rattle.std.specs.Prelude.{◌≡◌, IfOk, Ok, Some, option_and_then};
 ghost use Rattle.an_base.specs.Outcome.{Gives};
 ghost use Rattle.an_complete.specs.Ask.{ask_of};
 ghost use Rattle.an_search.specs.Query.{query_of};
-ghost use Rattle.an_app.specs.Query.{given_of, reads_nothing};
-ghost use Rattle.an_app.specs.Routes.{path_named, path_owned, path_of, methods_at, object_methods};
+ghost use Rattle.an_app.specs.Query.{given_of, reads_nothing, reads_page, reads_page_and_iris};
+ghost use Rattle.an_app.specs.Query.{reads_page_and_region};
+ghost use Rattle.an_app.specs.Routes.{path_named, path_owned, path_alone, path_within, path_of};
+ghost use Rattle.an_app.specs.Routes.{container_path, canvas_path, methods_at, object_methods};
+ghost use Rattle.an_app.specs.Routes.{changes_read, container_at, container_read, canvas_read};
 ghost use Rattle.an_app.specs.Routes.{verb_of, put_reads, manifest_put, note_put, put_with, put_of};
 ghost use Rattle.an_app.specs.Routes.{deletion, deletion_of, written, unwritten, put_at, delete_at};
 ghost use Rattle.an_app.specs.Routes.{searched, query_refused, completed, ask_refused, unread};
@@ -12,15 +15,16 @@ ghost use Rattle.an_app.specs.Target.{segments_of};
 
 use crate::kinds::{Path, Read, Route, RouteError, Verb, WriteRoute};
 use crate::query::{
-    READS_ALL, READS_NOTHING, READS_VERSION, READS_VERSION_AND_GROUP, given_in, group_of,
-    manifest_of, name_in, version_of,
+    READS_ALL, READS_NOTHING, READS_PAGE, READS_PAGE_AND_IRIS, READS_PAGE_AND_REGION,
+    READS_VERSION, READS_VERSION_AND_GROUP, given_in, group_of, iris_of, manifest_of, name_in,
+    page_of, region_of, version_of,
 };
 use crate::target::{segments_of, target_parts};
 use an_base::{Code, Name, Parameter, Text};
 use an_complete::{QueryAskError, read_ask};
 use an_http::Allow;
 use an_machine::Object;
-use an_search::{Pair, QueryError, read_query};
+use an_search::{Pair, QueryError, number_in, read_query};
 use std::alloc::{AllocError, Global};
 
 /// The route of a method and a target as they were sent, or the first refusal: of the target, of
@@ -66,6 +70,7 @@ fn path_of(alloc: Global, segments: &[Text]) -> Result<Option<Path>, AllocError>
     ensures { IfOk result (λ found. found ≡ path_of segments.now) }
 {
     match segments {
+        [kind] => Ok(path_alone(kind.as_str())),
         [kind, name] => match name_in(alloc, name.as_str())? {
             Some(name) => Ok(path_named(kind.as_str(), name)),
             None => Ok(None),
@@ -77,7 +82,53 @@ fn path_of(alloc: Global, segments: &[Text]) -> Result<Option<Path>, AllocError>
             },
             None => Ok(None),
         },
+        [kind, name, part, last] => match name_in(alloc, name.as_str())? {
+            Some(name) => Ok(path_within(kind.as_str(), name, part.as_str(), last.as_str())),
+            None => Ok(None),
+        },
         _ => Ok(None),
+    }
+}
+
+fn path_alone(kind: &str) -> Option<Path>
+    ensures { result ≡ path_alone kind.now }
+{
+    match kind {
+        "changes" => Some(Path::Changes),
+        _ => None,
+    }
+}
+
+fn path_within(kind: &str, manifest: Name, part: &str, last: &str) -> Option<Path>
+    ensures { result ≡ path_within kind.now manifest part.now last.now }
+{
+    if kind != "manifests" {
+        return None;
+    }
+    match part {
+        "annotations" => container_path(manifest, last),
+        "canvases" => canvas_path(manifest, last),
+        _ => None,
+    }
+}
+
+/// Nothing stands behind the last `/`.
+fn container_path(manifest: Name, last: &str) -> Option<Path>
+    ensures { result ≡ container_path manifest last.now }
+{
+    if last.is_empty() {
+        Some(Path::Container { manifest })
+    } else {
+        None
+    }
+}
+
+fn canvas_path(manifest: Name, last: &str) -> Option<Path>
+    ensures { result ≡ canvas_path manifest last.now }
+{
+    match number_in(last) {
+        Some(canvas) => Some(Path::Canvas { manifest, canvas }),
+        None => None,
     }
 }
 
@@ -109,6 +160,9 @@ fn methods_at(path: &Path) -> Allow
         Path::Object(object) => object_methods(object),
         Path::Search { .. } => Allow::ReadOnly,
         Path::Complete { .. } => Allow::ReadOnly,
+        Path::Canvas { .. } => Allow::ReadOnly,
+        Path::Container { .. } => Allow::ReadOnly,
+        Path::Changes => Allow::ReadOnly,
     }
 }
 
@@ -158,6 +212,9 @@ fn read_at(alloc: Global, path: Path, query: &str) -> Result<Route, RouteError>
         Path::Object(object) => object_read(alloc, object, query),
         Path::Search { manifest } => searched(alloc, manifest, query),
         Path::Complete { manifest } => completed(alloc, manifest, query),
+        Path::Canvas { manifest, canvas } => canvas_read(alloc, manifest, canvas, query),
+        Path::Container { manifest } => container_read(alloc, manifest, query),
+        Path::Changes => changes_read(alloc, query),
     }
 }
 
@@ -171,6 +228,88 @@ fn object_read(alloc: Global, object: Object, query: &str) -> Result<Route, Rout
         }),
         Object::Manifest(name) => shown(alloc, Read::Manifest { name }, query),
         Object::Note { owner, name } => shown(alloc, Read::Note { owner, name }, query),
+    }
+}
+
+/// The stream of changes, or a page of it.
+fn changes_read(alloc: Global, query: &str) -> Result<Route, RouteError>
+    ensures { Gives (λ route. route) RouteError.Memory result
+        (changes_read (given_of reads_page query.now)) }
+{
+    match given_in(alloc, &READS_PAGE, query) {
+        Ok(Ok(given)) => match page_of(given.as_slice()) {
+            Ok(Some(page)) => Ok(Route::Read(Read::ChangesPage { page })),
+            Ok(None) => Ok(Route::Read(Read::Changes)),
+            Err(code) => Err(unread(code)),
+        },
+        Ok(Err(code)) => Err(unread(code)),
+        Err(_) => Err(RouteError::Memory),
+    }
+}
+
+/// A container, or a page of it.
+fn container_read(alloc: Global, manifest: Name, query: &str) -> Result<Route, RouteError>
+    ensures { Gives (λ route. route) RouteError.Memory result
+        (container_read manifest (given_of reads_page_and_iris query.now)) }
+{
+    match given_in(alloc, &READS_PAGE_AND_IRIS, query) {
+        Ok(Ok(given)) => container_given(manifest, given.as_slice()),
+        Ok(Err(code)) => Err(unread(code)),
+        Err(_) => Err(RouteError::Memory),
+    }
+}
+
+fn container_given(manifest: Name, given: &[Pair]) -> Result<Route, RouteError>
+    ensures { result ≡ container_read manifest (Ok given.now) }
+{
+    match page_of(given) {
+        Ok(page) => match iris_of(given) {
+            Ok(iris) => Ok(Route::Read(container_at(manifest, page, iris))),
+            Err(code) => Err(unread(code)),
+        },
+        Err(code) => Err(unread(code)),
+    }
+}
+
+fn container_at(manifest: Name, page: Option<u32>, iris: bool) -> Read
+    ensures { result ≡ container_at manifest page iris }
+{
+    match page {
+        Some(page) => Read::ContainerPage {
+            manifest,
+            page,
+            iris,
+        },
+        None => Read::Container { manifest, iris },
+    }
+}
+
+/// A page of the annotations on a canvas, the first where none is asked for.
+fn canvas_read(alloc: Global, manifest: Name, canvas: u32, query: &str) -> Result<Route, RouteError>
+    ensures { Gives (λ route. route) RouteError.Memory result
+        (canvas_read manifest canvas (given_of reads_page_and_region query.now)) }
+{
+    match given_in(alloc, &READS_PAGE_AND_REGION, query) {
+        Ok(Ok(given)) => canvas_given(manifest, canvas, given.as_slice()),
+        Ok(Err(code)) => Err(unread(code)),
+        Err(_) => Err(RouteError::Memory),
+    }
+}
+
+fn canvas_given(manifest: Name, canvas: u32, given: &[Pair]) -> Result<Route, RouteError>
+    ensures { result ≡ canvas_read manifest canvas (Ok given.now) }
+{
+    match page_of(given) {
+        Ok(page) => match region_of(given) {
+            Ok(region) => Ok(Route::Read(Read::Canvas {
+                manifest,
+                canvas,
+                region,
+                page: page.unwrap_or(1),
+            })),
+            Err(code) => Err(unread(code)),
+        },
+        Err(code) => Err(unread(code)),
     }
 }
 
@@ -261,8 +400,7 @@ fn put_at(alloc: Global, path: Path, query: &str) -> Result<Route, RouteError>
                 Err(_) => Err(RouteError::Memory),
             }
         }
-        Path::Search { .. } => unwritten(),
-        Path::Complete { .. } => unwritten(),
+        _ => unwritten(),
     }
 }
 
@@ -277,8 +415,7 @@ fn delete_at(alloc: Global, path: Path, query: &str) -> Result<Route, RouteError
                 Err(_) => Err(RouteError::Memory),
             }
         }
-        Path::Search { .. } => unwritten(),
-        Path::Complete { .. } => unwritten(),
+        _ => unwritten(),
     }
 }
 
@@ -291,7 +428,7 @@ fn written(allow: Allow, write: Result<WriteRoute, Code>) -> Result<Route, Route
     }
 }
 
-/// Searches and completions are read alone.
+/// What is no object is read alone.
 fn unwritten() -> Result<Route, RouteError>
     ensures { result ≡ unwritten }
 {

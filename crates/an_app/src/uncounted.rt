@@ -22,7 +22,7 @@ pub(crate) fn answer_uncounted<T: Look>(
     read: &Read,
 ) -> Result<Reply, AllocError>
     ensures { IfOk result (λ reply. reply
-        ≡ answer_of settings.now (view_by (T.state look.now) caller.now) read.now) }
+        ≡ answer_of settings.now (view_by (T.state look.now) caller.now) prefer read.now) }
 {
     answer_from::<T, Brand>(alloc, Blank::new(1), look, settings, caller, prefer, read)
 }
@@ -40,7 +40,7 @@ fn answer_from<T: Look, L: Ledger>(
     requires parts { blank.parts ≡ L.parts }
     requires some { 0 < blank.parts }
     ensures { IfOk result (λ reply. reply
-        ≡ answer_of settings.now (view_by (T.state look.now) caller.now) read.now) }
+        ≡ answer_of settings.now (view_by (T.state look.now) caller.now) prefer read.now) }
 {
     let mut steps = Steps::<L>::new(blank);
     answer(alloc, look, settings, caller, prefer, read, &mut steps)

@@ -4,7 +4,7 @@ use Rattle.an_base.specs.declared.code.Code.{Code}
 use Rattle.an_base.specs.declared.code.Code.TheVariants.{Line, Input, Absent, Group, Date}
 use Rattle.an_base.specs.declared.code.Code.TheVariants.{Target, Route, Method, Bytes, Twice}
 use Rattle.an_base.specs.declared.code.Code.TheVariants.{VersionForm, Manifest, Keeper, Page}
-use Rattle.an_base.specs.declared.code.Code.TheVariants.{NoPage, Min, Prefix}
+use Rattle.an_base.specs.declared.code.Code.TheVariants.{NoPage, Min, Iris, Xywh, Prefix}
 use Rattle.an_base.specs.declared.code.Code.TheVariants.{ReaderToken, ReaderRole, ReaderUser}
 use Rattle.an_base.specs.declared.code.Code.TheVariants.{ReaderGroups, Json, NotWhole, Deep}
 use Rattle.an_base.specs.declared.code.Code.TheVariants.{NoteType, NoteTarget, NoteBody}
@@ -29,6 +29,8 @@ parameter_text parameter.Date = codes "date"
 parameter_text parameter.User = codes "user"
 parameter_text parameter.Page = codes "page"
 parameter_text parameter.Min = codes "min"
+parameter_text parameter.Iris = codes "iris"
+parameter_text parameter.Xywh = codes "xywh"
 
 abbrev pub code_text : Code → List ℕ
 code_text Line = codes "line"
@@ -44,6 +46,8 @@ code_text (Date at) = codes "date"
 code_text Page = codes "page"
 code_text (NoPage pages) = codes "page"
 code_text Min = codes "min"
+code_text Iris = codes "iris"
+code_text Xywh = codes "xywh"
 code_text Prefix = codes "prefix"
 code_text Absent = codes "absent"
 code_text Group = codes "group"

@@ -33,6 +33,10 @@ pub enum Code {
     NoPage { pages: usize },
     /// The least number of occurrences isn't decimal from 1 to 999,999,999.
     Min,
+    /// What asks for IRIs isn't `1`.
+    Iris,
+    /// The region isn't four whole numbers, joined by `,`.
+    Xywh,
     /// The prefix of the terms that are asked for is missing or empty.
     Prefix,
     /// There is no such thing that the caller may read.
@@ -125,6 +129,8 @@ impl Code {
             Code::Page => "page",
             Code::NoPage { .. } => "page",
             Code::Min => "min",
+            Code::Iris => "iris",
+            Code::Xywh => "xywh",
             Code::Prefix => "prefix",
             Code::Absent => "absent",
             Code::Group => "group",

@@ -23,6 +23,10 @@ pub enum Parameter {
     Page,
     /// How often a term has to occur.
     Min,
+    /// Whether annotations are given by their IRIs alone.
+    Iris,
+    /// A region of a canvas.
+    Xywh,
 }
 
 impl Parameter {
@@ -40,6 +44,8 @@ impl Parameter {
             Parameter::User => "user",
             Parameter::Page => "page",
             Parameter::Min => "min",
+            Parameter::Iris => "iris",
+            Parameter::Xywh => "xywh",
         }
     }
 }

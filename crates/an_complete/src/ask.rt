@@ -9,8 +9,8 @@ ghost use Rattle.an_complete.specs.Ask.{has_prefix, is_number_if, ask_refusals, 
 
 use an_base::{List, Parameter, Text, TryCopy};
 use an_search::{
-    Pair, bad_date, copied_value, is_bad_number, number_in, others_in,
-    query_pairs, twice_in, value_in,
+    Pair, bad_date, copied_value, is_bad_number, number_in, others_in, query_pairs, twice_in,
+    value_in,
 };
 use an_terms::term_of;
 use std::alloc::{AllocError, Global};

@@ -67,8 +67,8 @@ fn page_of_terms<T: Look, L: Ledger>(
     terms_text(alloc, iri.as_str(), ask.ignored(), terms.as_slice())
 }
 
-/// The terms that are given.
-fn asked_terms<T: Look, L: Ledger>(
+/// The terms that a completion gives, each with its total.
+pub fn asked_terms<T: Look, L: Ledger>(
     alloc: Global,
     look: &T,
     who: &Who<'_>,
@@ -76,7 +76,7 @@ fn asked_terms<T: Look, L: Ledger>(
     ask: &Ask,
     steps: &mut Steps<L>,
 ) -> Result<Vec<TermTotal>, AllocError>
-    ensures { IfOk result (λ terms. terms.items ≡ asked_terms
+    ensures terms { IfOk result (λ terms. terms.items ≡ asked_terms
         (view_of (T.state look.now) (identity who.now)) manifest.now ask.now) }
 {
     let prefix = term_of(alloc, ask.q())?;

@@ -2,7 +2,7 @@
 #![tactic(auto)]
 
 pub use ask::{Ask, QueryAskError, read_ask};
-pub use completion::{CompleteError, complete};
+pub use completion::{CompleteError, asked_terms, complete};
 
 mod ask;
 mod completion;

@@ -10,8 +10,8 @@ ghost use Rattle.an_complete.specs.Complete.{ask_form, ask_iri, term_tree, terms
 
 use crate::ask::Ask;
 use an_base::{
-    Bytes, Name, Parameter, TermTotal, Text, close_members, push_array_member, push_comma, push_number_member,
-    push_text_member,
+    Bytes, Name, Parameter, TermTotal, Text, close_members, push_array_member, push_comma,
+    push_number_member, push_text_member,
 };
 use an_search::{SEARCH_CONTEXT, append_given, push_ignored};
 use form_urlencoded::Serializer;

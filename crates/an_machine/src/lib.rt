@@ -7,7 +7,7 @@ pub use command::{Command, Decided, Object, Refused, WriteReply};
 pub use entry::{Entry, Row};
 pub use look::Look;
 pub use row::{LiveNote, ManifestRow, NoteRow, ReaderRow};
-pub use shown::{shown_manifest, shown_note};
+pub use shown::{is_manifest_shown, is_note_shown, shown_manifest, shown_note};
 pub use totals::TermTotals;
 
 mod activity;

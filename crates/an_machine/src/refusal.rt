@@ -13,7 +13,7 @@ ghost use Rattle.an_machine.specs.View.{shows_manifest};
 use crate::book::Book;
 use crate::command::{Command, Object, Refused};
 use crate::row::ManifestRow;
-use crate::shown::is_shown;
+use crate::shown::is_manifest_shown;
 use an_base::Name;
 use an_policy::{Group, Role, Who, is_member, is_named};
 
@@ -130,7 +130,7 @@ fn is_shown_row(who: &Who<'_>, row: Option<&ManifestRow>) -> bool
     ensures { result ≡ passes (shows_manifest (identity who.now)) (option_copied row.entry) }
 {
     match row {
-        Some(row) => is_shown(who, row),
+        Some(row) => is_manifest_shown(who, row),
         None => false,
     }
 }

@@ -162,7 +162,7 @@ impl ManifestRow {
     }
 
     /// When the live manifest was made.
-    pub(crate) fn created_at(&self) -> Option<Moment>
+    pub fn created_at(&self) -> Option<Moment>
         ensures created { result ≡ option_map (λ live. live.created) self.now.live }
     {
         // A live row has both; what is live is read off both.

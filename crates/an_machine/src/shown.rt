@@ -32,14 +32,18 @@ fn row_if_shown<'a, T: Look>(look: &'a T, who: &Who<'_>, name: &Name) -> Option<
     ensures distinct { IsTrue (manifests_are_distinct (T.state look.now)) }
 {
     match look.manifest(name) {
-        Some(row) => if is_shown(who, row) { Some(row) } else { None },
+        Some(row) => if is_manifest_shown(who, row) {
+            Some(row)
+        } else {
+            None
+        },
         None => None,
     }
 }
 
-/// Whether the manifest is live, and the caller may read it.
-pub(crate) fn is_shown(who: &Who<'_>, row: &ManifestRow) -> bool
-    ensures { result ≡ shows_manifest (identity who.now) row.now }
+/// Whether the manifest is live, and the caller may read it. Takes no memory.
+pub fn is_manifest_shown(who: &Who<'_>, row: &ManifestRow) -> bool
+    ensures shown { result ≡ shows_manifest (identity who.now) row.now }
 {
     let everybody = Group::Public;
     row.is_live() && may_read(who, row.group(), &everybody, None)
@@ -80,9 +84,9 @@ fn note_if_shown<'a, T: Look>(
     }
 }
 
-/// Whether the annotation is live, and the caller may read it.
-fn is_note_shown<T: Look>(look: &T, who: &Who<'_>, row: &NoteRow) -> bool
-    ensures { result ≡ shows_note (T.state look.now) (identity who.now) row.now }
+/// Whether the annotation is live, and the caller may read it. Takes no memory.
+pub fn is_note_shown<T: Look>(look: &T, who: &Who<'_>, row: &NoteRow) -> bool
+    ensures shown { result ≡ shows_note (T.state look.now) (identity who.now) row.now }
 {
     match row.live() {
         Some(live) => is_read_below(

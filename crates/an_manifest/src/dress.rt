@@ -65,8 +65,9 @@ fn contexts(alloc: Global) -> Result<Value, AllocError>
     ])
 }
 
-pub(crate) fn manifest_iri(alloc: Global, base: &str, name: &str) -> Result<String, AllocError>
-    ensures { IfOk result (λ iri. string_bytes iri ≡ manifest_iri base.now name.now) }
+/// The IRI at which a manifest is served.
+pub fn manifest_iri(alloc: Global, base: &str, name: &str) -> Result<String, AllocError>
+    ensures iri { IfOk result (λ iri. string_bytes iri ≡ manifest_iri base.now name.now) }
 {
     format!(in alloc; "{base}/manifests/{name}")
 }

@@ -1,1 +1,4 @@
 pub mod Bodies
+pub mod Canvas
+pub mod Container
+pub mod ContainerText

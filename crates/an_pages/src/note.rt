@@ -16,7 +16,7 @@ use an_search::{Settings, note_iri};
 use std::alloc::{AllocError, Global};
 
 /// The context of annotations (Web Annotation Data Model).
-const NOTE_CONTEXT: &str = "http://www.w3.org/ns/anno.jsonld";
+pub(crate) const NOTE_CONTEXT: &str = "http://www.w3.org/ns/anno.jsonld";
 
 /// An annotation as the caller is shown it on its own route (Web Annotation Protocol, section 3).
 /// One that the caller may not read is gone where the last change of it that the caller sees, by

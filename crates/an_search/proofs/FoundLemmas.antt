@@ -1,5 +1,5 @@
 -- What was found, by places and by rows, and how what was written of it grows.
-use Rattle.std.proofs.Common.{◌≡◌, ℕ, suc, ◌+◌, ◌<◌, ◌≤◌, List, [], ◌∷◌, ◌++◌, map, length, get_or, take, drop, Bool, true, false, cond, Option, Some, None, Ok, Err, nat_lt, ◌==◌, codes, refl, sym, ap, subst, ◌∙◌, arith, length-append, append-nil, append_assoc}
+use Rattle.std.proofs.Common.{◌≡◌, ℕ, suc, ◌+◌, ◌<◌, ◌≤◌, List, [], ◌∷◌, ◌++◌, map, length, get_or, take, drop, Bool, true, false, cond, Option, Some, None, Ok, Err, nat_lt, ◌==◌, refl, sym, ap, ◌∙◌, arith, length-append, append-nil, append_assoc}
 use Rattle.std.proofs.lemmas.Bool.Decides.{nat_tests}
 use Rattle.std.specs.List.{filter_map, cons_option}
 use Rattle.std.specs.Prelude.{filter, slice_get}
@@ -12,7 +12,7 @@ use Rattle.an_base.specs.Outcome.{passes}
 use Rattle.an_base.specs.TextSet.{has_text}
 use Rattle.an_base.specs.Write.{item_text, item_commas}
 use Rattle.an_base.proofs.WriteLemmas.{item_commas-append}
-use Rattle.an_highlight.specs.Marks.{highlights_of, marked}
+use Rattle.an_highlight.specs.Marks.{highlights_of}
 use Rattle.an_machine.specs.State.{KeptNote, LiveNote}
 use Rattle.an_model.specs.Bodies.{note_occurrences}
 use Rattle.an_model.specs.declared.occurrence.NoteOccurrence.{NoteOccurrence}

@@ -1,5 +1,5 @@
 -- What a loop gathered, in front of what is left.
-use Rattle.std.proofs.Common.{◌≡◌, ℕ, ◌+◌, ◌<◌, suc, List, [], ◌∷◌, ◌++◌, ◌-◌, length, take, drop, Bool, true, false, ◌||◌, nat_eq, codes, refl, sym, ap, ◌∙◌, append-nil, append_assoc, drop-cons, add-one}
+use Rattle.std.proofs.Common.{◌≡◌, ℕ, ◌+◌, ◌<◌, suc, List, [], ◌∷◌, ◌++◌, ◌-◌, length, take, drop, true, false, ◌||◌, nat_eq, codes, sym, ap, ◌∙◌, append-nil, append_assoc, drop-cons, add-one}
 use Rattle.std.proofs.lemmas.List.{take_rest}
 use Rattle.std.specs.List.{starts_with}
 use Rattle.an_search.specs.Wanted.{is_iri}

@@ -1,5 +1,5 @@
 -- For private clauses: what was found, and what of it was written so far.
-use Rattle.std.specs.Prelude.{◌≡◌, ℕ, List, map, length, filter, Bool, Some, slice_get}
+use Rattle.std.specs.Prelude.{◌≡◌, ℕ, List, map, length, Bool, Some, slice_get}
 use Rattle.std.specs.List.{filter_map}
 use Rattle.serde_json.specs.View.{items_of}
 use Rattle.an_base.specs.Outcome.{passes}

@@ -1,5 +1,5 @@
 -- What the pairs of a query give to the parameters that are read.
-use Rattle.std.specs.Prelude.{ℕ, List, [], ◌∷◌, ◌++◌, codes, find, map, filter, bytes_eq}
+use Rattle.std.specs.Prelude.{ℕ, List, [], ◌∷◌, ◌++◌, find, map, filter, bytes_eq}
 use Rattle.std.specs.Prelude.{Bool, ◌&&◌, nat_le, if◌then◌else◌, Option, None, is_none, option_map}
 use Rattle.std.specs.Prelude.{option_and_then}
 use Rattle.std.specs.List.{list_any}
@@ -9,7 +9,6 @@ use Rattle.an_base.specs.Outcome.{first_of, only_if, passes}
 use Rattle.an_base.specs.TextSet.{distinct}
 use Rattle.an_search.specs.declared.pairs.Pair.{Pair}
 use Rattle.an_base.specs.declared.parameter.Parameter.{Parameter}
-use Rattle.an_base.specs.declared.parameter.Parameter.TheVariants as parameter
 
 -- the parameter of this name, if it is among those that are read
 abbrev pub parameter_in : List Parameter → List ℕ → Option Parameter

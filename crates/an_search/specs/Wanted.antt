@@ -3,7 +3,6 @@ use Rattle.std.specs.Prelude.{ℕ, ℤ, List, [], ◌∷◌, ◌++◌, length, c
 use Rattle.std.specs.Prelude.{false, not, ◌&&◌, ◌||◌, ◌==◌, int_le, if◌then◌else◌, Option, Some}
 use Rattle.std.specs.Prelude.{None}
 use Rattle.std.specs.List.{list_all, list_any, filter_map, starts_with}
-use Rattle.serde_json.specs.Data.{Data}
 use Rattle.an_base.specs.Outcome.{passes}
 use Rattle.an_base.specs.TextSet.{has_text}
 use Rattle.an_terms.specs.Terms.{terms_of}

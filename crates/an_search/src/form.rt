@@ -13,7 +13,8 @@ pub fn append_given(
     given: Option<&Text>,
 ) -> Result<(), AllocError>
     ensures written { OnOk result (form.new ≡ record form.old {
-        form = with_given form.old.form (parameter, option_copied given.entry) }) }
+      form = with_given form.old.form (parameter, option_copied given.entry);
+    }) }
 {
     match given {
         Some(value) => form.append_pair(parameter.text(), value.as_str()),

@@ -20,21 +20,21 @@ use std::sync::ledger::Ledger;
 
 /// The annotations that mark words, each behind a comma, and how many there are.
 #[derive(Drop)]
-pub(crate) struct Marks {
+pub struct Marks {
     pub text: Vec<u8>,
     pub count: usize,
 }
 
 /// The annotations of a page as lists give them, each behind a comma, and the marks in them.
 #[derive(Drop)]
-pub(crate) struct Listed {
+pub struct Listed {
     pub items: Vec<u8>,
     pub marks: Marks,
 }
 
 /// What a page shows of the annotations at these places, of which there are no more than a page
 /// has. It takes a step for each.
-pub(crate) fn list_items<T: Look, L: Ledger>(
+pub fn list_items<T: Look, L: Ledger>(
     alloc: Global,
     look: &T,
     places: &[usize],

@@ -4,11 +4,12 @@
 pub use dates::{DateRange, bad_date, range_of};
 pub use form::append_given;
 pub use given::{copied_value, is_bad_number, number_in, others_in, twice_in, value_in};
+pub use items::{Listed, Marks, list_items};
 pub use listed::note_iri;
-pub use page::push_ignored;
+pub use page::{Paging, Whole, page_iri, page_text, push_ignored, push_text_item};
 pub use pairs::{Pair, escaped_text, query_pairs, text_of};
 pub use query::{Query, QueryError, read_query};
-pub use searching::{AskError, SEARCH_CONTEXT, search};
+pub use searching::{AskError, SEARCH_CONTEXT, found_total, page_of, search};
 pub use settings::{Settings, SettingsError, read_settings};
 pub use wanted::{Wanted, matches, wanted_by, wants_nothing};
 

@@ -16,7 +16,7 @@ use std::alloc::{AllocError, Global};
 
 /// A list that is served in pages.
 #[derive(Drop)]
-pub(crate) struct Whole {
+pub struct Whole {
     /// Its IRI without parameters.
     pub path: Text,
     /// Its parameters as a form writes them, of which there may be none.
@@ -25,7 +25,7 @@ pub(crate) struct Whole {
 
 /// Which page of a list, from 1, how many items a page has at most, and how many the list has.
 #[derive(Clone, Copy)]
-pub(crate) struct Paging {
+pub struct Paging {
     pub page: u32,
     pub size: u32,
     pub total: usize,
@@ -53,7 +53,7 @@ impl Paging {
 /// The text of a page of a list, its members in the order of their names. `items` are the texts of
 /// the page's items, and `marks` those of the marks in them, each behind a comma; `ignored` are the
 /// names of parameters that were ignored.
-pub(crate) fn page_text(
+pub fn page_text(
     alloc: Global,
     context: &str,
     whole: &Whole,
@@ -215,7 +215,8 @@ fn push_text_items(out: Vec<u8>, texts: &[Text]) -> Result<Vec<u8>, AllocError>
     Ok(out)
 }
 
-fn push_text_item(out: Vec<u8>, text: &str) -> Result<Vec<u8>, AllocError>
+/// Writes a text as an item, behind a comma.
+pub fn push_text_item(out: Vec<u8>, text: &str) -> Result<Vec<u8>, AllocError>
     ensures text { IfOk result (λ v. v.items ≡ out.items ++ item_text (string text.now)) }
 {
     let out = push_comma(out)?;
@@ -359,7 +360,7 @@ pub(crate) fn whole_iri(alloc: Global, whole: &Whole) -> Result<String, AllocErr
 }
 
 /// The IRI of a page of the list.
-pub(crate) fn page_iri(alloc: Global, whole: &Whole, number: usize) -> Result<String, AllocError>
+pub fn page_iri(alloc: Global, whole: &Whole, number: usize) -> Result<String, AllocError>
     ensures iri { IfOk result (λ iri. string_bytes iri ≡ page_iri whole.now number) }
 {
     let path = whole.path.as_str();

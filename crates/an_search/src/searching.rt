@@ -71,6 +71,24 @@ pub fn search<T: Look, L: Ledger>(
     }
 }
 
+/// How many annotations a search finds on a manifest, on all its pages together.
+pub fn found_total<T: Look, L: Ledger>(
+    alloc: Global,
+    look: &T,
+    who: &Who<'_>,
+    manifest: &Name,
+    query: &Query,
+    steps: &mut Steps<L>,
+) -> Result<usize, AllocError>
+    ensures total { IfOk result (λ total. total ≡ length
+        (hits (view_of (T.state look.now) (identity who.now)) manifest.now
+        (wanted_of query.now))) }
+{
+    let wanted = wanted_of(alloc, query)?;
+    let places = hit_places(alloc, look, who, manifest, &wanted, steps)?;
+    Ok(places.as_slice().len())
+}
+
 fn search_shown<T: Look, L: Ledger>(
     alloc: Global,
     look: &T,
@@ -130,15 +148,7 @@ fn page_at<T: Look, L: Ledger>(
     let ignored = query.ignored();
     let shown = page_of(places, paging);
     Ok(write_page(
-        alloc,
-        look,
-        &whole,
-        paging,
-        base,
-        shown,
-        terms,
-        ignored,
-        steps,
+        alloc, look, &whole, paging, base, shown, terms, ignored, steps,
     )?)
 }
 
@@ -171,25 +181,18 @@ fn write_page<T: Look, L: Ledger>(
     Ok(text)
 }
 
-/// The places whose annotations stand on the page.
-fn page_of(places: &[usize], paging: Paging) -> &[usize]
+/// Those of a list that stand on the page.
+pub fn page_of<T>(listed: &[T], paging: Paging) -> &[T]
     requires page { 1 ≤ paging.page }
-    ensures page { result.now ≡ page_of paging.page paging.size places.now }
+    ensures page { result.now ≡ page_of paging.page paging.size listed.now }
 {
-    let start = (paging.start() as usize).min(places.len());
-    let end = start
-        .saturating_add(paging.size as usize)
-        .min(places.len());
-    &places[start..end]
+    let start = (paging.start() as usize).min(listed.len());
+    let end = start.saturating_add(paging.size as usize).min(listed.len());
+    &listed[start..end]
 }
 
 /// All that a search finds.
-fn whole_of(
-    alloc: Global,
-    base: &str,
-    manifest: &Name,
-    query: &Query,
-) -> Result<Whole, AllocError>
+fn whole_of(alloc: Global, base: &str, manifest: &Name, query: &Query) -> Result<Whole, AllocError>
     ensures { IfOk result (λ whole. whole ≡ whole_of base.now manifest.now query.now) }
 {
     let path = search_path(alloc, base, manifest.as_str())?;

@@ -1,0 +1,3 @@
+pub mod NoteLemmas
+pub mod ContainerLemmas
+mod ContainerRows

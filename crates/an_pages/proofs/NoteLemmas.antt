@@ -1,0 +1,103 @@
+-- The annotations about a canvas, and the page of them that is asked for.
+use Rattle.std.proofs.Common.{◌≡◌, ℕ, ◌<◌, ◌≤◌, List, [], ◌∷◌, map, length, Bool, true, false, cond, ◌&&◌, ◌||◌, Option, Some, None, Ok, Err, nat_lt, bytes_eq, refl, sym, ap, subst, ◌∙◌, arith}
+use Rattle.std.proofs.lemmas.Bool.Decides.{nat_tests}
+use Rattle.std.specs.Prelude.{filter, slice_get}
+use Rattle.std.specs.List.{filter_map, cons_option, list_any}
+use Rattle.serde_json.specs.Data.{Data, no_items}
+use Rattle.serde_json.specs.View.{items_of}
+use Rattle.serde_json.specs.Written.{compact_text}
+use Rattle.an_base.specs.Outcome.{passes}
+use Rattle.an_base.specs.TextSet.{has_text}
+use Rattle.an_selectors.specs.declared.region.Xywh.{Xywh}
+use Rattle.an_model.specs.Targets.{sources_of, targets_of}
+use Rattle.an_model.specs.declared.target.Target.{Target}
+use Rattle.an_policy.specs.Audience.{Identity}
+use Rattle.an_machine.specs.State.{State, KeptNote}
+use Rattle.an_machine.specs.View.{view_of, readable_places}
+use Rattle.an_search.proofs.ViewLemmas.{readable_rows}
+use Rattle.an_search.specs.Found.{StandAt}
+use Rattle.an_search.specs.Listed.{listed_note}
+use Rattle.an_search.specs.Page.{list_page, page_count, page_of}
+use Rattle.an_search.specs.Site.{Site}
+use Rattle.an_search.specs.declared.page.Whole.{Whole}
+use Rattle.an_pages.specs.Canvas.{is_about, is_row_about, is_target_in, meets, notes_about, notes_text, passes_at, presentation_context}
+use Rattle.an_pages.specs.declared.error.PageError.TheVariants.{NoPage}
+
+-- ---- what is about a canvas
+
+no_more : (on meets some others : Bool) → (some ≡ false → others ≡ false) → (on || some) ≡ false → ((on && meets) || others) ≡ false
+no_more true meets some others rest none = absurd (cc)
+no_more false meets some others rest none = rest none
+
+-- where no target is on the canvas, none is in a region of it
+none_in : (canvas : List ℕ) (asked : Xywh) (targets : List Target) → has_text canvas (map (λ target. target.source) targets) ≡ false → list_any (is_target_in canvas asked) targets ≡ false
+none_in canvas asked [] none = refl
+none_in canvas asked (target ∷ targets) none = no_more (bytes_eq target.source canvas) (meets asked target.region) _ _ (none_in canvas asked targets) none
+
+pub not_about : (canvas : List ℕ) (region : Option Xywh) (tree : Data) → has_text canvas (sources_of tree) ≡ false → false ≡ is_about canvas region tree
+unfolding sources_of
+not_about canvas None tree none = sym none
+not_about canvas (Some asked) tree none = sym (none_in canvas asked (targets_of tree) none)
+
+-- ---- at places
+
+-- the annotations at the places where a test passes are those at all places that pass it
+stand_passing : (test : KeptNote → Bool) (notes : List KeptNote) (places : List ℕ) → StandAt notes (filter (passes_at test notes) places) (filter test (filter_map (slice_get notes) places))
+stand_passing test notes [] = refl
+stand_passing test notes (place ∷ places) = by (slice_get notes place) refl (stand_passing test notes places)
+  where
+    kept : (row : KeptNote) (b : Bool) → slice_get notes place ≡ Some row → StandAt notes (filter (passes_at test notes) places) (filter test (filter_map (slice_get notes) places))
+        → map (slice_get notes) (cond b (place ∷ filter (passes_at test notes) places) (filter (passes_at test notes) places))
+        ≡ map Some (cond b (row ∷ filter test (filter_map (slice_get notes) places)) (filter test (filter_map (slice_get notes) places)))
+    kept row true at rest = rw (at, rest) refl
+    kept row false at rest = rest
+
+    by : (found : Option KeptNote) → slice_get notes place ≡ found → StandAt notes (filter (passes_at test notes) places) (filter test (filter_map (slice_get notes) places))
+        → map (slice_get notes) (cond (passes test found) (place ∷ filter (passes_at test notes) places) (filter (passes_at test notes) places))
+        ≡ map Some (filter test (cons_option found (filter_map (slice_get notes) places)))
+    by None at rest = rest
+    by (Some row) at rest = kept row (test row) at rest
+
+-- the annotations of the view that are about the canvas stand at the readable places that are
+pub about_stand : (s : State) (who : Identity) (manifest canvas : List ℕ) (region : Option Xywh)
+    → StandAt s.notes (filter (passes_at (is_row_about canvas region) s.notes) (readable_places s who manifest)) (notes_about (view_of s who) manifest canvas region)
+unfolding notes_about
+about_stand s who manifest canvas region =
+    subst (λ rows. StandAt s.notes (filter (passes_at (is_row_about canvas region) s.notes) (readable_places s who manifest)) (filter (is_row_about canvas region) rows))
+    (readable_rows s who manifest)
+    (stand_passing (is_row_about canvas region) s.notes (readable_places s who manifest))
+
+-- ---- which page
+
+lt_true : (a b : ℕ) → a < b → nat_lt a b ≡ true
+lt_true a b h = grind (arith, nat_tests)
+
+lt_false : (a b : ℕ) → b ≤ a → nat_lt a b ≡ false
+lt_false a b h = grind (arith, nat_tests)
+
+pub count_is : (rows : List KeptNote) (own total size pages : ℕ) → total ≡ length rows → size ≡ own → pages ≡ page_count total size → page_count (length rows) own ≡ pages
+count_is rows own total size pages total_is size_is is = sym (is ∙ ap (λ n. page_count n size) total_is ∙ ap (page_count (length rows)) size_is)
+
+-- there is no page 0, and none past the last
+pub is_off : (page pages : ℕ) → page < 1 → (nat_lt page 1 || nat_lt pages page) ≡ true
+is_off page pages below = ap (λ b. b || nat_lt pages page) (lt_true page 1 below)
+
+pub is_past : (page pages : ℕ) → 1 ≤ page → pages < page → (nat_lt page 1 || nat_lt pages page) ≡ true
+is_past page pages some past = ap (λ b. b || nat_lt pages page) (lt_false page 1 some) ∙ lt_true pages page past
+
+pub is_there : (page pages : ℕ) → 1 ≤ page → page ≤ pages → (nat_lt page 1 || nat_lt pages page) ≡ false
+is_there page pages some within = ap (λ b. b || nat_lt pages page) (lt_false page 1 some) ∙ lt_false pages page within
+
+module _ (site : Site) (whole : Whole) (rows : List KeptNote) (total size page pages : ℕ) (total_is : total ≡ length rows) (size_is : size ≡ site.size) (pages_are : pages ≡ page_count total size) where
+  pub no_page : (nat_lt page 1 || nat_lt pages page) ≡ true → notes_text site whole page rows ≡ Err (NoPage pages)
+  unfolding notes_text
+  no_page off = let count = count_is rows site.size total size pages total_is size_is pages_are in rw (count, off) refl
+
+  pub found_page : (base text : List ℕ) → base ≡ site.base → (nat_lt page 1 || nat_lt pages page) ≡ false
+      → text ≡ compact_text (list_page presentation_context whole page size total (items_of (filter_map (listed_note base) (page_of page size rows))) no_items [])
+      → notes_text site whole page rows ≡ Ok text
+  unfolding notes_text
+  found_page base text base_is there is =
+      let count = count_is rows site.size total size pages total_is size_is pages_are in
+      let same = rw (base_is, total_is, size_is) at is in
+      rw (count, there) (ap Ok (sym same))

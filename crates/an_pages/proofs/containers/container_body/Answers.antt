@@ -1,0 +1,18 @@
+use Rattle.std.proofs.Common.{sym, subst, ap, ◌∙◌}
+use Rattle.an_policy.specs.Audience.{identity}
+use Rattle.an_machine.specs.View.{view_of}
+use Rattle.an_search.specs.Found.{StandAt}
+use Rattle.an_pages.specs.Container.{container_body, container_whole, notes_on}
+use Rattle.an_pages.proofs.ContainerLemmas.{on_stand}
+use Rattle.an_pages.proofs.containers.container_body.Goals as goal
+
+pub returns : goal.returns
+returns g c =
+    let s = g.T.Look.state c.args.look.now in
+    let who = identity c.args.who.now in
+    let rows = notes_on (view_of s who) c.args.name.now in
+    let places = c.as_slice.ensures.value ∙ c.in_ok-places.ensures.places in
+    let stand = subst (λ places. StandAt s.notes places rows) (sym places) (on_stand s who c.args.name.now) in
+    c.in_ok-body.ensures rows stand
+    ∙ ap (λ whole. container_body c.args.settings.now whole c.args.prefer rows) c.in_ok-whole.ensures
+    ∙ ap (λ base. container_body c.args.settings.now (container_whole base c.args.name.now c.args.prefer.iris) c.args.prefer rows) c.base.ensures.value

@@ -1,0 +1,19 @@
+use Rattle.std.proofs.Common.{sym, subst, ap, ◌∙◌}
+use Rattle.an_base.specs.Outcome.{Gives}
+use Rattle.an_policy.specs.Audience.{identity}
+use Rattle.an_machine.specs.View.{view_of}
+use Rattle.an_search.specs.Found.{StandAt}
+use Rattle.an_pages.specs.Container.{container_whole, notes_on, own_text}
+use Rattle.an_pages.specs.declared.error.PageError.TheVariants.{Memory}
+use Rattle.an_pages.proofs.ContainerLemmas.{on_stand}
+use Rattle.an_pages.proofs.containers.page_shown.Goals as goal
+
+pub returns : goal.returns
+returns g c =
+    let s = g.T.Look.state c.args.look.now in
+    let who = identity c.args.who.now in
+    let rows = notes_on (view_of s who) c.args.name.now in
+    let places = c.as_slice.ensures.value ∙ c.in_ok-places.ensures.places in
+    let stand = subst (λ places. StandAt s.notes places rows) (sym places) (on_stand s who c.args.name.now) in
+    let whole = c.in_ok-whole.ensures ∙ ap (λ base. container_whole base c.args.name.now c.args.iris) c.base.ensures.value in
+    subst (λ whole. Gives (λ body. body) Memory c.page_at.result (own_text c.args.settings.now whole c.args.iris c.args.page rows)) whole (c.page_at.ensures rows stand)

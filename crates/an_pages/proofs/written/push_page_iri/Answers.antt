@@ -1,0 +1,10 @@
+use Rattle.std.proofs.Common.{rules, ◌≡◌, ◌++◌, ap, ◌∙◌}
+use Rattle.serde_json.specs.Data.{string}
+use Rattle.an_base.specs.Write.{member_text}
+use Rattle.an_search.specs.Page.{page_iri}
+use Rattle.an_pages.proofs.written.push_page_iri.Goals as goal
+
+pub returns : goal.returns
+returns c =
+    let iri : c.as_str.result.now ≡ page_iri c.args.whole.now c.args.number = search rules in
+    record { text = c.in_ok-out.ensures.text ∙ ap (λ iri. c.args.out.items ++ member_text c.args.name.now (string iri)) iri }

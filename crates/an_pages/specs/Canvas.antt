@@ -1,0 +1,119 @@
+-- A page of the annotations on a canvas (IIIF Presentation API 3.0, sections 5.3 and 5.5), or on a
+-- region of it.
+use Rattle.std.specs.Prelude.{ℕ, ◌+◌, ◌-◌, List, [], ◌++◌, length, filter, codes, decimal, nat_lt}
+use Rattle.std.specs.Prelude.{bytes_eq, slice_get, Bool, true, ◌&&◌, ◌||◌, if◌then◌else◌}
+use Rattle.std.specs.Prelude.{Option, None, Some, option_and_then, Result, Ok, Err}
+use Rattle.std.specs.List.{list_any, filter_map}
+use Rattle.serde_json.specs.Data.{Data, no_items}
+use Rattle.serde_json.specs.View.{items_of}
+use Rattle.serde_json.specs.Written.{compact_text}
+use Rattle.an_base.specs.Outcome.{or_refuse, passes}
+use Rattle.an_base.specs.TextSet.{has_text}
+use Rattle.an_selectors.specs.declared.region.Xywh.{Xywh}
+use Rattle.an_model.specs.Targets.{sources_of, targets_of}
+use Rattle.an_model.specs.declared.target.Target.{Target}
+use Rattle.an_manifest.specs.Manifest.{canvases_of}
+use Rattle.an_machine.specs.State.{KeptManifest, KeptNote}
+use Rattle.an_machine.specs.View.{View, is_on, manifest_in}
+use Rattle.an_search.specs.Listed.{listed_note}
+use Rattle.an_search.specs.Page.{list_page, page_count, page_of}
+use Rattle.an_search.specs.Site.{Site}
+use Rattle.an_search.specs.declared.page.Whole.{Whole}
+use Rattle.an_pages.specs.declared.error.PageError.{PageError}
+use Rattle.an_pages.specs.declared.error.PageError.TheVariants.{Absent, NoPage}
+
+-- ---- regions
+
+-- two stretches, each from its start and of its size, have a pixel in common
+abbrev pub cross : ℕ → ℕ → ℕ → ℕ → Bool
+cross start size other other_size = nat_lt start (other + other_size) && nat_lt other (start + size)
+
+-- two regions have a pixel in common
+abbrev pub overlap : Xywh → Xywh → Bool
+overlap one other = cross one.x one.w other.x other.w && cross one.y one.h other.y other.h
+
+-- what has no region is about the whole canvas, and so about each region of it
+abbrev pub meets : Xywh → Option Xywh → Bool
+meets asked None = true
+meets asked (Some region) = overlap asked region
+
+-- ---- what is on a canvas
+
+-- the target is on the canvas, and meets the region
+abbrev pub is_target_in : List ℕ → Xywh → Target → Bool
+is_target_in canvas asked target = bytes_eq target.source canvas && meets asked target.region
+
+-- one of the targets is on the canvas; where a region is asked for, it meets that
+abbrev pub is_about : List ℕ → Option Xywh → Data → Bool
+is_about canvas None tree = has_text canvas (sources_of tree)
+is_about canvas (Some asked) tree = list_any (is_target_in canvas asked) (targets_of tree)
+
+abbrev pub is_row_about : List ℕ → Option Xywh → KeptNote → Bool
+is_row_about canvas region row = passes (λ live. is_about canvas region live.tree) row.live
+
+-- the annotations of the view on the manifest that are about the canvas, or the region of it
+unfoldable pub notes_about : View → List ℕ → List ℕ → Option Xywh → List KeptNote
+notes_about view manifest canvas region =
+    filter (is_row_about canvas region) (filter (is_on manifest) view.notes)
+
+-- ---- a canvas by its number
+
+-- the id of the canvas of this number, from 1
+abbrev pub canvas_at : ℕ → List (List ℕ) → Option (List ℕ)
+canvas_at number canvases =
+    if nat_lt 0 number then slice_get canvases (number - 1) else None
+
+abbrev pub row_canvas : ℕ → KeptManifest → Option (List ℕ)
+row_canvas number row =
+    option_and_then (λ live. canvas_at number (canvases_of live.tree)) row.live
+
+-- that of the manifest of this name in the view
+abbrev pub canvas_in : View → List ℕ → ℕ → Option (List ℕ)
+canvas_in view name number = option_and_then (row_canvas number) (manifest_in view name)
+
+-- ---- the answer
+
+-- the context of annotation pages (IIIF Presentation API 3.0)
+abbrev pub presentation_context : List ℕ
+presentation_context = codes "http://iiif.io/api/presentation/3/context.json"
+
+-- a region as a form: `xywh=X,Y,W,H`, its commas escaped
+abbrev pub region_form : Option Xywh → List ℕ
+region_form None = []
+region_form (Some region) =
+    codes "xywh=" ++ (decimal region.x ++ (codes "%2C" ++ (decimal region.y ++ (codes "%2C"
+    ++ (decimal region.w ++ (codes "%2C" ++ decimal region.h))))))
+
+-- all annotations on the canvas, or on the region
+abbrev pub canvas_whole : List ℕ → List ℕ → ℕ → Option Xywh → Whole
+canvas_whole base name canvas region = record {
+  path = base ++ (codes "/manifests/" ++ (name ++ (codes "/canvases/" ++ decimal canvas)));
+  parameters = region_form region;
+}
+
+-- a page of them
+abbrev pub notes_page : Site → Whole → ℕ → List KeptNote → Data
+notes_page site whole page notes =
+    list_page presentation_context whole page site.size (length notes)
+    (items_of (filter_map (listed_note site.base) (page_of page site.size notes))) no_items []
+
+-- the same as text, where there is a page of this number
+unfoldable pub notes_text : Site → Whole → ℕ → List KeptNote → Result (List ℕ) PageError
+notes_text site whole page notes =
+    let pages = page_count (length notes) site.size in
+    if nat_lt page 1 || nat_lt pages page then Err (NoPage pages)
+    else Ok (compact_text (notes_page site whole page notes))
+
+-- the answer, from the caller's view alone
+unfoldable pub canvas_page_of
+    : Site → View → List ℕ → ℕ → Option Xywh → ℕ → Result (List ℕ) PageError
+canvas_page_of site view name canvas region page =
+    or_refuse Absent (canvas_in view name canvas) (λ id.
+    notes_text site (canvas_whole site.base name canvas region) page
+    (notes_about view name id region))
+
+-- ---- for private clauses
+
+-- there is an annotation at the place, and it passes the test
+abbrev pub passes_at : (KeptNote → Bool) → List KeptNote → ℕ → Bool
+passes_at test notes place = passes test (slice_get notes place)

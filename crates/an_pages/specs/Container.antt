@@ -1,0 +1,147 @@
+-- The container of the annotations on a manifest, and its pages (Web Annotation Protocol, section
+-- 4; Web Annotation Data Model, section 5).
+use Rattle.std.specs.Prelude.{ℕ, ◌+◌, ◌-◌, List, [], ◌++◌, length, map, filter, codes, nat_lt}
+use Rattle.std.specs.Prelude.{Bool, ◌||◌, if◌then◌else◌, is_some, Option, None, Some}
+use Rattle.std.specs.Prelude.{Result, Ok, Err}
+use Rattle.std.specs.List.{filter_map}
+use Rattle.serde_json.specs.Data.{Data, number, unsigned, string, array, object, Items, no_items}
+use Rattle.serde_json.specs.Data.{item, member, no_members}
+use Rattle.serde_json.specs.View.{items_of}
+use Rattle.serde_json.specs.Written.{compact_text}
+use Rattle.an_base.specs.Object.{with_member, with_member_if}
+use Rattle.an_base.specs.declared.span.Prefer.{Prefer}
+use Rattle.an_machine.specs.State.{KeptNote}
+use Rattle.an_machine.specs.View.{View, is_on, manifest_in}
+use Rattle.an_search.specs.Listed.{listed_note, note_iri}
+use Rattle.an_search.specs.Page.{page_count, page_iri, page_of, start_of}
+use Rattle.an_search.specs.Site.{Site}
+use Rattle.an_search.specs.declared.page.Whole.{Whole}
+use Rattle.an_pages.specs.Bodies.{note_context}
+use Rattle.an_pages.specs.declared.error.PageError.{PageError}
+use Rattle.an_pages.specs.declared.error.PageError.TheVariants.{Absent, NoPage}
+
+-- ---- the list that is served in pages
+
+-- the container's IRI
+abbrev pub container_iri : List ℕ → List ℕ → List ℕ
+container_iri base name = base ++ (codes "/manifests/" ++ (name ++ codes "/annotations/"))
+
+-- its pages have whole annotations, or their IRIs alone, and say so in their own IRIs
+abbrev pub iris_form : Bool → List ℕ
+iris_form iris = if iris then codes "iris=1" else []
+
+abbrev pub container_whole : List ℕ → List ℕ → Bool → Whole
+container_whole base name iris = record {
+  path = container_iri base name;
+  parameters = iris_form iris;
+}
+
+-- the annotations of the view on the manifest
+unfoldable pub notes_on : View → List ℕ → List KeptNote
+notes_on view manifest = filter (is_on manifest) view.notes
+
+-- an annotation's IRI, as an item
+abbrev pub iri_item : List ℕ → KeptNote → Data
+iri_item base row = string (note_iri base row.owner row.name)
+
+-- annotations as the items of a page
+abbrev pub items_on : List ℕ → Bool → List KeptNote → Items
+items_on base iris rows =
+    if iris then items_of (map (iri_item base) rows)
+    else items_of (filter_map (listed_note base) rows)
+
+-- ---- what names what
+
+abbrev pub container_types : Data
+container_types =
+    array (item (string (codes "BasicContainer"))
+    (item (string (codes "AnnotationCollection")) no_items))
+
+-- the container, as a page of its own names it
+abbrev pub container_link : Whole → ℕ → Data
+container_link whole total =
+    object (member (codes "id") (string whole.path)
+    (member (codes "total") (number (unsigned total))
+    (member (codes "type") container_types no_members)))
+
+-- the IRIs of the page after this one, of so many, and of the one before it, where there is one
+abbrev pub iri_after : Whole → ℕ → ℕ → Option Data
+iri_after whole pages page =
+    if nat_lt page pages then Some (string (page_iri whole (page + 1))) else None
+
+abbrev pub iri_before : Whole → ℕ → Option Data
+iri_before whole page =
+    if nat_lt 1 page then Some (string (page_iri whole (page - 1))) else None
+
+-- ---- pages
+
+-- a page as the container holds it (Web Annotation Protocol, section 4.2.2)
+unfoldable pub held_page : Whole → ℕ → ℕ → ℕ → Items → Data
+held_page whole page size total items =
+    with_member_if (codes "next") (iri_after whole (page_count total size) page)
+    (object (member (codes "id") (string (page_iri whole page))
+    (member (codes "items") (array items)
+    (member (codes "startIndex") (number (unsigned (start_of page size)))
+    (member (codes "type") (string (codes "AnnotationPage")) no_members)))))
+
+-- the same as it is served on its own: with its context, what it is part of, and the page before
+unfoldable pub own_page : Whole → ℕ → ℕ → ℕ → Items → Data
+own_page whole page size total items =
+    with_member (codes "@context") (string note_context)
+    (with_member (codes "partOf") (container_link whole total)
+    (with_member_if (codes "prev") (iri_before whole page)
+    (held_page whole page size total items)))
+
+-- ---- the container
+
+abbrev pub container_contexts : Data
+container_contexts =
+    array (item (string note_context)
+    (item (string (codes "http://www.w3.org/ns/ldp.jsonld")) no_items))
+
+-- its first page; where the container alone is preferred, that page's IRI
+abbrev pub first_page : Whole → Bool → ℕ → ℕ → Items → Data
+first_page whole minimal size total items =
+    if minimal then string (page_iri whole 1) else held_page whole 1 size total items
+
+-- the container with this first page
+unfoldable pub container_tree : Whole → Data → ℕ → ℕ → Data
+container_tree whole first size total =
+    object (member (codes "@context") container_contexts
+    (member (codes "first") first
+    (member (codes "id") (string whole.path)
+    (member (codes "last") (string (page_iri whole (page_count total size)))
+    (member (codes "total") (number (unsigned total))
+    (member (codes "type") container_types no_members))))))
+
+-- ---- the answers, from the caller's view alone
+
+-- the container of these annotations
+abbrev pub container_body : Site → Whole → Prefer → List KeptNote → List ℕ
+container_body site whole prefer notes =
+    compact_text (container_tree whole
+    (first_page whole prefer.minimal site.size (length notes)
+    (items_on site.base prefer.iris (page_of 1 site.size notes)))
+    site.size (length notes))
+
+unfoldable pub container_of : Site → View → List ℕ → Prefer → Result (List ℕ) PageError
+container_of site view name prefer =
+    if is_some (manifest_in view name)
+    then Ok (container_body site (container_whole site.base name prefer.iris) prefer
+    (notes_on view name))
+    else Err Absent
+
+-- a page of these annotations, where there is one of this number
+unfoldable pub own_text : Site → Whole → Bool → ℕ → List KeptNote → Result (List ℕ) PageError
+own_text site whole iris page notes =
+    let pages = page_count (length notes) site.size in
+    if nat_lt page 1 || nat_lt pages page then Err (NoPage pages)
+    else Ok (compact_text (own_page whole page site.size (length notes)
+    (items_on site.base iris (page_of page site.size notes))))
+
+unfoldable pub container_page_of
+    : Site → View → List ℕ → ℕ → Bool → Result (List ℕ) PageError
+container_page_of site view name page iris =
+    if is_some (manifest_in view name)
+    then own_text site (container_whole site.base name iris) iris page (notes_on view name)
+    else Err Absent

@@ -1,0 +1,108 @@
+ghost use Rattle.std.specs.Prelude.{◌≡◌, filter, IfOk};
+ghost use Rattle.an_policy.specs.Audience.{identity};
+ghost use Rattle.an_machine.specs.View.{readable_places};
+ghost use Rattle.an_pages.specs.Canvas.{is_about, is_row_about, passes_at};
+
+use crate::region::has_target_in;
+use an_base::{Name, Steps};
+use an_machine::{Look, NoteRow};
+use an_model::KeptNote;
+use an_policy::Who;
+use an_selectors::Xywh;
+use std::alloc::{AllocError, Global};
+use std::sync::ledger::Ledger;
+
+/// The places of the annotations on a manifest that the caller may read and that are about a canvas
+/// or a region of it, ascending. It takes a step for each that the caller may read.
+pub(crate) fn places_about<T: Look, L: Ledger>(
+    alloc: Global,
+    look: &T,
+    who: &Who<'_>,
+    manifest: &Name,
+    canvas: &str,
+    region: Option<Xywh>,
+    steps: &mut Steps<L>,
+) -> Result<Vec<usize>, AllocError>
+    ensures { IfOk result (λ places. places.items
+        ≡ filter (passes_at (is_row_about canvas.now region) (T.state look.now).notes)
+        (readable_places (T.state look.now) (identity who.now) manifest.now)) }
+{
+    let places = look.readable(alloc, who, manifest)?;
+    let found = places_among(alloc, look, places.as_slice(), canvas, region, steps)?;
+    Ok(found)
+}
+
+#[tactic(auto, using(an_search::proofs::PieceLemmas::pieces_left))]
+fn places_among<T: Look, L: Ledger>(
+    alloc: Global,
+    look: &T,
+    places: &[usize],
+    canvas: &str,
+    region: Option<Xywh>,
+    steps: &mut Steps<L>,
+) -> Result<Vec<usize>, AllocError>
+    ensures { IfOk result (λ found. found.items
+        ≡ filter (passes_at (is_row_about canvas.now region) (T.state look.now).notes) places.now) }
+{
+    let mut found = Vec::new(alloc);
+    for place in places {
+        if is_place_about(alloc, look, *place, canvas, region, steps)? {
+            found.push(*place)?;
+        }
+    }
+    Ok(found)
+}
+
+/// Whether there is an annotation at the place, and it is about the canvas or the region of it.
+fn is_place_about<T: Look, L: Ledger>(
+    alloc: Global,
+    look: &T,
+    place: usize,
+    canvas: &str,
+    region: Option<Xywh>,
+    steps: &mut Steps<L>,
+) -> Result<bool, AllocError>
+    ensures { IfOk result (λ found. found
+        ≡ passes_at (is_row_about canvas.now region) (T.state look.now).notes place) }
+{
+    match look.note_at(place, steps) {
+        Some(row) => is_row_about(alloc, row, canvas, region),
+        None => Ok(false),
+    }
+}
+
+fn is_row_about(
+    alloc: Global,
+    row: &NoteRow,
+    canvas: &str,
+    region: Option<Xywh>,
+) -> Result<bool, AllocError>
+    ensures { IfOk result (λ about. about ≡ is_row_about canvas.now region row.now) }
+{
+    match row.live() {
+        Some(live) => is_about(alloc, live.tree, canvas, region),
+        None => Ok(false),
+    }
+}
+
+/// Whether one of the targets is on the canvas and, where a region is asked for, meets that. Only
+/// an annotation on the canvas is read back.
+fn is_about(
+    alloc: Global,
+    note: &KeptNote,
+    canvas: &str,
+    region: Option<Xywh>,
+) -> Result<bool, AllocError>
+    ensures { IfOk result (λ about. about ≡ is_about canvas.now region note.now) }
+{
+    if !note.has_source(canvas) {
+        return Ok(false);
+    }
+    match region {
+        Some(asked) => {
+            let note = note.note(alloc)?;
+            Ok(has_target_in(note.targets(), canvas, asked))
+        }
+        None => Ok(true),
+    }
+}

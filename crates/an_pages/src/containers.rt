@@ -1,0 +1,269 @@
+ghost use Rattle.std.specs.Prelude.{◌≡◌, ◌≤◌, List, ◌++◌, codes, length, string_bytes, IfOk};
+ghost use Rattle.serde_json.specs.Data.{string};
+ghost use Rattle.serde_json.specs.Written.{compact_text};
+ghost use Rattle.an_base.specs.Outcome.{Gives};
+ghost use Rattle.an_policy.specs.Audience.{identity};
+ghost use Rattle.an_machine.specs.State.{KeptNote};
+ghost use Rattle.an_machine.specs.View.{view_of};
+ghost use Rattle.an_search.specs.Found.{StandAt};
+ghost use Rattle.an_search.specs.Page.{page_iri, page_of};
+ghost use Rattle.an_pages.specs.Container.{container_body, container_iri, container_of};
+ghost use Rattle.an_pages.specs.Container.{container_page_of, container_whole, first_page};
+ghost use Rattle.an_pages.specs.Container.{iris_form, items_on, notes_on, own_page, own_text};
+
+use crate::error::PageError;
+use crate::items::items_at;
+use crate::written::{container_text, held_text, own_text};
+use an_base::{Bytes, Name, Prefer, Steps, Text, push_text};
+use an_machine::{Look, shown_manifest};
+use an_policy::Who;
+use an_search::{Paging, Settings, Whole, page_iri, page_of};
+use std::alloc::{AllocError, Global};
+use std::sync::ledger::Ledger;
+
+/// The container of the annotations on a manifest that the caller may read (Web Annotation
+/// Protocol, section 4), with its first page unless the container alone is preferred. A hidden
+/// manifest is answered as one that never was.
+#[tactic(auto, unfolding(crate::specs::Container::container_of))]
+pub fn container<T: Look, L: Ledger>(
+    alloc: Global,
+    look: &T,
+    who: &Who<'_>,
+    name: &Name,
+    prefer: Prefer,
+    settings: &Settings,
+    steps: &mut Steps<L>,
+) -> Result<Bytes, PageError>
+    ensures answer { Gives (λ body. body) PageError.Memory result (container_of settings.now
+        (view_of (T.state look.now) (identity who.now)) name.now prefer) }
+{
+    match shown_manifest(look, who, name) {
+        Some(_) => Ok(container_body(alloc, look, who, name, prefer, settings, steps)?),
+        None => Err(PageError::Absent),
+    }
+}
+
+fn container_body<T: Look, L: Ledger>(
+    alloc: Global,
+    look: &T,
+    who: &Who<'_>,
+    name: &Name,
+    prefer: Prefer,
+    settings: &Settings,
+    steps: &mut Steps<L>,
+) -> Result<Bytes, AllocError>
+    ensures { IfOk result (λ body. body ≡ container_body settings.now
+        (container_whole settings.now.base name.now prefer.iris) prefer
+        (notes_on (view_of (T.state look.now) (identity who.now)) name.now)) }
+{
+    let whole = container_whole(alloc, settings.base(), name, prefer.iris)?;
+    let places = look.readable(alloc, who, name)?;
+    let body = container_at(
+        alloc,
+        look,
+        &whole,
+        prefer,
+        places.as_slice(),
+        settings,
+        steps,
+    )?;
+    Ok(body)
+}
+
+/// The container of the annotations at these places.
+fn container_at<T: Look, L: Ledger>(
+    alloc: Global,
+    look: &T,
+    whole: &Whole,
+    prefer: Prefer,
+    places: &[usize],
+    settings: &Settings,
+    steps: &mut Steps<L>,
+) -> Result<Bytes, AllocError>
+    ensures { (rows : List KeptNote) → StandAt (T.state look.now).notes places.now rows
+        → IfOk result (λ body. body ≡ container_body settings.now whole.now prefer rows) }
+{
+    let paging = Paging {
+        page: 1,
+        size: settings.size(),
+        total: places.len(),
+    };
+    let shown = page_of(places, paging);
+    let base = settings.base();
+    let first = first_text(alloc, look, whole, paging, shown, base, prefer, steps)?;
+    let body = container_text(alloc, whole, paging, first.as_slice())?;
+    Ok(body)
+}
+
+/// The text of the first page, which has the annotations at these places, or of its IRI.
+fn first_text<T: Look, L: Ledger>(
+    alloc: Global,
+    look: &T,
+    whole: &Whole,
+    paging: Paging,
+    places: &[usize],
+    base: &str,
+    prefer: Prefer,
+    steps: &mut Steps<L>,
+) -> Result<Vec<u8>, AllocError>
+    requires few { length places.now ≤ 100 }
+    requires page { paging.page ≡ 1 }
+    requires size { 1 ≤ paging.size }
+    ensures { (rows : List KeptNote) → StandAt (T.state look.now).notes places.now rows
+        → IfOk result (λ text. text.items ≡ compact_text (first_page whole.now prefer.minimal
+        paging.size paging.total (items_on base.now prefer.iris rows))) }
+{
+    if prefer.minimal {
+        let text = first_iri(alloc, whole)?;
+        Ok(text)
+    } else {
+        let items = items_at(alloc, look, places, base, prefer.iris, steps)?;
+        let text = held_text(alloc, whole, paging, items.as_slice())?;
+        Ok(text)
+    }
+}
+
+fn first_iri(alloc: Global, whole: &Whole) -> Result<Vec<u8>, AllocError>
+    ensures { IfOk result (λ text. text.items ≡ compact_text (string (page_iri whole.now 1))) }
+{
+    let iri = page_iri(alloc, whole, 1)?;
+    let text = push_text(Vec::new(alloc), iri.as_str())?;
+    Ok(text)
+}
+
+/// A page of the container of the annotations on a manifest that the caller may read, served on its
+/// own: of whole annotations, or of their IRIs.
+#[tactic(auto, unfolding(crate::specs::Container::container_page_of))]
+pub fn container_page<T: Look, L: Ledger>(
+    alloc: Global,
+    look: &T,
+    who: &Who<'_>,
+    name: &Name,
+    page: u32,
+    iris: bool,
+    settings: &Settings,
+    steps: &mut Steps<L>,
+) -> Result<Bytes, PageError>
+    ensures answer { Gives (λ body. body) PageError.Memory result (container_page_of settings.now
+        (view_of (T.state look.now) (identity who.now)) name.now page iris) }
+{
+    match shown_manifest(look, who, name) {
+        Some(_) => page_shown(alloc, look, who, name, page, iris, settings, steps),
+        None => Err(PageError::Absent),
+    }
+}
+
+fn page_shown<T: Look, L: Ledger>(
+    alloc: Global,
+    look: &T,
+    who: &Who<'_>,
+    name: &Name,
+    page: u32,
+    iris: bool,
+    settings: &Settings,
+    steps: &mut Steps<L>,
+) -> Result<Bytes, PageError>
+    ensures { Gives (λ body. body) PageError.Memory result (own_text settings.now
+        (container_whole settings.now.base name.now iris) iris page
+        (notes_on (view_of (T.state look.now) (identity who.now)) name.now)) }
+{
+    let whole = container_whole(alloc, settings.base(), name, iris)?;
+    let places = look.readable(alloc, who, name)?;
+    page_at(
+        alloc,
+        look,
+        &whole,
+        iris,
+        page,
+        places.as_slice(),
+        settings,
+        steps,
+    )
+}
+
+/// The page of this number of the annotations at these places.
+fn page_at<T: Look, L: Ledger>(
+    alloc: Global,
+    look: &T,
+    whole: &Whole,
+    iris: bool,
+    page: u32,
+    places: &[usize],
+    settings: &Settings,
+    steps: &mut Steps<L>,
+) -> Result<Bytes, PageError>
+    ensures { (rows : List KeptNote) → StandAt (T.state look.now).notes places.now rows
+        → Gives (λ body. body) PageError.Memory result
+        (own_text settings.now whole.now iris page rows) }
+{
+    let paging = Paging {
+        page,
+        size: settings.size(),
+        total: places.len(),
+    };
+    let pages = paging.pages();
+    if page < 1 {
+        return Err(PageError::NoPage { pages });
+    }
+    if pages < page as usize {
+        return Err(PageError::NoPage { pages });
+    }
+    let shown = page_of(places, paging);
+    Ok(write_page(
+        alloc,
+        look,
+        whole,
+        paging,
+        shown,
+        settings.base(),
+        iris,
+        steps,
+    )?)
+}
+
+/// The text of the page that has the annotations at these places.
+fn write_page<T: Look, L: Ledger>(
+    alloc: Global,
+    look: &T,
+    whole: &Whole,
+    paging: Paging,
+    places: &[usize],
+    base: &str,
+    iris: bool,
+    steps: &mut Steps<L>,
+) -> Result<Bytes, AllocError>
+    requires few { length places.now ≤ 100 }
+    requires page { 1 ≤ paging.page }
+    requires size { 1 ≤ paging.size }
+    ensures { (rows : List KeptNote) → StandAt (T.state look.now).notes places.now rows
+        → IfOk result (λ text. text ≡ compact_text (own_page whole.now paging.page paging.size
+        paging.total (items_on base.now iris rows))) }
+{
+    let items = items_at(alloc, look, places, base, iris, steps)?;
+    let text = own_text(alloc, whole, paging, items.as_slice())?;
+    Ok(text)
+}
+
+/// The container's list, of whole annotations or of their IRIs.
+fn container_whole(alloc: Global, base: &str, name: &Name, iris: bool) -> Result<Whole, AllocError>
+    ensures { IfOk result (λ whole. whole ≡ container_whole base.now name.now iris) }
+{
+    let path = container_iri(alloc, base, name.as_str())?;
+    let parameters = Text::new(alloc, iris_form(iris))?;
+    Ok(Whole {
+        path: Text::from_string(path),
+        parameters,
+    })
+}
+
+fn container_iri(alloc: Global, base: &str, name: &str) -> Result<String, AllocError>
+    ensures { IfOk result (λ iri. string_bytes iri ≡ container_iri base.now name.now) }
+{
+    format!(in alloc; "{base}/manifests/{name}/annotations/")
+}
+
+fn iris_form(iris: bool) -> &'static str
+    ensures { result.now ≡ iris_form iris }
+{
+    if iris { "iris=1" } else { "" }
+}

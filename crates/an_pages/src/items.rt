@@ -1,0 +1,71 @@
+ghost use Rattle.std.specs.Prelude.{◌≡◌, ◌≤◌, List, ◌++◌, length, map, slice_get, IfOk};
+ghost use Rattle.std.specs.List.{filter_map};
+ghost use Rattle.serde_json.specs.View.{items_of};
+ghost use Rattle.an_base.specs.Write.{item_commas, item_text};
+ghost use Rattle.an_machine.specs.State.{KeptNote};
+ghost use Rattle.an_search.specs.Found.{StandAt};
+ghost use Rattle.an_pages.specs.Container.{iri_item, items_on};
+
+use an_base::Steps;
+use an_keyed::Keyed;
+use an_machine::{Look, NoteRow};
+use an_search::{Listed, list_items, note_iri, push_text_item};
+use std::alloc::{AllocError, Global};
+use std::sync::ledger::Ledger;
+
+/// The annotations at these places as items, each behind a comma: whole, or by their IRIs. There
+/// are no more of them than a page has. It takes a step for each.
+pub(crate) fn items_at<T: Look, L: Ledger>(
+    alloc: Global,
+    look: &T,
+    places: &[usize],
+    base: &str,
+    iris: bool,
+    steps: &mut Steps<L>,
+) -> Result<Vec<u8>, AllocError>
+    requires few { length places.now ≤ 100 }
+    ensures items { IfOk result (λ items. (rows : List KeptNote)
+        → StandAt (T.state look.now).notes places.now rows
+        → items.items ≡ item_commas (items_on base.now iris rows)) }
+{
+    if iris {
+        let items = iris_at(alloc, look, places, base, steps)?;
+        Ok(items)
+    } else {
+        let listed = list_items(alloc, look, places, &[], base, "", steps)?;
+        let Listed { items, marks } = listed;
+        drop(marks);
+        Ok(items)
+    }
+}
+
+/// Their IRIs.
+#[tactic(auto, using(an_search::proofs::PieceLemmas::pieces_left))]
+fn iris_at<T: Look, L: Ledger>(
+    alloc: Global,
+    look: &T,
+    places: &[usize],
+    base: &str,
+    steps: &mut Steps<L>,
+) -> Result<Vec<u8>, AllocError>
+    ensures items { IfOk result (λ items. items.items ≡ item_commas (items_of (map
+        (iri_item base.now) (filter_map (slice_get (T.state look.now).notes) places.now)))) }
+{
+    let mut items = Vec::new(alloc);
+    for place in places {
+        match look.note_at(*place, steps) {
+            Some(row) => items = push_iri(alloc, items, row, base)?,
+            None => {}
+        }
+    }
+    Ok(items)
+}
+
+fn push_iri(alloc: Global, out: Vec<u8>, row: &NoteRow, base: &str) -> Result<Vec<u8>, AllocError>
+    ensures text { IfOk result
+        (λ v. v.items ≡ out.items ++ item_text (iri_item base.now row.now)) }
+{
+    let iri = note_iri(alloc, base, row.owned_by(), row.name())?;
+    let out = push_text_item(out, iri.as_str())?;
+    Ok(out)
+}

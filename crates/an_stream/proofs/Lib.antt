@@ -1,0 +1,2 @@
+mod StreamRows
+pub mod TextLemmas

@@ -1,0 +1,14 @@
+use Rattle.std.proofs.Common.{◌++◌, ap, ◌∙◌}
+use Rattle.an_search.proofs.WrittenLemmas.{piece_then, last_piece}
+use Rattle.an_search.specs.Page.{start_of}
+use Rattle.an_stream.proofs.TextLemmas.{place_text}
+use Rattle.an_stream.proofs.page.push_place.Goals as goal
+
+pub returns : goal.returns
+returns c =
+    let paging = c.args.paging in
+    record {
+      text = piece_then c.args.out.items _ _ _ _ c.in_ok-out.ensures.text (piece_then c.in_ok-out.out.items _ _ _ _ c.in_ok-out-2.ensures.text
+          (piece_then c.in_ok-out-2.out.items _ _ _ _ c.in_ok-out-3.ensures.text (last_piece _ _ _ c.in_ok-out-4.ensures.text)))
+          ∙ ap (λ text. c.args.out.items ++ text) (place_text c.args.base.now paging.page (start_of paging.page paging.size));
+    }

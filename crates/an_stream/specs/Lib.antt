@@ -1,0 +1,3 @@
+pub mod Activity
+pub mod PageText
+pub mod Stream
