@@ -6,3 +6,4 @@ pub mod ImportLemmas
 pub mod RunLemmas
 pub mod DeskLemmas
 pub mod RespondLemmas
+pub mod IsolationLemmas

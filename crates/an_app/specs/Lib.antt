@@ -7,6 +7,7 @@ pub mod Routes
 pub mod Answer
 pub mod Asked
 pub mod Respond
+pub mod Isolation
 pub mod AtDesk
 pub mod Setting
 pub mod Stop

@@ -1,0 +1,60 @@
+-- A caller that has one view of two states is answered alike.
+use Rattle.std.proofs.Common.{◌≡◌, ℕ, List, Option, Some, None, Result, Ok, Err, Bool, true, false, refl, ap, IfSome}
+use Rattle.an_base.specs.declared.code.Code.{Code}
+use Rattle.an_base.specs.declared.span.Prefer.{Prefer}
+use Rattle.an_http.specs.declared.reply.Allow.{Allow}
+use Rattle.an_http.specs.declared.request.Request.{Request}
+use Rattle.an_machine.specs.State.{State}
+use Rattle.an_policy.specs.declared.who.Caller.{Caller}
+use Rattle.an_search.specs.Site.{Site}
+use Rattle.an_app.specs.Answer.{answer_of}
+use Rattle.an_app.specs.Answer as answer
+use Rattle.an_app.specs.Asked.{asked_of}
+use Rattle.an_app.specs.Find.{asked_turn, no_preference, prints, reply_line, turn_of}
+use Rattle.an_app.specs.Isolation.{ReaderSeesAlike, SeesAlike, SenderSeesAlike}
+use Rattle.an_app.specs.Respond.{caller_of, is_read, query_reply, query_response, read_response, response_of, route_response}
+use Rattle.an_app.specs.Routes.{route_of}
+use Rattle.an_app.specs.declared.asked.Asked.{Asked}
+use Rattle.an_app.specs.declared.asked.Asked.TheVariants as asked
+use Rattle.an_app.specs.declared.kinds.Read.{Read}
+use Rattle.an_app.specs.declared.kinds.Route.{Route}
+use Rattle.an_app.specs.declared.kinds.Route.TheVariants as route
+use Rattle.an_app.specs.declared.kinds.RouteError.{RouteError}
+use Rattle.an_app.specs.declared.kinds.RouteError.TheVariants as error
+use Rattle.an_app.specs.declared.respond.Response.TheVariants as response
+
+module _ (site : Site) (s t : State) where
+  read_alike : (prefer : Prefer) (read : Read) (who : Option Caller) → IfSome who (SeesAlike s t) → read_response site s who prefer read ≡ read_response site t who prefer read
+  read_alike prefer read None agree = refl
+  read_alike prefer read (Some caller) agree = ap (λ view. response.Ready (answer_of site view prefer read)) agree
+
+  query_alike : (reads : Bool) (methods : Allow) (refusal : Code) (who : Option Caller) → IfSome who (SeesAlike s t) → query_response s who reads methods refusal ≡ query_response t who reads methods refusal
+  query_alike reads methods refusal None agree = refl
+  query_alike reads methods refusal (Some caller) agree = ap (λ view. response.Ready (query_reply view reads methods refusal)) agree
+
+  routed_alike : (request : Request) → SenderSeesAlike s t request → (found : Result Route RouteError) → route_response site s request found ≡ route_response site t request found
+  routed_alike request agree (Ok (route.Options methods)) = refl
+  routed_alike request agree (Ok (route.Read read)) = read_alike request.prefer read (caller_of request.auth) agree
+  routed_alike request agree (Ok (route.Write write)) = refl
+  routed_alike request agree (Err error.Target) = refl
+  routed_alike request agree (Err error.Route) = refl
+  routed_alike request agree (Err (error.Method methods)) = refl
+  routed_alike request agree (Err (error.Query methods refusal)) = query_alike (is_read request.method) methods refusal (caller_of request.auth) agree
+  routed_alike request agree (Err error.Memory) = refl
+
+  asked_alike : (found : Result Asked Code) → ReaderSeesAlike s t found → asked_turn site s found ≡ asked_turn site t found
+  asked_alike (Ok asked.Nothing) agree = refl
+  asked_alike (Ok (asked.Read by read)) agree = ap (λ view. prints (reply_line (answer_of site view no_preference read))) agree
+  asked_alike (Ok (asked.Unread by methods refusal)) agree = ap (λ view. prints (reply_line (answer.query_answer view methods refusal))) agree
+  asked_alike (Ok (asked.Write moment by command)) agree = absurd agree
+  asked_alike (Err refusal) agree = refl
+
+pub request_alike : (site : Site) (s t : State) (request : Request) → SenderSeesAlike s t request → response_of site s request ≡ response_of site t request
+unfolding response_of
+request_alike site s t request agree = routed_alike site s t request agree (route_of request.method request.target)
+
+pub line_alike : (site : Site) (s t : State) (line : List ℕ) → ReaderSeesAlike s t (asked_of line) → turn_of site s line ≡ turn_of site t line
+unfolding turn_of
+line_alike site s t line agree = asked_alike site s t (asked_of line) agree
+
+pub ruleset alike = (request_alike, line_alike)
