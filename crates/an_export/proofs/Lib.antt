@@ -1,0 +1,3 @@
+mod ExportRows
+pub mod LineLemmas
+pub mod PlaceLemmas

@@ -1,0 +1,15 @@
+use Rattle.an_policy.specs.Audience.{identity}
+use Rattle.an_machine.specs.View.{shows_manifest}
+use Rattle.an_export.specs.Export.{manifest_line}
+use Rattle.an_export.proofs.PlaceLemmas.{all_written, line_written}
+use Rattle.an_export.proofs.shown.push_manifests.Goals as goal
+
+pub returns-in-None : goal.returns-in-None
+returns-in-None g c = record {
+  text = all_written (shows_manifest (identity c.args.who.now)) manifest_line (g.T.Look.state c.args.look.now).manifests c.loop-place.place _ _ c.in-None.ensures.row c.loop-place.invariant;
+}
+
+pub loop-place-preserved : goal.loop-place-preserved
+loop-place-preserved g c =
+    line_written (shows_manifest (identity c.args.who.now)) manifest_line (g.T.Look.state c.args.look.now).manifests c.loop-place.place c.in-Some.row.now
+    c.loop-place.out.items c.in_ok-out-in-Some.out.items _ c.in-Some.ensures.row c.in_ok-out-in-Some.ensures.text c.loop-place.invariant

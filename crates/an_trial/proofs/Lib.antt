@@ -1,0 +1,6 @@
+pub mod NameLemmas
+pub mod PlayLemmas
+pub mod TotalLemmas
+pub mod TreeLemmas
+mod TrialRows
+pub mod WordLemmas

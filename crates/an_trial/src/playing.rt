@@ -1,0 +1,76 @@
+//! The writes of the trial, at a store in memory.
+ghost use Rattle.std.specs.Prelude.{◌≡◌, [], IfOk, IsSome, OnOk, fold};
+ghost use Rattle.an_machine.specs.State.{empty};
+ghost use Rattle.an_trial.specs.Trial.{state_behind, trial_state};
+ghost use Rattle.an_trial.specs.Writes.{note_writes};
+
+use crate::draws::Generator;
+use crate::writes::{Write, manifest_write, note_write, reader_write};
+use an_keep::SureKeeper;
+use an_shelf::{Desk, OpenError, WriteError};
+use std::alloc::{AllocError, Global};
+
+/// A store with all that is written: the reader, the manifest, and so many annotations.
+#[tactic(auto, unfolding(crate::specs::Trial::trial_state))]
+pub(crate) fn play(alloc: Global, count: u32, seed: u32) -> Result<Desk<SureKeeper>, AllocError>
+    ensures state { IfOk result (λ desk. IsSome desk.told
+        → desk.state ≡ trial_state count seed) }
+{
+    let mut desk = open(alloc)?;
+    put(alloc, &mut desk, reader_write(alloc)?)?;
+    put(alloc, &mut desk, manifest_write(alloc)?)?;
+    put_notes(alloc, &mut desk, count, seed)?;
+    Ok(desk)
+}
+
+/// A store without a row.
+fn open(alloc: Global) -> Result<Desk<SureKeeper>, AllocError>
+    ensures { IfOk result (λ desk. IsSome desk.told → desk.state ≡ empty) }
+{
+    match Desk::open(alloc, SureKeeper::new(Vec::new(alloc))) {
+        Ok(desk) => Ok(desk),
+        Err(error) => match error {
+            OpenError::Memory => Err(AllocError),
+            OpenError::Keeper => unreachable!(),
+            OpenError::Damaged { .. } => unreachable!(),
+        },
+    }
+}
+
+/// Puts so many annotations.
+fn put_notes(
+    alloc: Global,
+    desk: &mut Desk<SureKeeper>,
+    count: u32,
+    seed: u32,
+) -> Result<(), AllocError>
+    ensures state { OnOk result (desk.new.state
+        ≡ fold state_behind desk.old.state (note_writes seed count)) }
+    ensures told { IsSome desk.new.told → IsSome desk.old.told }
+{
+    let mut generator = Generator { number: seed };
+    for notes in 0..count {
+        let draws = generator.draws();
+        let write = note_write(alloc, notes + 1, draws)?;
+        put(alloc, desk, write)?;
+    }
+    Ok(())
+}
+
+/// Does a write. One that the machine refuses leaves the store as it was.
+fn put(alloc: Global, desk: &mut Desk<SureKeeper>, write: Write) -> Result<(), AllocError>
+    ensures state { OnOk result (desk.new.state ≡ state_behind desk.old.state write) }
+    ensures told { IsSome desk.new.told → IsSome desk.old.told }
+{
+    let Write {
+        moment,
+        caller,
+        command,
+    } = write;
+    match desk.write(alloc, moment, &caller, command) {
+        Ok(_) => Ok(()),
+        Err(WriteError::Refused(_)) => Ok(()),
+        Err(WriteError::Memory) => Err(AllocError),
+        Err(WriteError::Keeper) => unreachable!(),
+    }
+}
