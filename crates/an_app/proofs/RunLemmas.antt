@@ -1,8 +1,10 @@
 -- How the calls of a run at a keeper add up to its end.
-use Rattle.std.proofs.Common.{◌≡◌, ℕ, ℤ, Bool, ◌<◌, ◌≤◌, inr, ⊎_elim, List, [], ◌∷◌, map, length, Option, Some, None, IfSome, IfNone, IsSome, option_map, refl, sym, subst, arith}
+use Rattle.std.proofs.Common.{◌≡◌, ℕ, ℤ, Bool, ◌<◌, ◌≤◌, inr, ⊎_elim, List, [], ◌∷◌, map, length, Option, Some, None, IfSome, IfNone, IsSome, option_map, codes, refl, sym, subst, arith}
 use Rattle.std.proofs.lemmas.Bool.{false≢true}
+use Rattle.an_export.specs.Export.{exported}
 use Rattle.an_keep.specs.Keeper.{Told, StaysOrBegins}
 use Rattle.an_machine.specs.State.{State}
+use Rattle.an_machine.specs.View.{View}
 use Rattle.an_search.specs.Site.{Site}
 use Rattle.an_shelf.specs.Opening.{IsDamagedBy, StandFor, WasDamagedBy}
 use Rattle.an_shelf.specs.declared.error.OpenError.{OpenError}
@@ -13,14 +15,15 @@ use Rattle.an_session.specs.Session.{IsCaused}
 use Rattle.an_session.specs.declared.ended.Ended.{Ended}
 use Rattle.an_session.specs.declared.ended.Ended.TheVariants as ended
 use Rattle.an_app.specs.ImportEnds.{Imports, IsCause, Unopened, unopened_text}
+use Rattle.an_app.specs.ExportEnds.{ExportsAt, export_report, export_told, view_named}
 use Rattle.an_app.specs.SessionEnds.{IsEndCause, ended_status}
-use Rattle.an_app.specs.Status.{Exchanges, Finds, IsUnfailing, Misunderstands, PrintsFront, ReadsLittle}
-use Rattle.an_app.specs.Told.{Tells}
+use Rattle.an_app.specs.Status.{Exchanges, Finds, IsUnfailing, Misunderstands, PrintsFront, ReadsLittle, TellsReport, misunderstood}
+use Rattle.an_app.specs.Told.{IsTold, Tells}
 use Rattle.an_app.specs.Words as form
-use Rattle.an_app.specs.Words.{Form, ReadsInput, Runs, form_of}
+use Rattle.an_app.specs.Words.{Form, ReadsInput, Runs, Trial, form_of, trial_report}
 use Rattle.an_app.specs.declared.status.Status.{Status}
 use Rattle.an_app.specs.declared.status.Status.TheVariants as status
-use Rattle.an_app.proofs.StatusLemmas.{Finds-no_memory, exchange, exchange-read, prints-unread, reads-nothing}
+use Rattle.an_app.proofs.StatusLemmas.{Finds-no_memory, TellsReport-kept, TellsReport-nothing, TellsReport-unfailing, exchange, exchange-read, prints-unread, reads-nothing}
 
 -- ---- a store that isn't opened
 
@@ -71,6 +74,7 @@ module _ (Cause : OpenError → Type 0) (Failed : Type 0) where
   unopened_unfailing old new status.KeeperFailed written run = tt
   unopened_unfailing old new status.Memory written run = tt
   unopened_unfailing old new (status.Damaged tab key) written run = tt
+  unopened_unfailing old new status.NoReader written run = absurd run
 
   unopened_kept : (old new : Option Traffic) → ¬ (Cause error.Keeper) → Unopened Cause Failed old new status.KeeperFailed → ⊥
   unfolding Unopened
@@ -88,6 +92,7 @@ Unopened-for Cause Other Failed old new status.Done other run = absurd run
 Unopened-for Cause Other Failed old new status.Refused other run = absurd run
 Unopened-for Cause Other Failed old new status.ReadFault other run = absurd run
 Unopened-for Cause Other Failed old new status.Misunderstood other run = absurd run
+Unopened-for Cause Other Failed old new status.NoReader other run = absurd run
 
 -- what was found stands for a state, and was told before
 pub stood : (told found : Told) (s : State) → IsSome told → IsSome found → StaysOrBegins told found → StandFor found s → StandFor told s
@@ -124,13 +129,13 @@ end_cause ended.Memory new read read' written written' cause = cause
 -- ---- all forms
 
 -- words of no form have other counts
-pub no_form : {W : Type 0} (f : W → List ℕ) (words : List W) (P : Form → Type 0) → ¬ (length words ≡ 2) → ¬ (length words ≡ 4) → IfSome (form_of (map f words)) P
-no_form f [] P two four = tt
-no_form f (a ∷ []) P two four = tt
-no_form f (a ∷ b ∷ []) P two four = absurd (two refl)
-no_form f (a ∷ b ∷ c ∷ []) P two four = tt
-no_form f (a ∷ b ∷ c ∷ d ∷ []) P two four = absurd (four refl)
-no_form f (a ∷ b ∷ c ∷ d ∷ e ∷ words) P two four = tt
+pub no_form : {W : Type 0} (f : W → List ℕ) (words : List W) (P : Form → Type 0) → ¬ (length words ≡ 2) → ¬ (length words ≡ 3) → ¬ (length words ≡ 4) → IfSome (form_of (map f words)) P
+no_form f [] P two three four = tt
+no_form f (a ∷ []) P two three four = tt
+no_form f (a ∷ b ∷ []) P two three four = absurd (two refl)
+no_form f (a ∷ b ∷ c ∷ []) P two three four = absurd (three refl)
+no_form f (a ∷ b ∷ c ∷ d ∷ []) P two three four = absurd (four refl)
+no_form f (a ∷ b ∷ c ∷ d ∷ e ∷ words) P two three four = tt
 
 -- `find` with the settings of two words
 pub Runs-find : (Unread Failed Unkept Telling : Type 0) (clock : ℤ → Bool) (told : Told) (old new : Option Traffic) (end : Status) (o : Option Site)
@@ -150,7 +155,26 @@ pub ReadsInput-session : (old new : Option Traffic) (o : Option Site) → IfSome
 ReadsInput-session old new None = tt
 ReadsInput-session old new (Some site) = tt
 
-pub ruleset runs_of_find = (Runs-find, Misunderstands-find, ReadsInput-find, ReadsInput-session)
+-- an export by a name that nobody has
+pub unnamed : (view : Option View) → None ≡ option_map exported view → record { status = status.NoReader; text = codes "no reader\n" } ≡ export_told view
+unnamed None is = refl
+unnamed (Some view) is = absurd (cc)
+
+-- `trial` with what two words ask for
+pub Runs-trial : (Unread Failed Unkept Telling : Type 0) (clock : ℤ → Bool) (told : Told) (old new : Option Traffic) (end : Status) (o : Option Trial)
+    → IfSome o (λ asked. TellsReport (trial_report asked) Failed old new end) → IfSome (option_map form.trial o) (Runs Unread Failed Unkept Telling clock told old new end)
+Runs-trial Unread Failed Unkept Telling clock told old new end None tells = tt
+Runs-trial Unread Failed Unkept Telling clock told old new end (Some asked) tells = tells
+
+pub Misunderstands-trial : (P : Type 0) (o : Option Trial) → IfNone o P → IfNone (option_map form.trial o) P
+Misunderstands-trial P None holds = holds
+Misunderstands-trial P (Some asked) holds = tt
+
+pub ReadsInput-trial : (old new : Option Traffic) (o : Option Trial) → ReadsLittle old new → IfSome (option_map form.trial o) (ReadsInput old new)
+ReadsInput-trial old new None little = tt
+ReadsInput-trial old new (Some asked) little = little
+
+pub ruleset runs_of_find = (Runs-find, Misunderstands-find, ReadsInput-find, ReadsInput-session, Runs-trial, Misunderstands-trial, ReadsInput-trial)
 
 -- memory ran out before anything was read
 pub Finds-nothing_read : (Unread Failed : Type 0) (traffic : Option Traffic) (o : Option Site) → IfSome o (λ site. Finds site Unread Failed traffic traffic status.Memory)
@@ -163,8 +187,7 @@ Runs-nothing_opened Unread Failed Unkept Telling clock told traffic None = tt
 Runs-nothing_opened Unread Failed Unkept Telling clock told traffic (Some site) = inr (Unopened-no_memory (IsCause Unkept Telling told) Failed traffic)
 
 pub Misunderstands-nothing_read : {S : Type 0} (Failed : Type 0) (traffic : Option Traffic) (o : Option S) → IfNone o (Misunderstands Failed traffic traffic status.Memory)
-unfolding Misunderstands
-Misunderstands-nothing_read Failed traffic None = exchange-read [] traffic traffic (reads-nothing traffic)
+Misunderstands-nothing_read Failed traffic None = TellsReport-nothing misunderstood Failed traffic
 Misunderstands-nothing_read Failed traffic (Some site) = tt
 
 pub never_rises : (a b : ℕ) → a ≡ 0 → b ≡ 0 → Rises a b → ⊥
@@ -184,6 +207,7 @@ module _ (Unread Failed Unkept Telling : Type 0) (clock : ℤ → Bool) (told : 
   find_unfailing site status.KeeperFailed read written run = tt
   find_unfailing site status.Memory read written run = tt
   find_unfailing site (status.Damaged tab key) read written run = tt
+  find_unfailing site status.NoReader read written run = tt
 
   import_unfailing : (s t : State) (end : Status) → ¬ Unread → ¬ Failed → Imports Unread Failed Unkept old new s t end → IsUnfailing end
   unfolding Imports
@@ -195,6 +219,11 @@ module _ (Unread Failed Unkept Telling : Type 0) (clock : ℤ → Bool) (told : 
   import_unfailing s t status.KeeperFailed read written run = tt
   import_unfailing s t status.Memory read written run = tt
   import_unfailing s t (status.Damaged tab key) read written run = tt
+  import_unfailing s t status.NoReader read written run = tt
+
+  export_told-is : (view : Option View) → IsTold (export_told view).status
+  export_told-is None = tt
+  export_told-is (Some view) = tt
 
   ended_unfailing : (ended : Ended) → ¬ Unread → ¬ Failed → IsEndCause Unread Failed new ended → IsUnfailing (ended_status ended)
   ended_unfailing ended.Closed read written cause = tt
@@ -202,10 +231,24 @@ module _ (Unread Failed Unkept Telling : Type 0) (clock : ℤ → Bool) (told : 
   ended_unfailing ended.WriteFault read written cause = absurd (written cause)
   ended_unfailing ended.Memory read written cause = tt
 
+  export_unfailing : (by : List ℕ) (end : Status) → ¬ Failed → ExportsAt Failed Unkept Telling told by old new end → IsUnfailing end
+  unfolding ExportsAt
+  export_unfailing by end written run =
+      ⊎_elim (λ opened. TellsReport-unfailing (export_report opened.state by) Failed old new end (export_told-is (view_named opened.state by)) written opened.tells)
+      (λ whole. unopened_unfailing (IsCause Unkept Telling told) Failed old new end written whole) run
+
+  export_kept : (by : List ℕ) → ¬ Unkept → ExportsAt Failed Unkept Telling told by old new status.KeeperFailed → ⊥
+  unfolding ExportsAt
+  export_kept by kept run =
+      ⊎_elim (λ opened. TellsReport-kept (export_report opened.state by) Failed old new (export_told-is (view_named opened.state by)) opened.tells)
+      (λ whole. unopened_kept (IsCause Unkept Telling told) Failed old new kept whole) run
+
   run_unfailing : (end : Status) (form : Form) → ¬ Unread → ¬ Failed → Runs Unread Failed Unkept Telling clock told old new end form → IsUnfailing end
   run_unfailing end (form.find site) read written run = find_unfailing site end read written run
   run_unfailing end form.import read written run =
       ⊎_elim (λ opened. import_unfailing opened.before opened.behind end read written opened.imports) (λ whole. unopened_unfailing (IsCause Unkept Telling told) Failed old new end written whole) run
+  run_unfailing end (form.export by) read written run = export_unfailing by end written run
+  run_unfailing end (form.trial asked) read written run = TellsReport-unfailing (trial_report asked) Failed old new end tt written run
   run_unfailing end (form.session site) read written run =
       ⊎_elim (λ opened. subst IsUnfailing (sym opened.is) (ended_unfailing opened.ended read written opened.cause))
       (λ whole. unopened_unfailing (IsCause Unkept Telling told) Failed old new end written whole) run
@@ -228,32 +271,19 @@ module _ (Unread Failed Unkept Telling : Type 0) (clock : ℤ → Bool) (told : 
   run_kept (form.find site) kept run = find_kept site run
   run_kept form.import kept run =
       ⊎_elim (λ opened. import_kept opened.before opened.behind kept opened.imports) (λ whole. unopened_kept (IsCause Unkept Telling told) Failed old new kept whole) run
+  run_kept (form.export by) kept run = export_kept by kept run
+  run_kept (form.trial asked) kept run = TellsReport-kept (trial_report asked) Failed old new tt run
   run_kept (form.session site) kept run = ⊎_elim (λ opened. ended_kept opened.ended opened.is) (λ whole. unopened_kept (IsCause Unkept Telling told) Failed old new kept whole) run
-
-  misunderstood_unfailing : (end : Status) → ¬ Failed → Misunderstands Failed old new end → IsUnfailing end
-  unfolding Misunderstands
-  misunderstood_unfailing status.WriteFault written run = absurd (written run.0)
-  misunderstood_unfailing status.ReadFault written run = absurd run
-  misunderstood_unfailing status.Done written run = tt
-  misunderstood_unfailing status.Misunderstood written run = tt
-  misunderstood_unfailing status.Refused written run = tt
-  misunderstood_unfailing status.KeeperFailed written run = tt
-  misunderstood_unfailing status.Memory written run = tt
-  misunderstood_unfailing (status.Damaged tab key) written run = tt
-
-  misunderstood_kept : Misunderstands Failed old new status.KeeperFailed → ⊥
-  unfolding Misunderstands
-  misunderstood_kept run = run
 
   -- no call of the link is told to have failed where none can
   pub ends_unfailing : (end : Status) (form : Option Form) → ¬ Unread → ¬ Failed → IfSome form (Runs Unread Failed Unkept Telling clock told old new end)
       → IfNone form (Misunderstands Failed old new end) → IsUnfailing end
-  ends_unfailing end None read written understood misunderstood = misunderstood_unfailing end written misunderstood
+  ends_unfailing end None read written understood run = TellsReport-unfailing misunderstood Failed old new end tt written run
   ends_unfailing end (Some form) read written understood misunderstood = run_unfailing end form read written understood
 
   -- nor the keeper
   pub ends_kept : (end : Status) (form : Option Form) → ¬ Unkept → IfSome form (Runs Unread Failed Unkept Telling clock told old new end)
       → IfNone form (Misunderstands Failed old new end) → ¬ (end ≡ status.KeeperFailed)
-  ends_kept end None kept understood misunderstood = λ is. misunderstood_kept (subst (λ end. Misunderstands Failed old new end) is misunderstood)
+  ends_kept end None kept understood run = λ is. TellsReport-kept misunderstood Failed old new tt (subst (λ end. Misunderstands Failed old new end) is run)
   ends_kept end (Some form) kept understood misunderstood =
       λ is. run_kept form kept (subst (λ end. Runs Unread Failed Unkept Telling clock told old new end form) is understood)

@@ -9,7 +9,8 @@ use Rattle.an_search.specs.Site.{Site}
 use Rattle.an_app.specs.Find.{Played, Report, play, report_of, report_played}
 use Rattle.an_app.specs.Split.{lines_of}
 use Rattle.an_app.specs.Input.{input_limit, IsReadWhole}
-use Rattle.an_app.specs.Status.{Exchanges, Finds, IsUnfailing, PrintsFront, Reports, ReadsLittle, read_fault_text}
+use Rattle.an_app.specs.Status.{Exchanges, Finds, IsUnfailing, PrintsFront, Reports, ReadsLittle, TellsReport, read_fault_text}
+use Rattle.an_app.specs.Told.{IsTold, Tells}
 use Rattle.an_app.specs.declared.status.Status.{Status}
 use Rattle.an_app.specs.declared.status.Status.TheVariants as status
 use Rattle.an_app.specs.declared.stop.Stop.{Stop}
@@ -122,6 +123,7 @@ module _ (site : Site) (Unread Failed : Type 0) where
   reported old new status.ReadFault either reports = absurd (⊎_elim (λ e. cc) (λ e. cc) either)
   reported old new status.Memory either reports = absurd (⊎_elim (λ e. cc) (λ e. cc) either)
   reported old new (status.Damaged tab key) either reports = absurd (⊎_elim (λ e. cc) (λ e. cc) either)
+  reported old new status.NoReader either reports = absurd (⊎_elim (λ e. cc) (λ e. cc) either)
 
   pub Finds-reported : (input : List ℕ) (report : Report) (old mid new : Option Traffic) → report ≡ report_of site input → Reads input old mid
       → IsReadWhole input mid → Writes report.text mid new → Finds site Unread Failed old new report.status
@@ -159,5 +161,57 @@ module _ (site : Site) (Unread Failed : Type 0) where
       → Finds site Unread Failed old new status.WriteFault
   unfolding Finds
   Finds-nothing_told old mid new r unread w failed = (failed, inr (unread, (r.0, prints-front r.0 read_fault_text old mid new r.1 w)))
+
+-- ---- a report that is known beforehand
+
+-- it was printed whole
+told_whole : (Failed : Type 0) (end : Status) (text : List ℕ) (old new : Option Traffic) → IsTold end → Exchanges [] text old new
+    → TellsReport (record { status = end; text = text }) Failed old new end
+unfolding TellsReport
+told_whole Failed status.Done text old new is told = (refl, told)
+told_whole Failed status.Misunderstood text old new is told = (refl, told)
+told_whole Failed status.NoReader text old new is told = (refl, told)
+told_whole Failed status.WriteFault text old new is told = absurd is
+told_whole Failed status.Refused text old new is told = absurd is
+told_whole Failed status.KeeperFailed text old new is told = absurd is
+told_whole Failed status.ReadFault text old new is told = absurd is
+told_whole Failed status.Memory text old new is told = absurd is
+told_whole Failed (status.Damaged tab key) text old new is told = absurd is
+
+told_part : (Failed : Type 0) (report : Report) (old new : Option Traffic) → Failed → PrintsFront [] report.text old new → TellsReport report Failed old new status.WriteFault
+unfolding TellsReport
+told_part Failed report old new failed front = (failed, front)
+
+-- it was printed, or a write failed
+pub TellsReport-tells : (Failed : Type 0) (meant end : Status) (text : List ℕ) (old new : Option Traffic) → IsTold meant → WritesFront text old new
+    → Tells Failed text old new meant end → TellsReport (record { status = meant; text = text }) Failed old new end
+TellsReport-tells Failed meant end text old new is front tells =
+    let report : Report = record { status = meant; text = text } in
+    ⊎_elim
+    (λ (same, w). subst (λ end. TellsReport report Failed old new end) (sym same) (told_whole Failed meant text old new is (exchange [] text old old new (reads-nothing old) w)))
+    (λ (same, failed). subst (λ end. TellsReport report Failed old new end) (sym same) (told_part Failed report old new failed (prints-unread text old new front)))
+    tells
+
+-- memory ran out before it was printed
+pub TellsReport-nothing : (report : Report) (Failed : Type 0) (traffic : Option Traffic) → TellsReport report Failed traffic traffic status.Memory
+unfolding TellsReport
+TellsReport-nothing report Failed traffic = exchange-read [] traffic traffic (reads-nothing traffic)
+
+-- no call of the link is told to have failed where none can, nor the keeper
+pub TellsReport-unfailing : (report : Report) (Failed : Type 0) (old new : Option Traffic) (end : Status) → IsTold report.status → ¬ Failed → TellsReport report Failed old new end → IsUnfailing end
+unfolding TellsReport
+TellsReport-unfailing report Failed old new status.WriteFault is written run = absurd (written run.0)
+TellsReport-unfailing report Failed old new status.ReadFault is written run = absurd (subst IsTold run.0 is)
+TellsReport-unfailing report Failed old new status.Done is written run = tt
+TellsReport-unfailing report Failed old new status.Misunderstood is written run = tt
+TellsReport-unfailing report Failed old new status.Refused is written run = tt
+TellsReport-unfailing report Failed old new status.KeeperFailed is written run = tt
+TellsReport-unfailing report Failed old new status.Memory is written run = tt
+TellsReport-unfailing report Failed old new (status.Damaged tab key) is written run = tt
+TellsReport-unfailing report Failed old new status.NoReader is written run = tt
+
+pub TellsReport-kept : (report : Report) (Failed : Type 0) (old new : Option Traffic) → IsTold report.status → TellsReport report Failed old new status.KeeperFailed → ⊥
+unfolding TellsReport
+TellsReport-kept report Failed old new is run = subst IsTold run.0 is
 
 pub ruleset ends_of_find = (Finds-no_memory, reads_little-only)

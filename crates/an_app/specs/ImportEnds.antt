@@ -14,7 +14,7 @@ use Rattle.an_app.specs.Status.{Exchanges, PrintsFront, read_fault_text}
 use Rattle.an_app.specs.declared.status.Status.{Status}
 use Rattle.an_app.specs.declared.status.Status.TheVariants.{Done, WriteFault, Misunderstood}
 use Rattle.an_app.specs.declared.status.Status.TheVariants.{Refused, KeeperFailed, ReadFault}
-use Rattle.an_app.specs.declared.status.Status.TheVariants.{Memory, Damaged}
+use Rattle.an_app.specs.declared.status.Status.TheVariants.{Memory, Damaged, NoReader}
 
 -- what is printed where the keeper failed
 abbrev pub keeper_fault_text : List ℕ
@@ -78,6 +78,7 @@ Comes Unread Unkept s t new input WriteFault text = ⊥
 Comes Unread Unkept s t new input Misunderstood text = ⊥
 Comes Unread Unkept s t new input Memory text = ⊥
 Comes Unread Unkept s t new input (Damaged tab key) text = ⊥
+Comes Unread Unkept s t new input NoReader text = ⊥
 
 -- memory ran out behind some of the lines, and nothing was printed
 pub record RunsOut (s t : State) (old new : Option Traffic) : Type 0 where
@@ -101,6 +102,7 @@ Imports Unread Failed Unkept old new s t WriteFault =
 Imports Unread Failed Unkept old new s t Memory = RunsOut s t old new
 Imports Unread Failed Unkept old new s t Misunderstood = ⊥
 Imports Unread Failed Unkept old new s t (Damaged tab key) = ⊥
+Imports Unread Failed Unkept old new s t NoReader = ⊥
 
 -- ---- a store that isn't opened
 
@@ -124,6 +126,7 @@ Unopened Cause Failed old new Done = ⊥
 Unopened Cause Failed old new Refused = ⊥
 Unopened Cause Failed old new ReadFault = ⊥
 Unopened Cause Failed old new Misunderstood = ⊥
+Unopened Cause Failed old new NoReader = ⊥
 
 -- What may keep a store from being opened whose keeper told this: `Unkept` says that the keeper can
 -- fail, and damage is that of the cells, where each keeper of this kind tells its cells.

@@ -17,6 +17,7 @@ pub mod Import
 pub mod Turned
 pub mod Status
 pub mod ImportEnds
+pub mod ExportEnds
 pub mod SessionEnds
 pub mod Words
 pub mod StatusCode

@@ -2,12 +2,12 @@
 use Rattle.std.specs.Prelude.{◌≡◌, ℕ, ◌+◌, ◌≤◌, ◌⊎◌, List, [], ◌++◌, length, codes, Option, ⊤}
 use Rattle.an_world.specs.Link.{Traffic, Tells}
 use Rattle.an_search.specs.Site.{Site}
-use Rattle.an_app.specs.Find.{report_of}
+use Rattle.an_app.specs.Find.{Report, report_of}
 use Rattle.an_app.specs.Input.{input_limit, IsReadWhole}
 use Rattle.an_app.specs.declared.status.Status.{Status}
 use Rattle.an_app.specs.declared.status.Status.TheVariants.{Done, WriteFault, Misunderstood}
 use Rattle.an_app.specs.declared.status.Status.TheVariants.{Refused, KeeperFailed, ReadFault}
-use Rattle.an_app.specs.declared.status.Status.TheVariants.{Memory, Damaged}
+use Rattle.an_app.specs.declared.status.Status.TheVariants.{Memory, Damaged, NoReader}
 
 -- bytes were read, and others written, and nothing else moved
 pub record Moves (input output : List ℕ) (old new : Traffic) : Type 0 where
@@ -22,10 +22,6 @@ Exchanges input output = Tells (Moves input output)
 -- what is printed where a read failed
 abbrev pub read_fault_text : List ℕ
 read_fault_text = codes "read failed\n"
-
--- what is printed where the words are those of no form
-abbrev pub misunderstood_text : List ℕ
-misunderstood_text = codes "words not understood\n"
 
 -- this was read, and a front of the text was printed
 pub record PrintsFront (input text : List ℕ) (old new : Option Traffic) : Type 0 where
@@ -44,19 +40,24 @@ IsUnfailing Refused = ⊤
 IsUnfailing KeeperFailed = ⊤
 IsUnfailing Memory = ⊤
 IsUnfailing (Damaged tab key) = ⊤
+IsUnfailing NoReader = ⊤
 
--- ---- words of no form; nothing is read
+-- ---- nothing is read
 
--- how such a run ends, where `Failed` says that the count of write faults rose
-unfoldable pub Misunderstands : Type 0 → Option Traffic → Option Traffic → Status → Type 0
-Misunderstands Failed old new Misunderstood = Exchanges [] misunderstood_text old new
-Misunderstands Failed old new WriteFault = Failed × PrintsFront [] misunderstood_text old new
-Misunderstands Failed old new Memory = Exchanges [] [] old new
-Misunderstands Failed old new Done = ⊥
-Misunderstands Failed old new Refused = ⊥
-Misunderstands Failed old new KeeperFailed = ⊥
-Misunderstands Failed old new ReadFault = ⊥
-Misunderstands Failed old new (Damaged tab key) = ⊥
+-- How a run ends that reads nothing and has this to tell: it was printed whole; or in part, where a
+-- write failed; or nothing was, where memory ran out. `Failed` says that the count of write faults
+-- rose.
+unfoldable pub TellsReport : Report → Type 0 → Option Traffic → Option Traffic → Status → Type 0
+TellsReport report Failed old new WriteFault = Failed × PrintsFront [] report.text old new
+TellsReport report Failed old new Memory = Exchanges [] [] old new
+TellsReport report Failed old new end = (report.status ≡ end) × Exchanges [] report.text old new
+
+-- the words are those of no form
+abbrev pub misunderstood : Report
+misunderstood = record { status = Misunderstood; text = codes "words not understood\n" }
+
+abbrev pub Misunderstands : Type 0 → Option Traffic → Option Traffic → Status → Type 0
+Misunderstands = TellsReport misunderstood
 
 -- ---- `find`
 
@@ -87,6 +88,7 @@ Finds site Unread Failed old new Memory = (input : List ℕ) × Exchanges input 
 Finds site Unread Failed old new Misunderstood = ⊥
 Finds site Unread Failed old new KeeperFailed = ⊥
 Finds site Unread Failed old new (Damaged tab key) = ⊥
+Finds site Unread Failed old new NoReader = ⊥
 
 -- little more is read than an input may have
 pub record ReadsLittle (old new : Option Traffic) : Type 0 where

@@ -12,3 +12,4 @@ status_code status.KeeperFailed = 4
 status_code status.ReadFault = 5
 status_code status.Memory = 6
 status_code (status.Damaged tab key) = 7
+status_code status.NoReader = 8

@@ -72,7 +72,7 @@ fn by_asked(alloc: Global, words: &LineWords<'_>) -> Result<Result<Asked, Code>,
 }
 
 /// Nobody's name, or a reader's.
-fn by_of(alloc: Global, text: &str) -> Result<Option<Option<Name>>, AllocError>
+pub(crate) fn by_of(alloc: Global, text: &str) -> Result<Option<Option<Name>>, AllocError>
     ensures { IfOk result (λ by. by ≡ by_of text.now) }
 {
     if text == "-" {

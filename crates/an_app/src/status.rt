@@ -20,6 +20,8 @@ pub enum Status {
     Memory,
     /// The cells of the store stand for no state. This one is the first that is damaged.
     Damaged { tab: u8, key: u64 },
+    /// What was to be exported is for nobody: the name is no live reader's.
+    NoReader,
 }
 
 impl Status {
@@ -36,6 +38,7 @@ impl Status {
             Status::ReadFault => 5,
             Status::Memory => 6,
             Status::Damaged { .. } => 7,
+            Status::NoReader => 8,
         }
     }
 }

@@ -3,11 +3,13 @@ ghost use Rattle.std.specs.Prelude.{◌≡◌, [], IfOk, IsSome, IsTrue, string_
 ghost use Rattle.an_base.specs.Faults.{Rises};
 ghost use Rattle.an_machine.specs.State.{State};
 ghost use Rattle.an_app.specs.AtDesk.{Connection};
+ghost use Rattle.an_app.specs.ExportEnds.{ExportsAt, export_report};
 ghost use Rattle.an_app.specs.ImportEnds.{Imports, ImportsAt, Unopened, damage_text};
 ghost use Rattle.an_app.specs.SessionEnds.{IsEndCause, SessionAt, ended_status};
-ghost use Rattle.an_app.specs.Status.{ReadsLittle};
+ghost use Rattle.an_app.specs.Status.{ReadsLittle, TellsReport};
 
 use crate::at_desk::session_at_desk;
+use crate::exporting::export;
 use crate::importing::import;
 use crate::status::Status;
 use crate::told::tell;
@@ -46,6 +48,39 @@ fn import_into<L: Link, K: Keeper>(alloc: Global, link: &mut L, desk: Desk<K>) -
 {
     let mut desk = desk;
     let status = import(alloc, link, &mut desk);
+    drop(desk.into_keeper());
+    status
+}
+
+/// Prints what a reader sees of the store of a keeper.
+pub(crate) fn export_at<L: Link, K: Keeper>(
+    alloc: Global,
+    link: &mut L,
+    keeper: K,
+    by: &str,
+) -> Status
+    ensures exports { ExportsAt
+        (Rises (L.write_faults link.old) (L.write_faults link.new))
+        (¬ (IsTrue K.is_sure)) ((kept : K) → IsSome (K.told kept)) (K.told keeper) by.now
+        (L.traffic link.old) (L.traffic link.new) result }
+    ensures bounded { ReadsLittle (L.traffic link.old) (L.traffic link.new) }
+{
+    match Desk::open(alloc, keeper) {
+        Ok(desk) => export_from(alloc, link, desk, by),
+        Err(error) => unopened(alloc, link, error),
+    }
+}
+
+/// Prints what a reader sees of an open store. The keeper is taken back, since it tells its cells
+/// still where it told them before.
+fn export_from<L: Link, K: Keeper>(alloc: Global, link: &mut L, desk: Desk<K>, by: &str) -> Status
+    ensures exports { TellsReport (export_report desk.state by.now)
+        (Rises (L.write_faults link.old) (L.write_faults link.new))
+        (L.traffic link.old) (L.traffic link.new) result }
+    ensures told { ((kept : K) → IsSome (K.told kept)) → IsSome desk.told }
+    ensures bounded { ReadsLittle (L.traffic link.old) (L.traffic link.new) }
+{
+    let status = export(alloc, link, &desk, by);
     drop(desk.into_keeper());
     status
 }

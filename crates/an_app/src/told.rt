@@ -1,7 +1,8 @@
 ghost use Rattle.std.specs.Prelude.{◌≤◌};
 ghost use Rattle.an_base.specs.Faults.{Rises};
 ghost use Rattle.an_world.specs.Link.{WritesFront};
-ghost use Rattle.an_app.specs.Told.{Tells};
+ghost use Rattle.an_app.specs.Status.{ReadsLittle, TellsReport};
+ghost use Rattle.an_app.specs.Told.{IsTold, Tells};
 
 use crate::status::Status;
 use an_world::{Link, write_all};
@@ -20,4 +21,15 @@ pub(crate) fn tell<L: Link>(link: &mut L, status: Status, text: &[u8]) -> Status
         Ok(_) => status,
         Err(_) => Status::WriteFault,
     }
+}
+
+/// Prints all that a run has to tell that reads nothing. Answers how it ends.
+pub(crate) fn tell_report<L: Link>(link: &mut L, status: Status, text: &[u8]) -> Status
+    requires told { IsTold status }
+    ensures tells { TellsReport (record { status = status; text = text.now })
+        (Rises (L.write_faults link.old) (L.write_faults link.new))
+        (L.traffic link.old) (L.traffic link.new) result }
+    ensures bounded { ReadsLittle (L.traffic link.old) (L.traffic link.new) }
+{
+    tell(link, status, text)
 }

@@ -152,7 +152,8 @@ fn unread_turn(
     Ok(None)
 }
 
-fn reader(by: Option<Name>) -> Caller
+/// Who reads a line. A line by nobody's name is the anonymous caller's.
+pub(crate) fn reader(by: Option<Name>) -> Caller
     ensures { result ≡ reader by }
 {
     match by {

@@ -1,15 +1,11 @@
-use Rattle.an_app.specs.Status.{Misunderstands}
-use Rattle.an_app.proofs.StatusLemmas.{prints-unread, reads_little-none}
+use Rattle.std.proofs.Common.{subst}
+use Rattle.an_base.specs.Faults.{Rises}
+use Rattle.an_app.specs.Status.{TellsReport}
+use Rattle.an_app.specs.declared.status.Status.TheVariants.{Misunderstood}
 use Rattle.an_app.proofs.program.misunderstood.Goals as goal
 
-pub returns-in-Ok-clause-bounded : goal.returns-in-Ok-clause-bounded
-returns-in-Ok-clause-bounded g c = reads_little-none _ _ _ c.write_all.ensures.front
-
-pub returns-in-Err-clause-told : goal.returns-in-Err-clause-told
-unfolding Misunderstands
-returns-in-Err-clause-told g c =
-    let front = rw c.as_bytes.ensures.value at c.write_all.ensures.front in
-    (c.in-Err.ensures.counted, prints-unread _ _ _ front)
-
-pub returns-in-Err-clause-bounded : goal.returns-in-Err-clause-bounded
-returns-in-Err-clause-bounded g c = reads_little-none _ _ _ c.write_all.ensures.front
+pub returns-clause-told : goal.returns-clause-told
+returns-clause-told g c =
+    let Failed = Rises (g.L.Link.write_faults c.args.link.now) (g.L.Link.write_faults c.tell_report.new.link) in
+    subst (λ text. TellsReport (record { status = Misunderstood; text = text }) Failed (g.L.Link.traffic c.args.link.now) (g.L.Link.traffic c.tell_report.new.link) c.tell_report.result)
+    c.as_bytes.ensures.value c.tell_report.ensures.tells
