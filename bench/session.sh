@@ -1,5 +1,5 @@
 #!/usr/bin/env bash
-# Times connections of 1,000 requests each at a store with 10,000 annotations of 32 words, by the program
+# Times connections of up to 1,000 requests each at a store with 10,000 annotations of 32 words, by the program
 # that plays cases, which compares every byte that is written. For each kind of request it prints the
 # microseconds of a processor a request, which is what so many connections add to the time of the lines
 # alone, and how many requests that is a second. Reading the case and comparing it are among them.
@@ -20,9 +20,9 @@ store() {
   echo " -> 0 accepted $((annotations + 2)) repeated 0 old 0"
 }
 
-# So many rows, each a connection of 1,000 requests of this kind.
+# So many rows, each a connection of so many requests of this kind.
 connections() {
-  awk -v kind="$1" -v count="$2" -v notes="$annotations" '
+  awk -v kind="$1" -v count="$2" -v requests="$3" -v notes="$annotations" '
     function reply(line, writes, media, extra, body, last) {
       return "HTTP/1.1 " line "\\r\\nAccess-Control-Allow-Origin: *\\r\\nAllow: GET, HEAD, OPTIONS" writes "\\r\\n" (last ? "Connection: close\\r\\n" : "") "Content-Length: " length(body) "\\r\\nContent-Type: " media "\\r\\n" extra "\\r\\n" body
     }
@@ -56,7 +56,7 @@ connections() {
       manifest = "{\"@context\":[\"http://iiif.io/api/search/2/context.json\",\"http://iiif.io/api/presentation/3/context.json\"],\"id\":\"http://a.example/manifests/m1\",\"items\":[{\"annotations\":[{\"id\":\"http://a.example/manifests/m1/canvases/1?page=1\",\"type\":\"AnnotationPage\"}],\"height\":100,\"id\":\"http://a.example/c1\",\"type\":\"Canvas\",\"width\":80}],\"label\":{\"en\":[\"Log\"]},\"service\":[{\"id\":\"http://a.example/search/m1\",\"service\":[{\"id\":\"http://a.example/autocomplete/m1\",\"type\":\"AutoCompleteService2\"}],\"type\":\"SearchService2\"}],\"type\":\"Manifest\"}"
       for (c = 0; c < count; c++) {
         asked = told = ""
-        for (i = 1; i <= 1000; i++) {
+        for (i = 1; i <= requests; i++) {
           last = i == 1000
           if (kind == "annotation") {
             asked = asked "GET /annotations/mara/n7 HTTP/1.1\\r\\n\\r\\n"
@@ -74,7 +74,7 @@ connections() {
             asked = asked "GET /changes?page=" pages + 1 " HTTP/1.1\\r\\n\\r\\n"
             told = told reply("200 OK", "", streamed, "", changes, last)
           } else {
-            name = "p" (c * 1000 + i)
+            name = "p" (c * requests + i)
             body = "{\"bodyValue\":\"" text_of(i) "\",\"target\":\"http://a.example/c1\",\"type\":\"Annotation\"}"
             asked = asked "PUT /annotations/mara/" name "?version=1&manifest=m1 HTTP/1.1\\r\\nAuthorization: Bearer tok-mara\\r\\nContent-Length: " length(body) "\\r\\n\\r\\n" body
             told = told reply("201 Created", writes, "application/json", "", "{\"object\":\"http://a.example/annotations/mara/" name "\",\"repeat\":false,\"version\":1}", last)
@@ -90,16 +90,16 @@ store >"$work/store"
 cp "$work/store" "$work/input"
 measure_used
 alone=$used
-while read -r kind count what; do
-  { cat "$work/store"; connections "$kind" "$count"; } >"$work/input"
+while read -r kind count requests what; do
+  { cat "$work/store"; connections "$kind" "$count" "$requests"; } >"$work/input"
   measure_used
-  awk -v what="$what" -v t="$((used - alone))" -v n="$((count * 1000))" -v said="$(tail -n 1 "$work/output")" \
+  awk -v what="$what" -v t="$((used - alone))" -v n="$((count * requests))" -v said="$(tail -n 1 "$work/output")" \
     'BEGIN { printf "%s: %.1f microseconds a request, %d requests a second; %s\n", what, t / n, n * 1e6 / t, said }'
 done <<'KINDS'
-annotation 40 GET of an annotation
-manifest 40 GET of a manifest
-put 10 PUT of an annotation
-container 2 GET of a container, its first page in it
-canvas 2 GET of a page of a canvas, by a region
-changes 2 GET of the last page of the stream
+annotation 40 1000 GET of an annotation
+manifest 40 1000 GET of a manifest
+put 10 1000 PUT of an annotation
+container 10 200 GET of a container, its first page in it
+canvas 1 100 GET of a page of a canvas, by a region
+changes 2 500 GET of the last page of the stream
 KINDS
