@@ -29,7 +29,7 @@ use Rattle.an_shelf.specs.Writing.{IsRefused, IsToKeep, Writes}
 use Rattle.an_shelf.specs.declared.error.WriteError.{WriteError}
 use Rattle.an_shelf.specs.declared.error.WriteError.TheVariants as error
 use Rattle.an_world.specs.Link.{Traffic}
-use Rattle.an_app.specs.Answer.{refusal_reply, write_answer}
+use Rattle.an_answers.specs.Answer.{refusal_reply, write_answer}
 use Rattle.an_app.specs.AtDesk.{AnswersBehind, Connection, DeskAnswers, DeskComes, DeskStays, IsAnswer, IsSame, IsWritten, added_by}
 use Rattle.an_app.specs.Respond.{response_of}
 use Rattle.an_app.specs.Setting.{told_reply}

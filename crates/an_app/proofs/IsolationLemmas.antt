@@ -7,20 +7,20 @@ use Rattle.an_http.specs.declared.request.Request.{Request}
 use Rattle.an_machine.specs.State.{State}
 use Rattle.an_policy.specs.declared.who.Caller.{Caller}
 use Rattle.an_search.specs.Site.{Site}
-use Rattle.an_app.specs.Answer.{answer_of}
-use Rattle.an_app.specs.Answer as answer
+use Rattle.an_answers.specs.Answer.{answer_of}
+use Rattle.an_answers.specs.Answer as answer
 use Rattle.an_app.specs.Asked.{asked_of}
 use Rattle.an_app.specs.Find.{asked_turn, no_preference, prints, reply_line, turn_of}
 use Rattle.an_app.specs.Isolation.{ReaderSeesAlike, SeesAlike, SenderSeesAlike}
 use Rattle.an_app.specs.Respond.{caller_of, is_read, query_reply, query_response, read_response, response_of, route_response}
-use Rattle.an_app.specs.Routes.{route_of}
+use Rattle.an_routes.specs.Routes.{route_of}
 use Rattle.an_app.specs.declared.asked.Asked.{Asked}
 use Rattle.an_app.specs.declared.asked.Asked.TheVariants as asked
-use Rattle.an_app.specs.declared.kinds.Read.{Read}
-use Rattle.an_app.specs.declared.kinds.Route.{Route}
-use Rattle.an_app.specs.declared.kinds.Route.TheVariants as route
-use Rattle.an_app.specs.declared.kinds.RouteError.{RouteError}
-use Rattle.an_app.specs.declared.kinds.RouteError.TheVariants as error
+use Rattle.an_routes.specs.declared.kinds.Read.{Read}
+use Rattle.an_routes.specs.declared.kinds.Route.{Route}
+use Rattle.an_routes.specs.declared.kinds.Route.TheVariants as route
+use Rattle.an_routes.specs.declared.kinds.RouteError.{RouteError}
+use Rattle.an_routes.specs.declared.kinds.RouteError.TheVariants as error
 use Rattle.an_app.specs.declared.respond.Response.TheVariants as response
 
 module _ (site : Site) (s t : State) where

@@ -4,9 +4,9 @@ use Rattle.an_http.specs.declared.request.Request.{Request}
 use Rattle.an_machine.specs.State.{State}
 use Rattle.an_search.specs.Site.{Site}
 use Rattle.an_app.specs.Respond.{response_of, route_response}
-use Rattle.an_app.specs.Routes.{route_of}
-use Rattle.an_app.specs.declared.kinds.RouteError.{RouteError}
-use Rattle.an_app.specs.declared.kinds.RouteError.TheVariants as error
+use Rattle.an_routes.specs.Routes.{route_of}
+use Rattle.an_routes.specs.declared.kinds.RouteError.{RouteError}
+use Rattle.an_routes.specs.declared.kinds.RouteError.TheVariants as error
 use Rattle.an_app.specs.declared.respond.Response.{Response}
 
 pub nowhere : {E : Type 0} (site : Site) (s : State) (request : Request) (failed : RouteError) (result : Result Response E)

@@ -12,18 +12,18 @@ use Rattle.an_http.specs.declared.reply.Allow.{Allow}
 use Rattle.an_machine.specs.declared.command.Command.{Command}
 use Rattle.an_machine.specs.declared.command.Command.TheVariants as command
 use Rattle.an_app.specs.Line.{Words, words_of, by_of, method_text}
-use Rattle.an_app.specs.Routes.{route_of}
+use Rattle.an_routes.specs.Routes.{route_of}
 use Rattle.an_app.specs.declared.asked.Asked.{Asked}
 use Rattle.an_app.specs.declared.asked.Asked.TheVariants as asked
 use Rattle.an_app.specs.declared.line.Method.{Method}
 use Rattle.an_app.specs.declared.line.Method.TheVariants.{Get, Put, Delete}
-use Rattle.an_app.specs.declared.kinds.Route.{Route}
-use Rattle.an_app.specs.declared.kinds.Route.TheVariants as route
-use Rattle.an_app.specs.declared.kinds.RouteError.{RouteError}
-use Rattle.an_app.specs.declared.kinds.RouteError.TheVariants as no_route
-use Rattle.an_app.specs.declared.kinds.WriteRoute.{WriteRoute}
-use Rattle.an_app.specs.declared.kinds.WriteRoute.TheVariants.{PutReader, DropReader, PutManifest}
-use Rattle.an_app.specs.declared.kinds.WriteRoute.TheVariants.{DropManifest, PutNote, DropNote}
+use Rattle.an_routes.specs.declared.kinds.Route.{Route}
+use Rattle.an_routes.specs.declared.kinds.Route.TheVariants as route
+use Rattle.an_routes.specs.declared.kinds.RouteError.{RouteError}
+use Rattle.an_routes.specs.declared.kinds.RouteError.TheVariants as no_route
+use Rattle.an_routes.specs.declared.kinds.WriteRoute.{WriteRoute}
+use Rattle.an_routes.specs.declared.kinds.WriteRoute.TheVariants.{PutReader, DropReader, PutManifest}
+use Rattle.an_routes.specs.declared.kinds.WriteRoute.TheVariants.{DropManifest, PutNote, DropNote}
 
 -- ---- commands
 

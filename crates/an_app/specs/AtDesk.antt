@@ -21,7 +21,7 @@ use Rattle.an_session.specs.Session.{Session}
 use Rattle.an_session.specs.declared.ended.Ended.{Ended}
 use Rattle.an_shelf.specs.Store.{Store}
 use Rattle.an_world.specs.Link.{Traffic}
-use Rattle.an_app.specs.Answer.{refusal_reply, write_answer}
+use Rattle.an_answers.specs.Answer.{refusal_reply, write_answer}
 use Rattle.an_app.specs.Respond.{response_of}
 use Rattle.an_app.specs.declared.respond.Response.{Response}
 use Rattle.an_app.specs.declared.respond.Response.TheVariants as response

@@ -1,10 +1,6 @@
 pub mod Input
 pub mod Split
 pub mod Line
-pub mod Target
-pub mod Query
-pub mod Routes
-pub mod Answer
 pub mod Asked
 pub mod Respond
 pub mod Isolation

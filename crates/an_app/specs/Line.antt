@@ -1,20 +1,14 @@
 -- The words of a line: a moment, who writes or reads, what is done, to what, and for a put a JSON
 -- text.
-use Rattle.std.specs.Prelude.{ℕ, ℤ, List, [], length, ◌==◌, nat_lt, bytes_eq, codes, is_none}
+use Rattle.std.specs.Prelude.{ℕ, ℤ, List, [], length, ◌==◌, bytes_eq, codes, is_none}
 use Rattle.std.specs.Prelude.{if◌then◌else◌, Option, Some, None, option_and_then}
-use Rattle.std.specs.List.{position_or_len, before_first, after_first}
 use Rattle.std.specs.Result.{result_ok}
 use Rattle.an_base.specs.Moment.{moment_of}
 use Rattle.an_base.specs.Name.{is_name}
+use Rattle.an_routes.specs.Target.{cut_at}
 use Rattle.an_app.specs.declared.line.Method.{Method}
 use Rattle.an_app.specs.declared.line.Method.TheVariants.{Get, Put, Delete}
 use Rattle.an_app.specs.declared.line.LineWords.{LineWords}
-
--- what stands before the first such sign, and what behind it; nothing where there is no such sign
-abbrev pub cut_at : ℕ → List ℕ → Option (List ℕ × List ℕ)
-cut_at sign text =
-    if nat_lt (position_or_len (λ b. b == sign) text) (length text)
-    then Some (before_first (λ b. b == sign) text, after_first (λ b. b == sign) text) else None
 
 abbrev pub method_of : List ℕ → Option Method
 method_of text =

@@ -19,15 +19,15 @@ use Rattle.an_policy.specs.declared.who.Caller.{Caller}
 use Rattle.an_policy.specs.declared.who.Caller.TheVariants as caller
 use Rattle.an_search.specs.Site.{Site}
 use Rattle.an_base.specs.declared.span.Prefer.{Prefer}
-use Rattle.an_app.specs.Answer.{answer_of, not_signed, query_answer, refusal_reply, view_by}
+use Rattle.an_answers.specs.Answer.{answer_of, not_signed, query_answer, refusal_reply, view_by}
 use Rattle.an_app.specs.Asked.{command_of}
-use Rattle.an_app.specs.Routes.{read_methods, route_of, write_methods}
-use Rattle.an_app.specs.declared.kinds.Read.{Read}
-use Rattle.an_app.specs.declared.kinds.Route.{Route}
-use Rattle.an_app.specs.declared.kinds.Route.TheVariants as route
-use Rattle.an_app.specs.declared.kinds.RouteError.{RouteError}
-use Rattle.an_app.specs.declared.kinds.RouteError.TheVariants as error
-use Rattle.an_app.specs.declared.kinds.WriteRoute.{WriteRoute}
+use Rattle.an_routes.specs.Routes.{read_methods, route_of, write_methods}
+use Rattle.an_routes.specs.declared.kinds.Read.{Read}
+use Rattle.an_routes.specs.declared.kinds.Route.{Route}
+use Rattle.an_routes.specs.declared.kinds.Route.TheVariants as route
+use Rattle.an_routes.specs.declared.kinds.RouteError.{RouteError}
+use Rattle.an_routes.specs.declared.kinds.RouteError.TheVariants as error
+use Rattle.an_routes.specs.declared.kinds.WriteRoute.{WriteRoute}
 use Rattle.an_app.specs.declared.respond.Response.{Response}
 use Rattle.an_app.specs.declared.respond.Response.TheVariants as response
 

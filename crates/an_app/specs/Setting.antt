@@ -7,7 +7,7 @@ use Rattle.an_machine.specs.declared.command.WriteReply.{WriteReply}
 use Rattle.an_search.specs.Site.{Site}
 use Rattle.an_shelf.specs.declared.error.WriteError.{WriteError}
 use Rattle.an_shelf.specs.declared.error.WriteError.TheVariants as error
-use Rattle.an_app.specs.Answer.{refusal_reply, write_answer}
+use Rattle.an_answers.specs.Answer.{refusal_reply, write_answer}
 
 -- the settings, and the clock
 pub record Setting (C : Type 0) : Type 0 where

@@ -15,7 +15,7 @@ use Rattle.an_machine.specs.declared.command.Refused.TheVariants.{NoManifest, No
 use Rattle.an_machine.specs.declared.command.Refused.TheVariants.{GroupFixed, TokenTaken, Version}
 use Rattle.an_machine.specs.declared.command.Refused.TheVariants.{Memory}
 use Rattle.an_machine.specs.Entries.{state_after}
-use Rattle.an_app.specs.Answer.{write_refusal}
+use Rattle.an_answers.specs.Answer.{write_refusal}
 
 -- it is done, and perhaps a repeat, which leaves the state as it was; or it is old; or it is
 -- refused, which ends the run

@@ -4,16 +4,14 @@ ghost use Rattle.an_base.specs.Tree.{tree_of};
 ghost use Rattle.an_app.specs.Asked.{text_refusal, with_tree, command_of, query_asked, write_asked};
 ghost use Rattle.an_app.specs.Asked.{route_asked, by_asked, words_asked, asked_of};
 ghost use Rattle.an_app.specs.Line.{by_of, lent_words, words_of};
-ghost use Rattle.an_app.specs.Routes.{route_of};
+ghost use Rattle.an_routes.specs.Routes.{route_of};
 
-use crate::kinds::{Read, Route, RouteError, WriteRoute};
 use crate::line::{LineWords, Method, words_of};
-use crate::query::name_in;
-use crate::routes::route;
 use an_base::{Code, Moment, Name, Tree, TreeError, read_tree};
 use an_http::Allow;
 use an_machine::Command;
 use an_policy::Group;
+use an_routes::{Read, Route, RouteError, WriteRoute, name_in, route};
 use an_search::text_of;
 use std::alloc::{AllocError, Global};
 

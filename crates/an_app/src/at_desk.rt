@@ -6,8 +6,8 @@ ghost use Rattle.an_session.specs.Session.{Session, IsCaused};
 ghost use Rattle.an_app.specs.AtDesk.{DeskComes, Connection, DeskAnswers, DeskStays};
 ghost use Rattle.an_app.specs.Setting.{told_reply};
 
-use crate::answers::{refusal_reply, write_answer};
 use crate::respond::{Response, respond};
+use an_answers::{refusal_reply, write_answer};
 use an_base::{Code, Moment};
 use an_http::{Allow, Reply, Request};
 use an_keep::Keeper;

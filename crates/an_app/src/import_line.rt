@@ -5,15 +5,15 @@ ghost use Rattle.an_machine.specs.State.{State};
 ghost use Rattle.an_machine.specs.declared.command.Decided.{Decided};
 ghost use Rattle.an_machine.specs.declared.command.Refused.{Refused};
 ghost use Rattle.an_shelf.specs.Writing.{IsRefused};
-ghost use Rattle.an_app.specs.Answer.{write_refusal};
+ghost use Rattle.an_answers.specs.Answer.{write_refusal};
 ghost use Rattle.an_app.specs.Import.{import_line, import_asked, import_written, with_old};
 ghost use Rattle.an_app.specs.Shown.{Leads};
 ghost use Rattle.an_app.specs.Written.{is_old, written_by, written_of};
 
-use crate::answers::write_refusal;
 use crate::asked::{Asked, asked_of};
 use crate::counts::{Counts, with_done, with_old};
 use crate::written::{is_old, writer};
+use an_answers::write_refusal;
 use an_base::{Code, Moment, Name};
 use an_keep::{KeepError, Keeper};
 use an_machine::{Command, Refused};

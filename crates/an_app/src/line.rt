@@ -1,8 +1,9 @@
 ghost use Rattle.std.specs.Prelude.{◌≡◌, ◌<◌, option_map};
-ghost use Rattle.an_app.specs.Line.{cut_at, method_of, method_text, lent_words, words_to};
+ghost use Rattle.an_app.specs.Line.{method_of, method_text, lent_words, words_to};
 ghost use Rattle.an_app.specs.Line.{words_for, words_after, words_of};
 
 use an_base::{Moment, moment_of};
+use an_routes::cut;
 
 /// What a line does.
 #[derive(Clone, Copy, Debug, PartialEq, Eq)]
@@ -115,12 +116,4 @@ fn words_to<'a>(
         target,
         tree,
     })
-}
-
-/// What stands before the first such sign, and what behind it.
-pub(crate) fn cut(text: &str, sign: char) -> Option<(&str, &str)>
-    requires { sign < 128 }
-    ensures { option_map (λ p. (p.0.now, p.1.now)) result ≡ cut_at sign text.now }
-{
-    text.split_once(sign)
 }

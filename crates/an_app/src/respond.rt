@@ -1,19 +1,17 @@
 ghost use Rattle.std.specs.Prelude.{◌≡◌, IfOk, Ok, Err};
 ghost use Rattle.an_search.specs.Site.{Site};
-ghost use Rattle.an_app.specs.Answer.{refusal_reply, view_by};
+ghost use Rattle.an_answers.specs.Answer.{refusal_reply, view_by};
 ghost use Rattle.an_app.specs.Respond.{caller_of, is_read, options_reply};
 ghost use Rattle.an_app.specs.Respond.{query_reply, query_response, read_response, response_of};
 ghost use Rattle.an_app.specs.Respond.{route_response, write_response};
 
-use crate::answers::{query_answer, refusal_reply};
 use crate::asked::command_of;
-use crate::kinds::{Read, Route, RouteError, WriteRoute};
-use crate::routes::route;
-use crate::uncounted::answer_uncounted;
+use an_answers::{answer_uncounted, query_answer, refusal_reply};
 use an_base::{Bytes, Code, TryCopy};
 use an_http::{Allow, Auth, Extra, Media, Reply, Request, Status};
 use an_machine::{Command, Look};
 use an_policy::Caller;
+use an_routes::{Read, Route, RouteError, WriteRoute, route};
 use an_search::Settings;
 use std::alloc::{AllocError, Global};
 

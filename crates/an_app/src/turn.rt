@@ -1,7 +1,7 @@
 ghost use Rattle.std.specs.Prelude.{◌≡◌, ◌++◌, ℕ, List, IfOk, None, Some, Ok, OnOk, codes};
 ghost use Rattle.std.specs.Prelude.{decimal, if◌then◌else◌, string_bytes};
 ghost use Rattle.an_http.specs.Status.{number_of};
-ghost use Rattle.an_app.specs.Answer.{answer_of, query_answer, view_by};
+ghost use Rattle.an_answers.specs.Answer.{answer_of, query_answer, view_by};
 ghost use Rattle.an_app.specs.Find.{no_preference};
 ghost use Rattle.an_app.specs.Asked.{asked_of};
 ghost use Rattle.an_machine.specs.Entries.{state_after};
@@ -10,15 +10,14 @@ ghost use Rattle.an_app.specs.Find.{reader};
 ghost use Rattle.an_app.specs.Turned.{Takes};
 ghost use Rattle.an_app.specs.Written.{written_of};
 
-use crate::answers::query_answer;
 use crate::asked::{Asked, asked_of};
-use crate::kinds::Read;
-use crate::uncounted::answer_uncounted;
 use crate::written::{stop_of, writer};
+use an_answers::{answer_uncounted, query_answer};
 use an_base::{Code, Moment, Name, Prefer};
 use an_http::{Allow, Reply};
 use an_machine::{Book, Command, Decided, Refused};
 use an_policy::Caller;
+use an_routes::Read;
 use an_search::Settings;
 use std::alloc::{AllocError, Global};
 

@@ -1,8 +1,8 @@
 ghost use Rattle.std.specs.Prelude.{◌≡◌, ◌<◌, None, Some, if◌then◌else◌};
-ghost use Rattle.an_app.specs.Answer.{write_refusal};
+ghost use Rattle.an_answers.specs.Answer.{write_refusal};
 ghost use Rattle.an_app.specs.Written.{is_old, writer};
 
-use crate::answers::write_refusal;
+use an_answers::write_refusal;
 use an_base::{Code, Name};
 use an_machine::Refused;
 use an_policy::Caller;

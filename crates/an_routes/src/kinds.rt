@@ -1,5 +1,5 @@
 ghost use Rattle.std.specs.Prelude.{◌≡◌};
-ghost use Rattle.an_app.specs.Routes.{read_methods, write_methods};
+ghost use Rattle.an_routes.specs.Routes.{read_methods, write_methods};
 
 use an_base::{Code, Name};
 use an_complete::Ask;

@@ -5,13 +5,12 @@ ghost use Rattle.an_machine.specs.View.{view_of};
 ghost use Rattle.an_pages.specs.Bodies.{manifest_of_view, annotation_of_view};
 ghost use Rattle.an_search.specs.Search.{search_of};
 ghost use Rattle.an_complete.specs.Complete.{complete_of};
-ghost use Rattle.an_app.specs.Answer.{view_by, challenge, refusal_reply, shown_reply, page_refusal};
-ghost use Rattle.an_app.specs.Answer.{manifest_reply, note_reply, search_reply, completion_reply};
-ghost use Rattle.an_app.specs.Answer.{with_iris, page_reply, changes_reply, changes_page_reply};
-ghost use Rattle.an_app.specs.Answer.{read_reply, answer_of, query_answer, object_iri, bool_text, write_text};
-ghost use Rattle.an_app.specs.Answer.{write_body, write_status, write_refusal, write_answer};
+ghost use Rattle.an_answers.specs.Answer.{view_by, challenge, refusal_reply, shown_reply, page_refusal};
+ghost use Rattle.an_answers.specs.Answer.{manifest_reply, note_reply, search_reply, completion_reply};
+ghost use Rattle.an_answers.specs.Answer.{with_iris, page_reply, changes_reply, changes_page_reply};
+ghost use Rattle.an_answers.specs.Answer.{read_reply, answer_of, query_answer, object_iri, bool_text, write_text};
+ghost use Rattle.an_answers.specs.Answer.{write_body, write_status, write_refusal, write_answer};
 
-use crate::kinds::Read;
 use an_base::{Bytes, Code, Name, Prefer, Steps};
 use an_complete::{Ask, CompleteError, complete};
 use an_http::{Allow, Extra, Media, Reply, Status, error_body, status_of};
@@ -19,6 +18,7 @@ use an_machine::{Look, Object, Refused, WriteReply};
 use an_manifest::manifest_iri;
 use an_pages::{PageError, annotation, canvas_page, container, container_page, manifest_answer};
 use an_policy::{Caller, Who};
+use an_routes::Read;
 use an_search::{AskError, Query, Settings, note_iri, search};
 use an_stream::{StreamError, changes, changes_page};
 use std::alloc::{AllocError, Global};
@@ -373,8 +373,8 @@ fn reader_iri(alloc: Global, base: &str, name: &str) -> Result<String, AllocErro
 }
 
 /// Why the machine refuses a write.
-pub(crate) fn write_refusal(refused: Refused) -> Code
-    ensures { result ≡ write_refusal refused }
+pub fn write_refusal(refused: Refused) -> Code
+    ensures refusal { result ≡ write_refusal refused }
 {
     match refused {
         Refused::Shape(code) => code,

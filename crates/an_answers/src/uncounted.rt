@@ -1,19 +1,19 @@
 ghost use Rattle.std.specs.Prelude.{◌≡◌, ◌<◌, IfOk};
-ghost use Rattle.an_app.specs.Answer.{answer_of, view_by};
+ghost use Rattle.an_answers.specs.Answer.{answer_of, view_by};
 
 use crate::answers::answer;
-use crate::kinds::Read;
 use an_base::{Prefer, Steps};
 use an_http::Reply;
 use an_machine::Look;
 use an_policy::Caller;
+use an_routes::Read;
 use an_search::Settings;
 use std::alloc::{AllocError, Global};
 use std::marker::Brand;
 use std::sync::ledger::{Blank, Ledger};
 
 /// The answer to a read whose steps nobody counts.
-pub(crate) fn answer_uncounted<T: Look>(
+pub fn answer_uncounted<T: Look>(
     alloc: Global,
     look: &T,
     settings: &Settings,
@@ -21,7 +21,7 @@ pub(crate) fn answer_uncounted<T: Look>(
     prefer: Prefer,
     read: &Read,
 ) -> Result<Reply, AllocError>
-    ensures { IfOk result (λ reply. reply
+    ensures answer { IfOk result (λ reply. reply
         ≡ answer_of settings.now (view_by (T.state look.now) caller.now) prefer read.now) }
 {
     answer_from::<T, Brand>(alloc, Blank::new(1), look, settings, caller, prefer, read)

@@ -1,6 +1,6 @@
 ghost use Rattle.std.specs.Prelude.{◌≡◌, IfOk};
-ghost use Rattle.an_app.specs.Query.{given_of, version_of, name_in, manifest_of, group_of};
-ghost use Rattle.an_app.specs.Query.{page_of, iris_of, region_of};
+ghost use Rattle.an_routes.specs.Query.{given_of, version_of, name_in, manifest_of, group_of};
+ghost use Rattle.an_routes.specs.Query.{page_of, iris_of, region_of};
 
 use an_base::{Code, List, Name, NameError, Parameter};
 use an_policy::{Group, group_named};
@@ -120,8 +120,8 @@ pub(crate) fn region_of(given: &[Pair]) -> Result<Option<Xywh>, Code>
 }
 
 /// The name that a text is.
-pub(crate) fn name_in(alloc: Global, text: &str) -> Result<Option<Name>, AllocError>
-    ensures { IfOk result (λ name. name ≡ name_in text.now) }
+pub fn name_in(alloc: Global, text: &str) -> Result<Option<Name>, AllocError>
+    ensures name { IfOk result (λ name. name ≡ name_in text.now) }
 {
     match Name::new(alloc, text) {
         Ok(name) => Ok(Some(name)),

@@ -1,4 +1,4 @@
-use Rattle.an_app.proofs.uncounted.answer_uncounted.Given as goal
+use Rattle.an_answers.proofs.uncounted.answer_uncounted.Given as goal
 
 -- the ledger of the blank
 abbrev pub ghosts-answer_from : goal.ghosts-answer_from

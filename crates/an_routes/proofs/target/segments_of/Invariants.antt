@@ -1,8 +1,8 @@
 use Rattle.std.proofs.Common.{◌≡◌, ◌++◌, drop, map}
 use Rattle.std.specs.Prelude.{option_map}
 use Rattle.an_search.specs.Pairs.{all_there, escaped_text}
-use Rattle.an_app.specs.Target.{segments_of}
-use Rattle.an_app.proofs.target.segments_of.Given as goal
+use Rattle.an_routes.specs.Target.{segments_of}
+use Rattle.an_routes.proofs.target.segments_of.Given as goal
 
 -- the segments that are left stand behind those that were decoded
 abbrev pub invariant-loop-piece : goal.invariant-loop-piece

@@ -1,9 +1,14 @@
 -- A target, split into the segments of its path and its query (RFC 3986, sections 3.3 and 3.4).
-use Rattle.std.specs.Prelude.{ℕ, List, [], map, length, ◌==◌, if◌then◌else◌, Option, Some}
+use Rattle.std.specs.Prelude.{ℕ, List, [], map, length, ◌==◌, nat_lt, if◌then◌else◌, Option, Some}
 use Rattle.std.specs.Prelude.{None, option_and_then}
-use Rattle.std.specs.List.{slice_split}
+use Rattle.std.specs.List.{slice_split, position_or_len, before_first, after_first}
 use Rattle.an_search.specs.Pairs.{all_there, escaped_text}
-use Rattle.an_app.specs.Line.{cut_at}
+
+-- what stands before the first such sign, and what behind it; nothing where there is no such sign
+abbrev pub cut_at : ℕ → List ℕ → Option (List ℕ × List ℕ)
+cut_at sign text =
+    if nat_lt (position_or_len (λ b. b == sign) text) (length text)
+    then Some (before_first (λ b. b == sign) text, after_first (λ b. b == sign) text) else None
 
 -- the path behind its first `/`, and the query behind the first `?`, which may be empty
 abbrev pub parts_of : List ℕ → Option (List ℕ × List ℕ) → List ℕ × List ℕ

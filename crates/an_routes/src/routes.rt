@@ -2,16 +2,16 @@ ghost use Rattle.std.specs.Prelude.{◌≡◌, IfOk, Ok, Some, option_and_then};
 ghost use Rattle.an_base.specs.Outcome.{Gives};
 ghost use Rattle.an_complete.specs.Ask.{ask_of};
 ghost use Rattle.an_search.specs.Query.{query_of};
-ghost use Rattle.an_app.specs.Query.{given_of, reads_nothing, reads_page, reads_page_and_iris};
-ghost use Rattle.an_app.specs.Query.{reads_page_and_region};
-ghost use Rattle.an_app.specs.Routes.{path_named, path_owned, path_alone, path_within, path_of};
-ghost use Rattle.an_app.specs.Routes.{container_path, canvas_path, methods_at, object_methods};
-ghost use Rattle.an_app.specs.Routes.{changes_read, container_at, container_read, canvas_read};
-ghost use Rattle.an_app.specs.Routes.{verb_of, put_reads, manifest_put, note_put, put_with, put_of};
-ghost use Rattle.an_app.specs.Routes.{deletion, deletion_of, written, unwritten, put_at, delete_at};
-ghost use Rattle.an_app.specs.Routes.{searched, query_refused, completed, ask_refused, unread};
-ghost use Rattle.an_app.specs.Routes.{shown, object_read, read_at, route_at, route_to, route_of};
-ghost use Rattle.an_app.specs.Target.{segments_of};
+ghost use Rattle.an_routes.specs.Query.{given_of, reads_nothing, reads_page, reads_page_and_iris};
+ghost use Rattle.an_routes.specs.Query.{reads_page_and_region};
+ghost use Rattle.an_routes.specs.Routes.{path_named, path_owned, path_alone, path_within, path_of};
+ghost use Rattle.an_routes.specs.Routes.{container_path, canvas_path, methods_at, object_methods};
+ghost use Rattle.an_routes.specs.Routes.{changes_read, container_at, container_read, canvas_read};
+ghost use Rattle.an_routes.specs.Routes.{verb_of, put_reads, manifest_put, note_put, put_with, put_of};
+ghost use Rattle.an_routes.specs.Routes.{deletion, deletion_of, written, unwritten, put_at, delete_at};
+ghost use Rattle.an_routes.specs.Routes.{searched, query_refused, completed, ask_refused, unread};
+ghost use Rattle.an_routes.specs.Routes.{shown, object_read, read_at, route_at, route_to, route_of};
+ghost use Rattle.an_routes.specs.Target.{segments_of};
 
 use crate::kinds::{Path, Read, Route, RouteError, Verb, WriteRoute};
 use crate::query::{

@@ -20,24 +20,24 @@ use Rattle.an_search.specs.Query.{QueryRecord, query_of}
 use Rattle.an_search.specs.declared.pairs.Pair.{Pair}
 use Rattle.an_search.specs.declared.query.QueryError.{QueryError}
 use Rattle.an_search.specs.declared.query.QueryError.TheVariants as no_query
-use Rattle.an_app.specs.Query.{given_of, version_of, manifest_of, group_of, name_in, reads_nothing}
-use Rattle.an_app.specs.Query.{reads_version, reads_version_and_group, reads_all, reads_page}
-use Rattle.an_app.specs.Query.{reads_page_and_iris, reads_page_and_region, page_of, iris_of}
-use Rattle.an_app.specs.Query.{and_then, region_of}
-use Rattle.an_app.specs.Target.{target_parts, segments_of}
-use Rattle.an_app.specs.declared.kinds.Path.{Path}
-use Rattle.an_app.specs.declared.kinds.Path.TheVariants as path
-use Rattle.an_app.specs.declared.kinds.Verb.{Verb}
-use Rattle.an_app.specs.declared.kinds.Verb.TheVariants as verb
-use Rattle.an_app.specs.declared.kinds.Read.{Read}
-use Rattle.an_app.specs.declared.kinds.Read.TheVariants as read
-use Rattle.an_app.specs.declared.kinds.WriteRoute.{WriteRoute}
-use Rattle.an_app.specs.declared.kinds.WriteRoute.TheVariants.{PutReader, DropReader, PutManifest}
-use Rattle.an_app.specs.declared.kinds.WriteRoute.TheVariants.{DropManifest, PutNote, DropNote}
-use Rattle.an_app.specs.declared.kinds.Route.{Route}
-use Rattle.an_app.specs.declared.kinds.Route.TheVariants as route
-use Rattle.an_app.specs.declared.kinds.RouteError.{RouteError}
-use Rattle.an_app.specs.declared.kinds.RouteError.TheVariants as error
+use Rattle.an_routes.specs.Query.{given_of, version_of, manifest_of, group_of, name_in, reads_nothing}
+use Rattle.an_routes.specs.Query.{reads_version, reads_version_and_group, reads_all, reads_page}
+use Rattle.an_routes.specs.Query.{reads_page_and_iris, reads_page_and_region, page_of, iris_of}
+use Rattle.an_routes.specs.Query.{and_then, region_of}
+use Rattle.an_routes.specs.Target.{target_parts, segments_of}
+use Rattle.an_routes.specs.declared.kinds.Path.{Path}
+use Rattle.an_routes.specs.declared.kinds.Path.TheVariants as path
+use Rattle.an_routes.specs.declared.kinds.Verb.{Verb}
+use Rattle.an_routes.specs.declared.kinds.Verb.TheVariants as verb
+use Rattle.an_routes.specs.declared.kinds.Read.{Read}
+use Rattle.an_routes.specs.declared.kinds.Read.TheVariants as read
+use Rattle.an_routes.specs.declared.kinds.WriteRoute.{WriteRoute}
+use Rattle.an_routes.specs.declared.kinds.WriteRoute.TheVariants.{PutReader, DropReader, PutManifest}
+use Rattle.an_routes.specs.declared.kinds.WriteRoute.TheVariants.{DropManifest, PutNote, DropNote}
+use Rattle.an_routes.specs.declared.kinds.Route.{Route}
+use Rattle.an_routes.specs.declared.kinds.Route.TheVariants as route
+use Rattle.an_routes.specs.declared.kinds.RouteError.{RouteError}
+use Rattle.an_routes.specs.declared.kinds.RouteError.TheVariants as error
 
 -- ---- the table of paths
 

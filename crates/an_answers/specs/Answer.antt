@@ -40,9 +40,9 @@ use Rattle.an_search.specs.declared.searching.AskError.{AskError}
 use Rattle.an_search.specs.declared.searching.AskError.TheVariants as ask
 use Rattle.an_complete.specs.Complete.{complete_of}
 use Rattle.an_complete.specs.declared.completion.CompleteError.{CompleteError}
-use Rattle.an_app.specs.Routes.{read_methods}
-use Rattle.an_app.specs.declared.kinds.Read.{Read}
-use Rattle.an_app.specs.declared.kinds.Read.TheVariants as read
+use Rattle.an_routes.specs.Routes.{read_methods}
+use Rattle.an_routes.specs.declared.kinds.Read.{Read}
+use Rattle.an_routes.specs.declared.kinds.Read.TheVariants as read
 
 -- ---- refusals
 

@@ -1,8 +1,7 @@
-ghost use Rattle.std.specs.Prelude.{◌≡◌, ◌==◌, IfOk, map, option_map};
+ghost use Rattle.std.specs.Prelude.{◌≡◌, ◌<◌, ◌==◌, IfOk, map, option_map};
 ghost use Rattle.std.specs.List.{slice_split};
-ghost use Rattle.an_app.specs.Target.{target_parts, segments_of};
+ghost use Rattle.an_routes.specs.Target.{cut_at, target_parts, segments_of};
 
-use crate::line::cut;
 use an_base::Text;
 use an_search::escaped_text;
 use std::alloc::{AllocError, Global};
@@ -45,4 +44,13 @@ fn pieces(alloc: Global, path: &str) -> Result<Vec<&str>, AllocError>
     ensures { IfOk result (λ v. map (λ x. x.now) v.items ≡ slice_split (λ b. b == 47) path.now) }
 {
     path.split('/').collect(alloc)
+}
+
+/// What stands before the first such sign, which is ASCII, and what behind it; nothing where there
+/// is no such sign.
+pub fn cut(text: &str, sign: char) -> Option<(&str, &str)>
+    requires ascii { sign < 128 }
+    ensures cut { option_map (λ p. (p.0.now, p.1.now)) result ≡ cut_at sign text.now }
+{
+    text.split_once(sign)
 }

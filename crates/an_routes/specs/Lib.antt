@@ -1,0 +1,3 @@
+pub mod Target
+pub mod Query
+pub mod Routes
