@@ -15,14 +15,12 @@ use Rattle.an_http.specs.declared.reply.Reply.{Reply}
 use Rattle.an_http.specs.declared.status.Status.{Status}
 use Rattle.an_http.specs.declared.status.Status.TheVariants as status
 use Rattle.an_manifest.specs.Dress.{manifest_iri}
-use Rattle.an_machine.specs.State.{State, who_of}
-use Rattle.an_machine.specs.View.{View, view_for}
+use Rattle.an_machine.specs.View.{View}
 use Rattle.an_machine.specs.declared.command.Object.{Object}
 use Rattle.an_machine.specs.declared.command.Object.TheVariants as object
 use Rattle.an_machine.specs.declared.command.Refused.{Refused}
 use Rattle.an_machine.specs.declared.command.Refused.TheVariants as refused
 use Rattle.an_machine.specs.declared.command.WriteReply.{WriteReply}
-use Rattle.an_policy.specs.declared.who.Caller.{Caller}
 use Rattle.an_base.specs.declared.span.Prefer.{Prefer}
 use Rattle.an_selectors.specs.declared.region.Xywh.{Xywh}
 use Rattle.an_pages.specs.Bodies.{manifest_of_view, annotation_of_view}
@@ -147,10 +145,6 @@ read_reply site view prefer (read.ContainerPage manifest page iris) =
 read_reply site view prefer read.Changes = changes_reply (changes_of site view)
 read_reply site view prefer (read.ChangesPage page) =
     changes_page_reply (changes_page_of site view page)
-
--- the view of a caller, at a state
-abbrev pub view_by : State → Caller → View
-view_by s caller = view_for s (who_of s caller)
 
 -- nobody is asked to sign, before all else
 abbrev pub unless_nobody : View → Allow → Reply → Reply

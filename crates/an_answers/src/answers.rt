@@ -1,11 +1,11 @@
 ghost use Rattle.std.specs.Prelude.{◌≡◌, ◌<◌, ◌++◌, Err, IfOk, codes, string_bytes};
 ghost use Rattle.an_stream.specs.Stream.{changes_of, changes_page_of};
 ghost use Rattle.an_policy.specs.Audience.{identity};
-ghost use Rattle.an_machine.specs.View.{view_of};
+ghost use Rattle.an_machine.specs.View.{view_of, view_by};
 ghost use Rattle.an_pages.specs.Bodies.{manifest_of_view, annotation_of_view};
 ghost use Rattle.an_search.specs.Search.{search_of};
 ghost use Rattle.an_complete.specs.Complete.{complete_of};
-ghost use Rattle.an_answers.specs.Answer.{view_by, challenge, refusal_reply, shown_reply, page_refusal};
+ghost use Rattle.an_answers.specs.Answer.{challenge, refusal_reply, shown_reply, page_refusal};
 ghost use Rattle.an_answers.specs.Answer.{manifest_reply, note_reply, search_reply, completion_reply};
 ghost use Rattle.an_answers.specs.Answer.{with_iris, page_reply, changes_reply, changes_page_reply};
 ghost use Rattle.an_answers.specs.Answer.{read_reply, answer_of, query_answer, object_iri, bool_text, write_text};

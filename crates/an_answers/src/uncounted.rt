@@ -1,5 +1,6 @@
 ghost use Rattle.std.specs.Prelude.{◌≡◌, ◌<◌, IfOk};
-ghost use Rattle.an_answers.specs.Answer.{answer_of, view_by};
+ghost use Rattle.an_answers.specs.Answer.{answer_of};
+ghost use Rattle.an_machine.specs.View.{view_by};
 
 use crate::answers::answer;
 use an_base::{Prefer, Steps};

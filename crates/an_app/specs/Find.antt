@@ -11,7 +11,8 @@ use Rattle.an_policy.specs.declared.who.Caller.TheVariants as caller
 use Rattle.an_machine.specs.State.{State, empty}
 use Rattle.an_search.specs.Site.{Site}
 use Rattle.an_base.specs.declared.span.Prefer.{Prefer}
-use Rattle.an_answers.specs.Answer.{answer_of, query_answer, view_by}
+use Rattle.an_answers.specs.Answer.{answer_of, query_answer}
+use Rattle.an_machine.specs.View.{view_by}
 use Rattle.an_app.specs.Asked.{asked_of}
 use Rattle.an_app.specs.Input.{input_limit}
 use Rattle.an_app.specs.Split.{lines_of}

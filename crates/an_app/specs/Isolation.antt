@@ -4,7 +4,7 @@ use Rattle.an_base.specs.declared.code.Code.{Code}
 use Rattle.an_http.specs.declared.request.Request.{Request}
 use Rattle.an_machine.specs.State.{State}
 use Rattle.an_policy.specs.declared.who.Caller.{Caller}
-use Rattle.an_answers.specs.Answer.{view_by}
+use Rattle.an_machine.specs.View.{view_by}
 use Rattle.an_app.specs.Find.{reader}
 use Rattle.an_app.specs.Respond.{caller_of}
 use Rattle.an_app.specs.declared.asked.Asked.{Asked}

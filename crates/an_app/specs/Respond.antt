@@ -13,13 +13,13 @@ use Rattle.an_http.specs.declared.request.Auth.TheVariants as auth
 use Rattle.an_http.specs.declared.request.Request.{Request}
 use Rattle.an_http.specs.declared.status.Status.TheVariants as status
 use Rattle.an_machine.specs.State.{State}
-use Rattle.an_machine.specs.View.{View}
+use Rattle.an_machine.specs.View.{View, view_by}
 use Rattle.an_machine.specs.declared.command.Command.{Command}
 use Rattle.an_policy.specs.declared.who.Caller.{Caller}
 use Rattle.an_policy.specs.declared.who.Caller.TheVariants as caller
 use Rattle.an_search.specs.Site.{Site}
 use Rattle.an_base.specs.declared.span.Prefer.{Prefer}
-use Rattle.an_answers.specs.Answer.{answer_of, not_signed, query_answer, refusal_reply, view_by}
+use Rattle.an_answers.specs.Answer.{answer_of, not_signed, query_answer, refusal_reply}
 use Rattle.an_app.specs.Asked.{command_of}
 use Rattle.an_routes.specs.Routes.{read_methods, route_of, write_methods}
 use Rattle.an_routes.specs.declared.kinds.Read.{Read}

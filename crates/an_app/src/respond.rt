@@ -1,6 +1,7 @@
 ghost use Rattle.std.specs.Prelude.{◌≡◌, IfOk, Ok, Err};
 ghost use Rattle.an_search.specs.Site.{Site};
-ghost use Rattle.an_answers.specs.Answer.{refusal_reply, view_by};
+ghost use Rattle.an_answers.specs.Answer.{refusal_reply};
+ghost use Rattle.an_machine.specs.View.{view_by};
 ghost use Rattle.an_app.specs.Respond.{caller_of, is_read, options_reply};
 ghost use Rattle.an_app.specs.Respond.{query_reply, query_response, read_response, response_of};
 ghost use Rattle.an_app.specs.Respond.{route_response, write_response};

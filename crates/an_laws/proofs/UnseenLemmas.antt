@@ -33,7 +33,8 @@ use Rattle.an_machine.specs.declared.entry.Row.{Row}
 use Rattle.an_machine.specs.declared.entry.Row.TheVariants as kept
 use Rattle.an_machine.proofs.DistinctLemmas.{distinct-put_row}
 use Rattle.an_machine.proofs.ViewLemmas.{same_key-equal}
-use Rattle.an_laws.specs.Isolation.{reads_as, activities_in, IsUnseen, AreUnseen, view_by}
+use Rattle.an_laws.specs.Isolation.{reads_as, activities_in, IsUnseen, AreUnseen}
+use Rattle.an_machine.specs.View.{view_by}
 use Rattle.an_laws.proofs.BurialLemmas.{left_state}
 use Rattle.an_laws.proofs.CallerLemmas.{caller-after}
 use Rattle.an_laws.proofs.DropLemmas.{with_rows-tombstone}

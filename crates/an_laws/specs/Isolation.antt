@@ -10,7 +10,7 @@ use Rattle.an_policy.specs.declared.who.Caller.TheVariants.{Anonymous, Operator,
 use Rattle.an_machine.specs.Entries.{after}
 use Rattle.an_machine.specs.Legal.{Write}
 use Rattle.an_machine.specs.State.{State, KeptReader, KeptNote, reader_row, who_of}
-use Rattle.an_machine.specs.View.{View, view_for, seen_by}
+use Rattle.an_machine.specs.View.{seen_by, view_by}
 use Rattle.an_machine.specs.declared.activity.Activity.{Activity}
 use Rattle.an_machine.specs.declared.command.Decided.{Decided}
 use Rattle.an_machine.specs.declared.command.Object.{Object}
@@ -21,10 +21,6 @@ use Rattle.an_machine.specs.declared.entry.Entry.{Entry}
 use Rattle.an_machine.specs.declared.entry.Entry.TheVariants.{Restored, Done}
 use Rattle.an_machine.specs.declared.entry.Row.{Row}
 use Rattle.an_machine.specs.declared.entry.Row.TheVariants as kept
-
--- what the caller may read
-abbrev pub view_by : State → Caller → View
-view_by s caller = view_for s (who_of s caller)
 
 -- ---- what an entry adds
 

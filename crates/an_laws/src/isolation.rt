@@ -1,7 +1,8 @@
 ghost use Rattle.std.specs.Prelude.{◌≡◌, ℤ, IsTrue, List};
 ghost use Rattle.an_policy.specs.declared.who.Caller.{Caller};
 ghost use Rattle.an_laws.specs.Isolation.{IsUnseen, AreUnseen, LookAlike};
-ghost use Rattle.an_laws.specs.Isolation.{answer_of, is_note, leaves_caller, view_by};
+ghost use Rattle.an_laws.specs.Isolation.{answer_of, is_note, leaves_caller};
+ghost use Rattle.an_machine.specs.View.{view_by};
 ghost use Rattle.an_machine.specs.Asked.{object_of};
 ghost use Rattle.an_machine.specs.Entries.{after};
 ghost use Rattle.an_machine.specs.Legal.{Accepts, Legal, Write, state_of};

@@ -5,8 +5,9 @@ use Rattle.std.specs.List.{filter_map, last_or}
 use Rattle.an_keyed.specs.Key.{Key, same_key}
 use Rattle.an_policy.specs.declared.group.Audience.{Audience}
 use Rattle.an_policy.specs.declared.group.Group.TheVariants.{Public}
+use Rattle.an_policy.specs.declared.who.Caller.{Caller}
 use Rattle.an_policy.specs.Audience.{Identity, anonymous, may}
-use Rattle.an_machine.specs.State.{State, KeptManifest, KeptNote, LiveNote, manifest_row}
+use Rattle.an_machine.specs.State.{State, KeptManifest, KeptNote, LiveNote, manifest_row, who_of}
 use Rattle.an_base.specs.Outcome.{passes}
 use Rattle.an_policy.specs.Seen.{as_seen}
 use Rattle.an_policy.specs.declared.kind.Kind.{Kind}
@@ -97,6 +98,10 @@ view_of s who = record {
 abbrev pub view_for : State → Option Identity → View
 view_for s (Some who) = view_of s who
 view_for s None = record (view_of s anonymous) { who = None }
+
+-- the view of a caller
+abbrev pub view_by : State → Caller → View
+view_by s caller = view_for s (who_of s caller)
 
 -- the manifest of this name in the view
 abbrev pub manifest_in : View → List ℕ → Option KeptManifest

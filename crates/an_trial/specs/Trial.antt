@@ -7,10 +7,10 @@ use Rattle.an_complete.specs.Ask.{AskRecord, ask_of}
 use Rattle.an_complete.specs.Complete.{asked_terms}
 use Rattle.an_complete.specs.declared.ask.QueryAskError.{QueryAskError}
 use Rattle.an_machine.specs.Entries.{state_after}
-use Rattle.an_machine.specs.State.{State, empty, who_of}
+use Rattle.an_machine.specs.State.{State, empty}
 use Rattle.an_machine.specs.Step.{step}
 use Rattle.an_machine.specs.Terms.{ascending}
-use Rattle.an_machine.specs.View.{View, view_for}
+use Rattle.an_machine.specs.View.{View, view_by}
 use Rattle.an_policy.specs.declared.who.Caller.{Caller}
 use Rattle.an_policy.specs.declared.who.Caller.TheVariants.{Anonymous, Named}
 use Rattle.an_search.specs.Query.{QueryRecord, query_of}
@@ -34,10 +34,6 @@ unfoldable pub trial_state : ℕ → ℕ → State
 trial_state count seed = fold state_behind empty (writes count seed)
 
 -- ---- what is counted in it
-
--- what the caller may read
-abbrev pub view_by : State → Caller → View
-view_by s caller = view_for s (who_of s caller)
 
 -- how many annotations a search finds
 abbrev pub found_if : View → Result QueryRecord QueryError → ℕ

@@ -1,8 +1,8 @@
 //! The nine lines of a trial.
 ghost use Rattle.std.specs.Prelude.{◌≡◌, ◌<◌, ◌++◌, IfOk, flat_map, map, string_bytes};
 ghost use Rattle.an_policy.specs.Audience.{identity};
-ghost use Rattle.an_machine.specs.View.{view_of};
-ghost use Rattle.an_trial.specs.Trial.{first_line, report_of, totals_text, trial_text, view_by};
+ghost use Rattle.an_machine.specs.View.{view_of, view_by};
+ghost use Rattle.an_trial.specs.Trial.{first_line, report_of, totals_text, trial_text};
 ghost use Rattle.an_trial.specs.Trial.{word_line, word_query};
 
 use crate::names::name;
