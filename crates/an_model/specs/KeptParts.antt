@@ -1,5 +1,5 @@
 -- For private clauses: what a row keeps of an annotation beside its text.
-use Rattle.std.specs.Prelude.{◌≡◌, true, None, IsTrue}
+use Rattle.std.specs.Prelude.{◌≡◌, true, None, IsTrue, map}
 use Rattle.std.specs.Arc.{arc_value}
 use Rattle.an_base.specs.Cut.{members_in}
 use Rattle.an_base.specs.TextSet.{distinct}
@@ -7,7 +7,7 @@ use Rattle.an_base.specs.Tree.{is_tree}
 use Rattle.an_model.specs.Bodies.{iris_of, note_terms}
 use Rattle.an_model.specs.Note.{note_refusal, is_bare, motivations_of}
 use Rattle.an_model.specs.Served.{HasCuts}
-use Rattle.an_model.specs.Targets.{sources_of}
+use Rattle.an_model.specs.Targets.{kept_target, targets_of}
 use Rattle.an_model.specs.declared.kept.KeptNote.TheInside.{Inside}
 
 pub record KeepsTexts (k : Inside) : Type 0 where
@@ -18,4 +18,4 @@ pub record KeepsTexts (k : Inside) : Type 0 where
   pub terms : (arc_value k.parts).terms ≡ distinct (note_terms k.tree)
   pub motivations : (arc_value k.parts).motivations ≡ distinct (motivations_of k.tree)
   pub iris : (arc_value k.parts).iris ≡ distinct (iris_of k.tree)
-  pub sources : (arc_value k.parts).sources ≡ distinct (sources_of k.tree)
+  pub targets : (arc_value k.parts).targets ≡ map kept_target (targets_of k.tree)

@@ -1,5 +1,5 @@
 -- What an annotation is about (Web Annotation Data Model, sections 3.2 and 4).
-use Rattle.std.specs.Prelude.{ℕ, List, [], ◌∷◌, ◌==◌, Bool, true, false, length, map, nat_lt, codes}
+use Rattle.std.specs.Prelude.{ℕ, List, [], ◌∷◌, ◌==◌, Bool, true, false, length, nat_lt, codes}
 use Rattle.std.specs.Prelude.{is_none, is_some, if◌then◌else◌, Option, Some, None, option_map}
 use Rattle.std.specs.Prelude.{option_and_then}
 use Rattle.std.specs.List.{before_first, after_first, filter_map}
@@ -14,6 +14,7 @@ use Rattle.an_selectors.specs.Selector.{selector_of}
 use Rattle.an_selectors.specs.declared.selector.Selector.{Selector}
 use Rattle.an_selectors.specs.declared.selector.Selector.TheVariants.{Fragment, Quote, Position}
 use Rattle.an_selectors.specs.declared.selector.Selector.TheVariants.{Other}
+use Rattle.an_model.specs.declared.kept.KeptTarget.{KeptTarget}
 use Rattle.an_model.specs.declared.target.Target.{Target}
 
 -- ---- a resource
@@ -109,6 +110,7 @@ bad_selector tree = first_bad has_good_selectors (target_trees tree)
 unfoldable pub targets_of : Data → List Target
 targets_of tree = filter_map target_of (items_list (target_trees tree))
 
--- the IRIs of the sources, in the order of the targets
-unfoldable pub sources_of : Data → List (List ℕ)
-sources_of tree = map (λ target. target.source) (targets_of tree)
+-- ---- what a row keeps of a target
+
+abbrev pub kept_target : Target → KeptTarget
+kept_target target = record { source = target.source; region = target.region }

@@ -7,13 +7,14 @@ ghost use Rattle.an_base.specs.Tree.{is_tree};
 ghost use Rattle.an_model.specs.Bodies.{iris_of, note_terms};
 ghost use Rattle.an_model.specs.Note.{is_bare, motivations_of, note_refusal};
 ghost use Rattle.an_model.specs.Served.{HasCuts};
-ghost use Rattle.an_model.specs.Targets.{sources_of};
+ghost use Rattle.an_model.specs.Targets.{kept_target, targets_of};
 
 use crate::cuts::{CutText, Cuts, cut_text};
 use crate::note::{Note, note_over};
 use crate::occurrence::NoteOccurrence;
 use crate::target::Target;
-use an_base::{KeptTree, TextSet, Tree, TryCopy};
+use an_base::{KeptTree, List, Text, TextSet, Tree, TryCopy};
+use an_selectors::Xywh;
 use serde_json::Value;
 use std::alloc::{AllocError, Global};
 use std::marker::Model;
@@ -27,6 +28,15 @@ pub struct KeptNote {
     parts: Arc<NoteParts>,
 }
 
+/// What is kept of a target: which part of what it is about.
+#[derive(Debug, Drop)]
+pub struct KeptTarget {
+    /// The IRI of the resource, up to its first `#`.
+    pub source: Text,
+    /// The region of an image, where the target names one.
+    pub region: Option<Xywh>,
+}
+
 /// What is kept of an annotation beside its text.
 #[derive(Debug, Drop)]
 pub(crate) struct NoteParts {
@@ -34,7 +44,7 @@ pub(crate) struct NoteParts {
     pub(crate) terms: TextSet,
     pub(crate) motivations: TextSet,
     pub(crate) iris: TextSet,
-    pub(crate) sources: TextSet,
+    pub(crate) targets: List<KeptTarget>,
 }
 
 impl Model for KeptNote {
@@ -110,11 +120,11 @@ impl KeptNote {
         self.parts.iris.has(iri)
     }
 
-    /// Whether this is the IRI of the source of one of its targets.
-    pub fn has_source(&self, source: &str) -> bool
-        ensures found { result ≡ has_text source.now (sources_of self.now) }
+    /// The source and the region of each of its targets, in their order.
+    pub fn targets(&self) -> &[KeptTarget]
+        ensures targets { result.now ≡ map kept_target (targets_of self.now) }
     {
-        self.parts.sources.has(source)
+        self.parts.targets.as_slice()
     }
 
     pub(crate) fn kept_tree(&self) -> &KeptTree
@@ -169,18 +179,18 @@ fn note_parts(alloc: Global, note: &Note, cuts: Cuts) -> Result<NoteParts, Alloc
     ensures terms { IfOk result (λ p. p.terms ≡ distinct (note_terms note.now)) }
     ensures motivations { IfOk result (λ p. p.motivations ≡ distinct (motivations_of note.now)) }
     ensures iris { IfOk result (λ p. p.iris ≡ distinct (iris_of note.now)) }
-    ensures sources { IfOk result (λ p. p.sources ≡ distinct (sources_of note.now)) }
+    ensures targets { IfOk result (λ p. p.targets ≡ map kept_target (targets_of note.now)) }
 {
     let terms = terms_among(alloc, note.occurrences())?;
     let motivations = TextSet::of(alloc, note.motivations())?;
     let iris = TextSet::of(alloc, note.iris())?;
-    let sources = sources_among(alloc, note.targets())?;
+    let targets = kept_targets(alloc, note.targets())?;
     Ok(NoteParts {
         cuts,
         terms,
         motivations,
         iris,
-        sources,
+        targets,
     })
 }
 
@@ -194,12 +204,21 @@ fn terms_among(alloc: Global, occurrences: &[NoteOccurrence]) -> Result<TextSet,
     Ok(terms.shrunk())
 }
 
-fn sources_among(alloc: Global, targets: &[Target]) -> Result<TextSet, AllocError>
-    ensures { IfOk result (λ sources. sources ≡ distinct (map (λ t. t.source) targets.now)) }
+fn kept_targets(alloc: Global, targets: &[Target]) -> Result<List<KeptTarget>, AllocError>
+    ensures { IfOk result (λ kept. kept ≡ map kept_target targets.now) }
 {
-    let mut sources = TextSet::new(alloc);
+    let mut kept = Vec::with_capacity(alloc, targets.len())?;
     for target in targets {
-        sources = sources.with(target.source.as_str())?;
+        kept.push(kept_target(target)?)?;
     }
-    Ok(sources.shrunk())
+    Ok(List::from_vec(kept))
+}
+
+fn kept_target(target: &Target) -> Result<KeptTarget, AllocError>
+    ensures { IfOk result (λ kept. kept ≡ kept_target target.now) }
+{
+    Ok(KeptTarget {
+        source: target.source.copy()?,
+        region: target.region,
+    })
 }

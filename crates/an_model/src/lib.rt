@@ -2,7 +2,7 @@
 #![tactic(auto)]
 
 pub use dressed::dress;
-pub use kept::KeptNote;
+pub use kept::{KeptNote, KeptTarget};
 pub use note::{Note, read_note};
 pub use occurrence::NoteOccurrence;
 pub use refusal::{NoteError, note_refusal};

@@ -32,8 +32,11 @@ row-inside : overlap (region 3 3 1 1) (region 0 0 10 10) ≡ true
 unfolding region
 row-inside = refl
 
-row-whole_canvas : meets (region 3 3 1 1) None ≡ true
+row-whole_canvas : meets (Some (region 3 3 1 1)) None ≡ true
 row-whole_canvas = refl
+
+row-no_region_asked : meets None (Some (region 3 3 1 1)) ≡ true
+row-no_region_asked = refl
 
 -- ---- canvases
 

@@ -7,9 +7,8 @@ use Rattle.serde_json.specs.Data.{Data, no_items}
 use Rattle.serde_json.specs.View.{items_of}
 use Rattle.serde_json.specs.Written.{compact_text}
 use Rattle.an_base.specs.Outcome.{passes}
-use Rattle.an_base.specs.TextSet.{has_text}
 use Rattle.an_selectors.specs.declared.region.Xywh.{Xywh}
-use Rattle.an_model.specs.Targets.{sources_of, targets_of}
+use Rattle.an_model.specs.Targets.{kept_target}
 use Rattle.an_model.specs.declared.target.Target.{Target}
 use Rattle.an_policy.specs.Audience.{Identity}
 use Rattle.an_machine.specs.State.{State, KeptNote}
@@ -20,24 +19,15 @@ use Rattle.an_search.specs.Listed.{listed_note}
 use Rattle.an_search.specs.Page.{list_page, page_count, page_of}
 use Rattle.an_search.specs.Site.{Site}
 use Rattle.an_search.specs.declared.page.Whole.{Whole}
-use Rattle.an_pages.specs.Canvas.{is_about, is_row_about, is_target_in, meets, notes_about, notes_text, passes_at, presentation_context}
+use Rattle.an_pages.specs.Canvas.{is_kept_in, is_row_about, is_target_in, notes_about, notes_text, passes_at, presentation_context}
 use Rattle.an_pages.specs.declared.error.PageError.TheVariants.{NoPage}
 
 -- ---- what is about a canvas
 
-no_more : (on meets some others : Bool) → (some ≡ false → others ≡ false) → (on || some) ≡ false → ((on && meets) || others) ≡ false
-no_more true meets some others rest none = absurd (cc)
-no_more false meets some others rest none = rest none
-
--- where no target is on the canvas, none is in a region of it
-none_in : (canvas : List ℕ) (asked : Xywh) (targets : List Target) → has_text canvas (map (λ target. target.source) targets) ≡ false → list_any (is_target_in canvas asked) targets ≡ false
-none_in canvas asked [] none = refl
-none_in canvas asked (target ∷ targets) none = no_more (bytes_eq target.source canvas) (meets asked target.region) _ _ (none_in canvas asked targets) none
-
-pub not_about : (canvas : List ℕ) (region : Option Xywh) (tree : Data) → has_text canvas (sources_of tree) ≡ false → false ≡ is_about canvas region tree
-unfolding sources_of
-not_about canvas None tree none = sym none
-not_about canvas (Some asked) tree none = sym (none_in canvas asked (targets_of tree) none)
+-- what is kept of the targets tells whether one of them is on the canvas
+pub kept_about : (canvas : List ℕ) (asked : Option Xywh) (targets : List Target) → list_any (is_kept_in canvas asked) (map kept_target targets) ≡ list_any (is_target_in canvas asked) targets
+kept_about canvas asked [] = refl
+kept_about canvas asked (target ∷ targets) = ap (λ others. is_target_in canvas asked target || others) (kept_about canvas asked targets)
 
 -- ---- at places
 

@@ -8,9 +8,9 @@ use Rattle.serde_json.specs.Data.{Data, no_items}
 use Rattle.serde_json.specs.View.{items_of}
 use Rattle.serde_json.specs.Written.{compact_text}
 use Rattle.an_base.specs.Outcome.{or_refuse, passes}
-use Rattle.an_base.specs.TextSet.{has_text}
 use Rattle.an_selectors.specs.declared.region.Xywh.{Xywh}
-use Rattle.an_model.specs.Targets.{sources_of, targets_of}
+use Rattle.an_model.specs.Targets.{targets_of}
+use Rattle.an_model.specs.declared.kept.KeptTarget.{KeptTarget}
 use Rattle.an_model.specs.declared.target.Target.{Target}
 use Rattle.an_manifest.specs.Manifest.{canvases_of}
 use Rattle.an_machine.specs.State.{KeptManifest, KeptNote}
@@ -32,21 +32,22 @@ cross start size other other_size = nat_lt start (other + other_size) && nat_lt 
 abbrev pub overlap : Xywh → Xywh → Bool
 overlap one other = cross one.x one.w other.x other.w && cross one.y one.h other.y other.h
 
--- what has no region is about the whole canvas, and so about each region of it
-abbrev pub meets : Xywh → Option Xywh → Bool
-meets asked None = true
-meets asked (Some region) = overlap asked region
+-- all meets where no region is asked for; what has no region is about the whole canvas, and so about
+-- each region of it
+abbrev pub meets : Option Xywh → Option Xywh → Bool
+meets None region = true
+meets (Some asked) None = true
+meets (Some asked) (Some region) = overlap asked region
 
 -- ---- what is on a canvas
 
--- the target is on the canvas, and meets the region
-abbrev pub is_target_in : List ℕ → Xywh → Target → Bool
+-- the target is on the canvas; where a region is asked for, it meets that
+abbrev pub is_target_in : List ℕ → Option Xywh → Target → Bool
 is_target_in canvas asked target = bytes_eq target.source canvas && meets asked target.region
 
--- one of the targets is on the canvas; where a region is asked for, it meets that
+-- one of the targets is
 abbrev pub is_about : List ℕ → Option Xywh → Data → Bool
-is_about canvas None tree = has_text canvas (sources_of tree)
-is_about canvas (Some asked) tree = list_any (is_target_in canvas asked) (targets_of tree)
+is_about canvas asked tree = list_any (is_target_in canvas asked) (targets_of tree)
 
 abbrev pub is_row_about : List ℕ → Option Xywh → KeptNote → Bool
 is_row_about canvas region row = passes (λ live. is_about canvas region live.tree) row.live
@@ -113,6 +114,10 @@ canvas_page_of site view name canvas region page =
     (notes_about view name id region))
 
 -- ---- for private clauses
+
+-- the same of what is kept of a target
+abbrev pub is_kept_in : List ℕ → Option Xywh → KeptTarget → Bool
+is_kept_in canvas asked kept = bytes_eq kept.source canvas && meets asked kept.region
 
 -- there is an annotation at the place, and it passes the test
 abbrev pub passes_at : (KeptNote → Bool) → List KeptNote → ℕ → Bool

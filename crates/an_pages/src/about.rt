@@ -46,7 +46,7 @@ fn places_among<T: Look, L: Ledger>(
 {
     let mut found = Vec::new(alloc);
     for place in places {
-        if is_place_about(alloc, look, *place, canvas, region, steps)? {
+        if is_place_about(look, *place, canvas, region, steps) {
             found.push(*place)?;
         }
     }
@@ -55,54 +55,32 @@ fn places_among<T: Look, L: Ledger>(
 
 /// Whether there is an annotation at the place, and it is about the canvas or the region of it.
 fn is_place_about<T: Look, L: Ledger>(
-    alloc: Global,
     look: &T,
     place: usize,
     canvas: &str,
     region: Option<Xywh>,
     steps: &mut Steps<L>,
-) -> Result<bool, AllocError>
-    ensures { IfOk result (λ found. found
-        ≡ passes_at (is_row_about canvas.now region) (T.state look.now).notes place) }
+) -> bool
+    ensures { result ≡ passes_at (is_row_about canvas.now region) (T.state look.now).notes place }
 {
     match look.note_at(place, steps) {
-        Some(row) => is_row_about(alloc, row, canvas, region),
-        None => Ok(false),
+        Some(row) => is_row_about(row, canvas, region),
+        None => false,
     }
 }
 
-fn is_row_about(
-    alloc: Global,
-    row: &NoteRow,
-    canvas: &str,
-    region: Option<Xywh>,
-) -> Result<bool, AllocError>
-    ensures { IfOk result (λ about. about ≡ is_row_about canvas.now region row.now) }
+fn is_row_about(row: &NoteRow, canvas: &str, region: Option<Xywh>) -> bool
+    ensures { result ≡ is_row_about canvas.now region row.now }
 {
     match row.live() {
-        Some(live) => is_about(alloc, live.tree, canvas, region),
-        None => Ok(false),
+        Some(live) => is_about(live.tree, canvas, region),
+        None => false,
     }
 }
 
-/// Whether one of the targets is on the canvas and, where a region is asked for, meets that. Only
-/// an annotation on the canvas is read back.
-fn is_about(
-    alloc: Global,
-    note: &KeptNote,
-    canvas: &str,
-    region: Option<Xywh>,
-) -> Result<bool, AllocError>
-    ensures { IfOk result (λ about. about ≡ is_about canvas.now region note.now) }
+/// Whether one of the targets is on the canvas and, where a region is asked for, meets that.
+fn is_about(note: &KeptNote, canvas: &str, region: Option<Xywh>) -> bool
+    ensures { result ≡ is_about canvas.now region note.now }
 {
-    if !note.has_source(canvas) {
-        return Ok(false);
-    }
-    match region {
-        Some(asked) => {
-            let note = note.note(alloc)?;
-            Ok(has_target_in(note.targets(), canvas, asked))
-        }
-        None => Ok(true),
-    }
+    has_target_in(note.targets(), canvas, region)
 }

@@ -1,33 +1,33 @@
 ghost use Rattle.std.specs.Prelude.{◌≡◌};
 ghost use Rattle.std.specs.List.{list_any};
-ghost use Rattle.an_pages.specs.Canvas.{cross, overlap, meets, is_target_in};
+ghost use Rattle.an_pages.specs.Canvas.{cross, overlap, meets, is_kept_in};
 
-use an_model::Target;
+use an_model::KeptTarget;
 use an_selectors::Xywh;
 
-/// Whether one of the targets is on the canvas, and meets the region.
-pub(crate) fn has_target_in(targets: &[Target], canvas: &str, asked: Xywh) -> bool
-    ensures { result ≡ list_any (is_target_in canvas.now asked) targets.now }
+/// Whether one of the targets is on the canvas and, where a region is asked for, meets that.
+pub(crate) fn has_target_in(targets: &[KeptTarget], canvas: &str, asked: Option<Xywh>) -> bool
+    ensures { result ≡ list_any (is_kept_in canvas.now asked) targets.now }
 {
     targets
         .iter()
         .any(|target| is_target_in(target, canvas, asked))
 }
 
-fn is_target_in(target: &Target, canvas: &str, asked: Xywh) -> bool
-    ensures { result ≡ is_target_in canvas.now asked target.now }
+fn is_target_in(target: &KeptTarget, canvas: &str, asked: Option<Xywh>) -> bool
+    ensures { result ≡ is_kept_in canvas.now asked target.now }
 {
     target.source.as_str() == canvas && meets(asked, target.region)
 }
 
-/// Whether a target with this region is about the region that is asked for. One without a region
-/// is about the whole canvas.
-fn meets(asked: Xywh, region: Option<Xywh>) -> bool
+/// Whether a target with this region is about the region that is asked for, if one is. A target
+/// without a region is about the whole canvas.
+fn meets(asked: Option<Xywh>, region: Option<Xywh>) -> bool
     ensures { result ≡ meets asked region }
 {
-    match region {
-        Some(region) => overlap(asked, region),
-        None => true,
+    match (asked, region) {
+        (Some(asked), Some(region)) => overlap(asked, region),
+        _ => true,
     }
 }
 

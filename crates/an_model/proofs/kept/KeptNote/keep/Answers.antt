@@ -1,4 +1,4 @@
-use Rattle.std.proofs.Common.{◌≡◌, sym, ap, ◌∙◌}
+use Rattle.std.proofs.Common.{◌≡◌, sym, ap, ◌∙◌, map}
 use Rattle.serde_json.specs.Written.{compact_text}
 use Rattle.an_base.specs.Cut.{is_object, members_in}
 use Rattle.an_base.specs.TextSet.{distinct}
@@ -6,7 +6,7 @@ use Rattle.an_base.specs.Tree.{ascend, names, is_tree}
 use Rattle.an_base.proofs.KeptLemmas.{kept_text, tree_in-text, ordered}
 use Rattle.an_model.specs.Bodies.{iris_of, note_terms}
 use Rattle.an_model.specs.Note.{note_refusal, is_bare, motivations_of}
-use Rattle.an_model.specs.Targets.{sources_of}
+use Rattle.an_model.specs.Targets.{kept_target, targets_of}
 use Rattle.an_model.proofs.KeptNoteLemmas.{same_cuts}
 use Rattle.an_model.proofs.ServedLemmas.{note_is_object}
 use Rattle.an_model.proofs.kept.KeptNote.keep.Goals as goal
@@ -36,7 +36,7 @@ invariant_of-result c =
       terms = ap (λ p. p.terms) parts ∙ c.in_ok-parts.ensures.terms ∙ ap (λ t. distinct (note_terms t)) (sym is);
       motivations = ap (λ p. p.motivations) parts ∙ c.in_ok-parts.ensures.motivations ∙ ap (λ t. distinct (motivations_of t)) (sym is);
       iris = ap (λ p. p.iris) parts ∙ c.in_ok-parts.ensures.iris ∙ ap (λ t. distinct (iris_of t)) (sym is);
-      sources = ap (λ p. p.sources) parts ∙ c.in_ok-parts.ensures.sources ∙ ap (λ t. distinct (sources_of t)) (sym is);
+      targets = ap (λ p. p.targets) parts ∙ c.in_ok-parts.ensures.targets ∙ ap (λ t. map kept_target (targets_of t)) (sym is);
     }
 
 pub returns : goal.returns
