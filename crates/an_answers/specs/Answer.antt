@@ -22,7 +22,6 @@ use Rattle.an_machine.specs.declared.command.Refused.{Refused}
 use Rattle.an_machine.specs.declared.command.Refused.TheVariants as refused
 use Rattle.an_machine.specs.declared.command.WriteReply.{WriteReply}
 use Rattle.an_base.specs.declared.span.Prefer.{Prefer}
-use Rattle.an_selectors.specs.declared.region.Xywh.{Xywh}
 use Rattle.an_pages.specs.Bodies.{manifest_of_view, annotation_of_view}
 use Rattle.an_pages.specs.Canvas.{canvas_page_of}
 use Rattle.an_pages.specs.Container.{container_of, container_page_of}

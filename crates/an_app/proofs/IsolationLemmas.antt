@@ -1,5 +1,5 @@
 -- A caller that has one view of two states is answered alike.
-use Rattle.std.proofs.Common.{◌≡◌, ℕ, List, Option, Some, None, Result, Ok, Err, Bool, true, false, refl, ap, IfSome}
+use Rattle.std.proofs.Common.{◌≡◌, ℕ, List, Option, Some, None, Result, Ok, Err, Bool, refl, ap, IfSome}
 use Rattle.an_base.specs.declared.code.Code.{Code}
 use Rattle.an_base.specs.declared.span.Prefer.{Prefer}
 use Rattle.an_http.specs.declared.reply.Allow.{Allow}

@@ -1,5 +1,5 @@
 -- What a caller can tell of a state: its own view of it.
-use Rattle.std.specs.Prelude.{◌≡◌, Option, Some, None, Result, Ok, Err, IfSome}
+use Rattle.std.specs.Prelude.{◌≡◌, Result, Ok, Err, IfSome}
 use Rattle.an_base.specs.declared.code.Code.{Code}
 use Rattle.an_http.specs.declared.request.Request.{Request}
 use Rattle.an_machine.specs.State.{State}

@@ -1,10 +1,9 @@
 ghost use Rattle.std.specs.Prelude.{◌≡◌, IfOk, Some, Ok, Err};
 ghost use Rattle.std.specs.Result.{result_map_both};
 ghost use Rattle.an_base.specs.Tree.{tree_of};
-ghost use Rattle.an_app.specs.Asked.{text_refusal, with_tree, command_of, query_asked, write_asked};
+ghost use Rattle.an_app.specs.Asked.{text_refusal, with_tree, command_of, query_asked};
 ghost use Rattle.an_app.specs.Asked.{route_asked, by_asked, words_asked, asked_of};
 ghost use Rattle.an_app.specs.Line.{by_of, lent_words, words_of};
-ghost use Rattle.an_routes.specs.Routes.{route_of};
 
 use crate::line::{LineWords, Method, words_of};
 use an_base::{Code, Moment, Name, Tree, TreeError, read_tree};

@@ -1,9 +1,6 @@
-ghost use Rattle.std.specs.Prelude.{◌≡◌, ◌++◌, ℕ, List, IfOk, None, Some, Ok, OnOk, codes};
-ghost use Rattle.std.specs.Prelude.{decimal, if◌then◌else◌, string_bytes};
-ghost use Rattle.an_http.specs.Status.{number_of};
-ghost use Rattle.an_answers.specs.Answer.{answer_of, query_answer};
+ghost use Rattle.std.specs.Prelude.{◌≡◌, ◌++◌, ℕ, List, IfOk, None, Some, Ok, OnOk};
+ghost use Rattle.an_answers.specs.Answer.{query_answer};
 ghost use Rattle.an_machine.specs.View.{view_by};
-ghost use Rattle.an_app.specs.Find.{no_preference};
 ghost use Rattle.an_app.specs.Asked.{asked_of};
 ghost use Rattle.an_machine.specs.Entries.{state_after};
 ghost use Rattle.an_app.specs.Find.{turn_of, asked_turn, write_turn, prints, writes, reply_line};

@@ -1,5 +1,5 @@
 -- The state behind the deletion of a manifest, field by field.
-use Rattle.std.proofs.Common.{◌≡◌, ℕ, ℤ, List, ◌++◌, Option, Some, None, option_map, option_to_list, refl, ap, ◌∙◌}
+use Rattle.std.proofs.Common.{◌≡◌, ℕ, ℤ, List, Option, Some, None, option_map, option_to_list, refl, ap, ◌∙◌}
 use Rattle.an_keyed.specs.Rows.{put_row}
 use Rattle.an_policy.specs.Audience.{Identity}
 use Rattle.an_machine.specs.Accepted.{manifest_deletion, manifest_tombstone, notes_on}

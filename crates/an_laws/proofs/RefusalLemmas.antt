@@ -1,6 +1,6 @@
 -- What it tells of a write that nothing refuses it.
-use Rattle.std.proofs.Common.{◌≡◌, ℕ, Bool, true, false, cond, not, is_some, List, [], ◌∷◌, Option, Some, None, Result, Ok, Err, inl, inr, refl, sym, ap, ◌∙◌}
-use Rattle.std.specs.Prelude.{⊤, if◌then◌else◌}
+use Rattle.std.proofs.Common.{◌≡◌, ℕ, Bool, true, false, cond, not, is_some, List, [], ◌∷◌, Option, Some, None, Result, Ok, Err, refl, sym, ap, ◌∙◌}
+use Rattle.std.specs.Prelude.{⊤}
 use Rattle.std.specs.Result.{result_map_both}
 use Rattle.std.proofs.lemmas.Bool.{and_parts, not-false}
 use Rattle.std.proofs.lemmas.Slice.Eq.{bytes_eq-Decides}
@@ -27,7 +27,6 @@ use Rattle.an_machine.specs.declared.asked.Asked.{Asked}
 use Rattle.an_machine.specs.declared.asked.Asked.TheVariants.{Deletion}
 use Rattle.an_machine.specs.declared.asked.Asked.TheVariants as put
 use Rattle.an_machine.specs.declared.asked.ManifestPut.{ManifestPut}
-use Rattle.an_machine.specs.declared.asked.NotePut.{NotePut}
 use Rattle.an_machine.specs.declared.command.Command.{Command}
 use Rattle.an_machine.specs.declared.command.Command.TheVariants.{PutReader, DropReader, PutManifest, DropManifest, PutNote, DropNote}
 use Rattle.an_machine.specs.declared.command.Object.TheVariants as object

@@ -1,15 +1,14 @@
 -- What an accepted write makes of the numbers of objects.
-use Rattle.std.proofs.Common.{◌≡◌, ℕ, ◌+◌, ◌≤◌, ℤ, Bool, true, false, cond, ◌||◌, List, ◌++◌, Option, Some, None, option_map, unwrap_or, inl, inr, refl, sym, ap, subst, ◌∙◌, arith}
+use Rattle.std.proofs.Common.{◌≡◌, ℕ, ◌+◌, ◌≤◌, ℤ, true, false, cond, ◌||◌, List, ◌++◌, Option, Some, None, option_map, unwrap_or, inl, inr, refl, sym, ap, subst, ◌∙◌, arith}
 use Rattle.std.specs.Prelude.{◌==◌, ◌^◌, ◌-◌, is_some, nat_lt}
-use Rattle.std.proofs.lemmas.Bool.{cases_Bool, and_parts, cond-true, cond-false, cond_both, eqb-true}
-use Rattle.an_base.specs.Outcome.{passes}
+use Rattle.std.proofs.lemmas.Bool.{cases_Bool, and_parts, cond_both, eqb-true}
 use Rattle.an_keyed.specs.Key.{Key, same_key}
 use Rattle.an_keyed.specs.Rows.{row_of, put_row}
 use Rattle.an_policy.specs.Audience.{Identity}
 use Rattle.an_machine.specs.Accepted.{effect_of, deletion, moment_of_write, number_behind, buried, manifest_tombstone}
 use Rattle.an_machine.specs.Asked.{object_of, version_of, object_asked, version_asked, is_put}
 use Rattle.an_machine.specs.Entries.{with_row, with_rows, after}
-use Rattle.an_machine.specs.State.{State, KeptReader, KeptManifest, KeptNote, reader_key, manifest_key, note_key, reader_row, manifest_row, note_row, is_distinct}
+use Rattle.an_machine.specs.State.{State, KeptReader, KeptManifest, KeptNote, reader_key, manifest_key, note_key, manifest_row, note_row, is_distinct}
 use Rattle.an_machine.specs.Versions.{current, standing, note_standing, number_of, is_next}
 use Rattle.an_machine.specs.View.{is_on}
 use Rattle.an_machine.specs.declared.activity.Activity.{Activity}

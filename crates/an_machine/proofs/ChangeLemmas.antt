@@ -12,7 +12,7 @@ use Rattle.an_keyed.specs.Log.{items_with, IsLastAt, IsLastBefore}
 use Rattle.an_policy.specs.Audience.{Identity}
 use Rattle.an_policy.specs.Seen.{as_seen}
 use Rattle.an_policy.specs.declared.kind.Kind.{Kind}
-use Rattle.an_machine.specs.View.{activity_key, object_of_activity, seen_as, seen_by, key_of_object, is_change_of, last_change, last_kind}
+use Rattle.an_machine.specs.View.{activity_key, object_of_activity, seen_as, seen_by, key_of_object, is_change_of, last_kind}
 use Rattle.an_machine.specs.declared.activity.Activity.{Activity}
 use Rattle.an_machine.specs.declared.activity.Seen.{Seen}
 use Rattle.an_machine.specs.declared.command.Object.TheVariants as object

@@ -10,7 +10,7 @@ use Rattle.std.proofs.lemmas.Slice.Eq.{bytes_eq-Decides}
 use Rattle.an_base.specs.Outcome.{only_if}
 use Rattle.an_policy.specs.Audience.{Identity}
 use Rattle.an_keyed.specs.Key.{Key, same_key, same_owner}
-use Rattle.an_machine.specs.State.{State, KeptManifest, KeptNote, manifest_key, note_key, manifest_row, note_row, keys_are_distinct, manifests_are_distinct, notes_are_distinct}
+use Rattle.an_machine.specs.State.{State, manifest_key, note_key, manifest_row, note_row, keys_are_distinct, manifests_are_distinct, notes_are_distinct}
 use Rattle.an_machine.specs.View.{view_of, shows_manifest, shows_note, manifest_in, note_in}
 
 pub row_found : {A : Type 0} (test : A → Bool) (rows : List A) → option_and_then (slice_get rows) (position test rows) ≡ find test rows

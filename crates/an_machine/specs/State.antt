@@ -1,15 +1,15 @@
 -- What the server knows: four lists, in the order in which their rows were first made. A row stays
 -- in its place for good.
-use Rattle.std.specs.Prelude.{ℕ, ℤ, List, [], ◌∷◌, Bool, true, ◌&&◌, not, Option, Some, None}
+use Rattle.std.specs.Prelude.{ℕ, ℤ, List, [], Bool, ◌&&◌, Option, Some, None}
 use Rattle.std.specs.Prelude.{option_map, option_and_then, find, bytes_eq}
-use Rattle.std.specs.List.{filter_map, list_any}
+use Rattle.std.specs.List.{filter_map}
 use Rattle.serde_json.specs.Data.{Data}
 use Rattle.an_policy.specs.declared.group.Group.{Group}
 use Rattle.an_policy.specs.declared.reader.Reader.{Reader}
 use Rattle.an_policy.specs.declared.who.Caller.{Caller}
 use Rattle.an_policy.specs.declared.who.Caller.TheVariants.{Anonymous, Operator, Token, Named}
 use Rattle.an_policy.specs.Audience.{Identity, anonymous, operator, signed}
-use Rattle.an_keyed.specs.Key.{Key, same_key}
+use Rattle.an_keyed.specs.Key.{Key}
 use Rattle.an_keyed.specs.Rows.{row_of}
 pub use Rattle.an_keyed.specs.Rows.{keys_are_distinct}
 use Rattle.an_machine.specs.declared.activity.Activity.{Activity}

@@ -1,5 +1,5 @@
 -- The four lists by number, and where an object's row stands in its list.
-use Rattle.std.specs.Prelude.{ℕ, List, Option, Some, None, option_map, length, slice_get, ◌==◌}
+use Rattle.std.specs.Prelude.{ℕ, Option, Some, None, option_map, length, slice_get, ◌==◌}
 use Rattle.std.specs.Prelude.{if◌then◌else◌}
 use Rattle.an_keyed.specs.Rows.{place_of}
 use Rattle.an_machine.specs.State.{State, reader_key, manifest_key, note_key}

@@ -3,7 +3,7 @@ ghost use Rattle.std.specs.Option.{option_copied};
 ghost use Rattle.an_base.specs.Outcome.{Gives};
 ghost use Rattle.an_policy.specs.Audience.{identity};
 ghost use Rattle.an_machine.specs.Accepted.{by_whom, decided, effect_of, moment_of_write};
-ghost use Rattle.an_machine.specs.Asked.{manifest_asked, object_of, version_of};
+ghost use Rattle.an_machine.specs.Asked.{manifest_asked, object_of};
 ghost use Rattle.an_machine.specs.Refusals.{signer_of};
 ghost use Rattle.an_machine.specs.State.{manifest_row};
 ghost use Rattle.an_machine.specs.Step.{judged, step, step_by};

@@ -1,5 +1,5 @@
 //! What a write changes.
-ghost use Rattle.std.specs.Prelude.{◌≡◌, [], ◌∷◌, IfOk, option_map, unwrap_or};
+ghost use Rattle.std.specs.Prelude.{◌≡◌, [], ◌∷◌, IfOk, unwrap_or};
 ghost use Rattle.an_machine.specs.Accepted.{changed};
 
 use crate::activity::Activity;

@@ -1,4 +1,4 @@
-ghost use Rattle.std.specs.Prelude.{◌≡◌, ◌+◌, [], fold, map, IfOk, OnOk};
+ghost use Rattle.std.specs.Prelude.{◌≡◌, [], fold, map, IfOk, OnOk};
 ghost use Rattle.an_model.specs.Bodies.{note_terms};
 ghost use Rattle.an_machine.specs.Terms.{terms_of_row, totals_of, with_prefix};
 ghost use Rattle.an_machine.specs.Totals.{Adds, counted, total_among};

@@ -3,7 +3,6 @@ ghost use Rattle.std.specs.Prelude.{◌≡◌, ◌++◌, bytes_eq, codes, option
 ghost use Rattle.serde_json.specs.Data.{member, no_members, string};
 ghost use Rattle.serde_json.specs.Find.{get};
 ghost use Rattle.serde_json.specs.View.{view};
-ghost use Rattle.serde_json.specs.Written.{compact_text};
 ghost use Rattle.an_base.specs.Outcome.{Gives, passes};
 ghost use Rattle.an_base.specs.Write.{commas, member_text};
 ghost use Rattle.an_policy.specs.Group.{group_text};

@@ -9,7 +9,7 @@ ghost use Rattle.an_machine.specs.View.{view_of};
 ghost use Rattle.an_search.specs.Found.{StandAt};
 ghost use Rattle.an_search.specs.Listed.{listed_note};
 ghost use Rattle.an_search.specs.Page.{list_page, page_iri, page_of};
-ghost use Rattle.an_search.specs.Search.{found_page, found_text, hits, marks_of, query_form};
+ghost use Rattle.an_search.specs.Search.{found_text, hits, marks_of, query_form};
 ghost use Rattle.an_search.specs.Search.{search_context, search_of};
 ghost use Rattle.an_search.specs.Search.{whole_of};
 ghost use Rattle.an_search.specs.Wanted.{wanted_of, wanted_terms};

@@ -6,7 +6,7 @@ ghost use Rattle.an_base.specs.Write.{commas, member_text};
 ghost use Rattle.an_search.specs.Page.{page_count, start_of};
 ghost use Rattle.an_search.specs.PageText.{text_if};
 ghost use Rattle.an_stream.specs.Activity.{activity, thing};
-ghost use Rattle.an_stream.specs.Stream.{changes_after, changes_before, changes_context};
+ghost use Rattle.an_stream.specs.Stream.{changes_after, changes_before};
 ghost use Rattle.an_stream.specs.Stream.{changes_iri, changes_link, changes_page_iri};
 ghost use Rattle.an_stream.specs.Stream.{stream_page, stream_tree};
 ghost use Rattle.an_stream.specs.PageText.{head_text, place_members};

@@ -1,15 +1,15 @@
 -- How the writes of the trial lead to its state.
-use Rattle.std.proofs.Common.{◌≡◌, ℕ, suc, ◌+◌, ◌*◌, List, [], ◌∷◌, ◌++◌, Option, Some, None, IsSome, Result, Ok, Err, refl, sym, ap, subst, ◌∙◌, arith}
+use Rattle.std.proofs.Common.{◌≡◌, ℕ, suc, ◌+◌, ◌*◌, List, [], ◌∷◌, ◌++◌, Some, None, IsSome, Ok, Err, refl, sym, ap, subst, ◌∙◌, arith}
 use Rattle.std.specs.Prelude.{fold}
 use Rattle.std.proofs.lemmas.List.Sums.{fold-append}
 use Rattle.an_keep.specs.Memory.{Sure}
-use Rattle.an_keep.specs.Keeper.{Stays, StaysOrBegins, Told, Turns}
+use Rattle.an_keep.specs.Keeper.{StaysOrBegins, Told, Turns}
 use Rattle.an_keep.specs.declared.cell.Cell.{Cell}
 use Rattle.an_machine.specs.State.{State, empty}
 use Rattle.an_machine.specs.Step.{step}
 use Rattle.an_machine.specs.declared.command.Refused.{Refused}
 use Rattle.an_machine.specs.declared.command.WriteReply.{WriteReply}
-use Rattle.an_rows.specs.Cells.{Place, cells, state_of}
+use Rattle.an_rows.specs.Cells.{cells, state_of}
 use Rattle.an_shelf.specs.Opening.{IsDamagedBy, StandFor, WasDamagedBy}
 use Rattle.an_shelf.specs.Writing.{Writes}
 use Rattle.an_shelf.specs.declared.error.OpenError.{OpenError}

@@ -1,9 +1,9 @@
 -- The draws of the seed 1, and what is written of them.
-use Rattle.std.proofs.Common.{◌≡◌, ℕ, ◌*◌, List, [], ◌∷◌, codes, refl, map}
+use Rattle.std.proofs.Common.{◌≡◌, ℕ, ◌*◌, [], ◌∷◌, codes, refl, map}
 use Rattle.an_policy.specs.declared.group.Group.{Group}
 use Rattle.an_policy.specs.declared.group.Group.TheVariants as group
 use Rattle.an_trial.specs.Draws.{draws_behind, number_behind}
-use Rattle.an_trial.specs.Writes.{group_of, words_text, note_behind, note_write, note_writes}
+use Rattle.an_trial.specs.Writes.{group_of, words_text, note_behind, note_write}
 use Rattle.an_trial.specs.declared.draws.Draws.{Draws}
 
 abbrev draws_of : ℕ → Draws

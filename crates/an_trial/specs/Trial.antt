@@ -1,5 +1,5 @@
 -- The trial: what searches and completions count in the state that its writes lead to.
-use Rattle.std.specs.Prelude.{ℕ, List, [], ◌∷◌, ◌++◌, length, fold, flat_map, find, bytes_eq}
+use Rattle.std.specs.Prelude.{ℕ, List, [], ◌++◌, length, fold, flat_map, find, bytes_eq}
 use Rattle.std.specs.Prelude.{codes, decimal, Result, Ok, Err}
 use Rattle.std.specs.Option.{option_map_or}
 use Rattle.an_base.specs.declared.span.TermTotal.{TermTotal}
@@ -11,7 +11,6 @@ use Rattle.an_machine.specs.State.{State, empty}
 use Rattle.an_machine.specs.Step.{step}
 use Rattle.an_machine.specs.Terms.{ascending}
 use Rattle.an_machine.specs.View.{View, view_by}
-use Rattle.an_policy.specs.declared.who.Caller.{Caller}
 use Rattle.an_policy.specs.declared.who.Caller.TheVariants.{Anonymous, Named}
 use Rattle.an_search.specs.Query.{QueryRecord, query_of}
 use Rattle.an_search.specs.Search.{hits}

@@ -1,5 +1,5 @@
 //! The trees of the trial.
-ghost use Rattle.std.specs.Prelude.{◌≡◌, IfOk, string_bytes};
+ghost use Rattle.std.specs.Prelude.{◌≡◌, IfOk};
 ghost use Rattle.serde_json.specs.View.{view};
 ghost use Rattle.an_trial.specs.Writes.{canvas_tree, manifest_tree, note_tree, reader_tree};
 

@@ -1,4 +1,4 @@
-use Rattle.std.proofs.Common.{◌≡◌, ap, sym, subst, ◌∙◌, option_map}
+use Rattle.std.proofs.Common.{ap, sym, subst, ◌∙◌, option_map}
 use Rattle.an_base.specs.Faults.{Rises}
 use Rattle.an_export.specs.Export.{exported}
 use Rattle.an_app.specs.ExportEnds.{export_report, view_named}

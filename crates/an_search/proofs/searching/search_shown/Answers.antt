@@ -1,11 +1,10 @@
-use Rattle.std.proofs.Common.{◌≡◌, ap, sym, subst, ◌∙◌, filter}
+use Rattle.std.proofs.Common.{sym, subst, ◌∙◌}
 use Rattle.an_policy.specs.Audience.{identity}
 use Rattle.an_base.specs.Outcome.{Gives}
 use Rattle.an_machine.specs.View.{view_of}
 use Rattle.an_search.specs.Found.{StandAt}
 use Rattle.an_search.specs.Search.{found_text, hits}
 use Rattle.an_search.specs.declared.searching.AskError.TheVariants.{Memory}
-use Rattle.an_search.specs.Wanted.{wanted_of}
 use Rattle.an_search.proofs.ViewLemmas.{hits-stand}
 use Rattle.an_search.proofs.searching.search_shown.Goals as goal
 
