@@ -1,8 +1,8 @@
 #!/usr/bin/env bash
 # Runs the merge gate from nothing, or that of the crates that are named and of those below them, and
-# prints a table: each crate's lines of code (its tests apart), definitions and proofs, and the minutes
-# of a processor that its proof, its tests and its must-fail edits took, as the processes of the prover
-# tell them twice a second. What the gate says goes to standard error, and its status is the status.
+# prints a table: each crate's lines of code, definitions and proofs, and the minutes of a processor that
+# its proof and its must-fail edits took, as the processes of the prover tell them twice a second. What
+# the gate says goes to standard error, and its status is the status.
 set -eu
 cd "$(dirname "$0")/.."
 
@@ -29,7 +29,6 @@ task_of() {
   words=$(tr '\0' ' ' <"/proc/$1/cmdline")
   [[ $words =~ --crate-name\ ([^ ]+) ]] || return 0
   crate=${BASH_REMATCH[1]}
-  if [[ $words == *' --test '* ]]; then kind=tests; fi
   if [[ $(readlink "/proc/$1/cwd") == */rt-edit-* ]]; then kind=edits; fi
   echo "$crate $kind"
 }
@@ -52,19 +51,19 @@ wait "$gate" || status=$?
 in_minutes() { awk -v t="$1" -v s="$(getconf CLK_TCK)" 'BEGIN { printf "%.1f", t / s / 60 }'; }
 
 # The lines of a crate's files of a kind.
-lines() { find "$@" -type f ! -name '*tests.rt' -exec cat {} + 2>/dev/null | wc -l; }
+lines() { find "$@" -type f -exec cat {} + 2>/dev/null | wc -l; }
 
 for key in "${!tasks[@]}"; do
   task=${tasks[$key]}
   if [ -n "$task" ]; then minutes[$task]=$((${minutes[$task]:-0} + ticks[$key])); fi
 done
-echo '| Crate | Code | Definitions | Proofs | Minutes for its proof | its tests | its edits |'
-echo '|---|---|---|---|---|---|---|'
+echo '| Crate | Code | Definitions | Proofs | Minutes for its proof | its edits |'
+echo '|---|---|---|---|---|---|'
 total=0
 while IFS=': ' read -r crate _; do
   row="| \`$crate\`"
   for part in src specs proofs; do row+=" | $(lines "crates/$crate/$part")"; done
-  for kind in proof tests edits; do
+  for kind in proof edits; do
     used=${minutes["$crate $kind"]:-0}
     total=$((total + used))
     row+=" | $(in_minutes "$used")"

@@ -100,6 +100,6 @@ annotation 40 1000 GET of an annotation
 manifest 40 1000 GET of a manifest
 put 10 1000 PUT of an annotation
 container 10 200 GET of a container, its first page in it
-canvas 1 100 GET of a page of a canvas, by a region
+canvas 10 200 GET of a page of a canvas, by a region
 changes 2 500 GET of the last page of the stream
 KINDS
