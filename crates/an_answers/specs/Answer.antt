@@ -1,12 +1,11 @@
 -- The replies to reads and to writes. A read is answered from the caller's view alone.
 use Rattle.std.specs.Prelude.{ℕ, List, ◌++◌, codes, decimal, Bool, true, false, ◌||◌, is_none}
 use Rattle.std.specs.Prelude.{if◌then◌else◌, Result, Ok, Err}
-use Rattle.an_base.specs.declared.code.Code.{Code}
-use Rattle.an_base.specs.declared.code.Code.TheVariants as code
-use Rattle.an_http.specs.Errors.{error_body}
-use Rattle.an_http.specs.Status.{status_of}
+use Rattle.std.specs.Result.{result_map_both}
+use Rattle.an_code.specs.declared.code.Code.{Code}
+use Rattle.an_code.specs.declared.code.Code.TheVariants as code
+pub use Rattle.an_http.specs.Errors.{refusal_reply}
 use Rattle.an_http.specs.declared.reply.Allow.{Allow}
-use Rattle.an_http.specs.declared.reply.Allow.TheVariants as allow
 use Rattle.an_http.specs.declared.reply.Media.{Media}
 use Rattle.an_http.specs.declared.reply.Media.TheVariants as media
 use Rattle.an_http.specs.declared.reply.Extra.{Extra}
@@ -15,9 +14,9 @@ use Rattle.an_http.specs.declared.reply.Reply.{Reply}
 use Rattle.an_http.specs.declared.status.Status.{Status}
 use Rattle.an_http.specs.declared.status.Status.TheVariants as status
 use Rattle.an_manifest.specs.Dress.{manifest_iri}
-use Rattle.an_machine.specs.View.{View}
-use Rattle.an_machine.specs.declared.command.Object.{Object}
-use Rattle.an_machine.specs.declared.command.Object.TheVariants as object
+use Rattle.an_state.specs.View.{View}
+use Rattle.an_state.specs.declared.command.Object.{Object}
+use Rattle.an_state.specs.declared.command.Object.TheVariants as object
 use Rattle.an_machine.specs.declared.command.Refused.{Refused}
 use Rattle.an_machine.specs.declared.command.Refused.TheVariants as refused
 use Rattle.an_machine.specs.declared.command.WriteReply.{WriteReply}
@@ -37,26 +36,13 @@ use Rattle.an_search.specs.declared.searching.AskError.{AskError}
 use Rattle.an_search.specs.declared.searching.AskError.TheVariants as ask
 use Rattle.an_complete.specs.Complete.{complete_of}
 use Rattle.an_complete.specs.declared.completion.CompleteError.{CompleteError}
+use Rattle.an_complete.specs.declared.completion.CompleteError.TheVariants as complete
 use Rattle.an_routes.specs.Routes.{read_methods}
+use Rattle.an_answers.specs.declared.answers.Shown.{Shown}
 use Rattle.an_routes.specs.declared.kinds.Read.{Read}
 use Rattle.an_routes.specs.declared.kinds.Read.TheVariants as read
 
 -- ---- refusals
-
--- a token is asked for with 401 (RFC 9110, section 15.5.2)
-abbrev pub challenge : Status → Extra
-challenge status.Unauthorized = extra.Bearer
-challenge _ = extra.Absent
-
--- the reply that tells a refusal, at a route with these methods
-abbrev pub refusal_reply : Allow → Code → Reply
-refusal_reply methods refusal = record {
-  status = status_of refusal;
-  allow = methods;
-  media = media.Json;
-  extra = challenge (status_of refusal);
-  body = error_body refusal;
-}
 
 abbrev pub not_signed : Code
 not_signed = code.NotSigned
@@ -66,14 +52,11 @@ absent = code.Absent
 
 -- ---- reads
 
-abbrev pub shown_reply : Allow → Media → Extra → List ℕ → Reply
-shown_reply methods media extra body = record {
-  status = status.Ok;
-  allow = methods;
-  media = media;
-  extra = extra;
-  body = body;
-}
+-- what is shown, or why it isn't, which a refusal of the crate below tells
+abbrev pub shown : {E : Type 0} → Media → Extra → (E → Code) → Result (List ℕ) E
+    → Result Shown Code
+shown media extra told =
+    result_map_both (λ body. record { media = media; extra = extra; body = body }) told
 
 -- why one thing isn't shown; want of memory is told otherwise
 abbrev pub page_refusal : PageError → Code
@@ -82,68 +65,61 @@ page_refusal page.Gone = code.Gone
 page_refusal (page.NoPage pages) = code.NoPage pages
 page_refusal page.Memory = absent
 
-abbrev pub manifest_reply : Result (List ℕ) PageError → Reply
-manifest_reply (Ok body) = shown_reply allow.Full media.Manifest extra.Absent body
-manifest_reply (Err error) = refusal_reply allow.Full (page_refusal error)
-
--- an annotation is an LDP resource (Web Annotation Protocol, section 3.1)
-abbrev pub note_reply : Result (List ℕ) PageError → Reply
-note_reply (Ok body) = shown_reply allow.Full media.Annotation extra.Resource body
-note_reply (Err error) = refusal_reply allow.Full (page_refusal error)
-
 -- why a search isn't answered; want of memory is told otherwise
 abbrev pub search_refusal : AskError → Code
 search_refusal ask.NoManifest = absent
 search_refusal (ask.NoPage pages) = code.NoPage pages
 search_refusal ask.Memory = absent
 
-abbrev pub search_reply : Result (List ℕ) AskError → Reply
-search_reply (Ok body) = shown_reply allow.ReadOnly media.Search extra.Absent body
-search_reply (Err error) = refusal_reply allow.ReadOnly (search_refusal error)
+-- why a completion isn't answered; want of memory is told otherwise
+abbrev pub complete_refusal : CompleteError → Code
+complete_refusal complete.NoManifest = absent
+complete_refusal complete.Memory = absent
 
-abbrev pub completion_reply : Result (List ℕ) CompleteError → Reply
-completion_reply (Ok body) = shown_reply allow.ReadOnly media.Search extra.Absent body
-completion_reply (Err error) = refusal_reply allow.ReadOnly absent
+-- why a page of the changes isn't shown; want of memory is told otherwise
+abbrev pub stream_refusal : StreamError → Code
+stream_refusal (stream.NoPage pages) = code.NoPage pages
+stream_refusal stream.Memory = absent
 
 -- what is asked for in the query counts as if it were preferred
 abbrev pub with_iris : Prefer → Bool → Prefer
 with_iris prefer iris = record { minimal = prefer.minimal; iris = prefer.iris || iris }
 
--- a page of a list, or the list itself, which is read alone
-abbrev pub page_reply : Media → Extra → Result (List ℕ) PageError → Reply
-page_reply its_media its_extra (Ok body) = shown_reply allow.ReadOnly its_media its_extra body
-page_reply its_media its_extra (Err error) = refusal_reply allow.ReadOnly (page_refusal error)
-
-abbrev pub changes_reply : List ℕ → Reply
-changes_reply body = shown_reply allow.ReadOnly media.Changes extra.Absent body
-
--- want of memory is told otherwise
-abbrev pub changes_page_reply : Result (List ℕ) StreamError → Reply
-changes_page_reply (Ok body) = changes_reply body
-changes_page_reply (Err (stream.NoPage pages)) = refusal_reply allow.ReadOnly (code.NoPage pages)
-changes_page_reply (Err stream.Memory) = refusal_reply allow.ReadOnly absent
-
--- what a view shows of what is read
-abbrev pub read_reply : Site → View → Prefer → Read → Reply
-read_reply site view prefer (read.Manifest name) =
-    manifest_reply (manifest_of_view site view name)
-read_reply site view prefer (read.Note owner name) =
-    note_reply (annotation_of_view site view owner name)
-read_reply site view prefer (read.Search manifest query) =
-    search_reply (search_of site view manifest query)
-read_reply site view prefer (read.Complete manifest ask) =
-    completion_reply (complete_of site view manifest ask)
-read_reply site view prefer (read.Canvas manifest canvas region page) =
-    page_reply media.Manifest extra.Absent (canvas_page_of site view manifest canvas region page)
--- a container is an LDP container (Web Annotation Protocol, section 4)
-read_reply site view prefer (read.Container manifest iris) =
-    page_reply media.Annotation extra.Container
+-- What a view shows of what is read. An annotation is an LDP resource (Web Annotation Protocol,
+-- section 3.1), and a container an LDP container (section 4).
+abbrev pub shown_of : Site → View → Prefer → Read → Result Shown Code
+shown_of site view prefer (read.Manifest name) =
+    shown media.Manifest extra.Absent page_refusal (manifest_of_view site view name)
+shown_of site view prefer (read.Note owner name) =
+    shown media.Annotation extra.Resource page_refusal (annotation_of_view site view owner name)
+shown_of site view prefer (read.Search manifest query) =
+    shown media.Search extra.Absent search_refusal (search_of site view manifest query)
+shown_of site view prefer (read.Complete manifest ask) =
+    shown media.Search extra.Absent complete_refusal (complete_of site view manifest ask)
+shown_of site view prefer (read.Canvas manifest canvas region page) =
+    shown media.Manifest extra.Absent page_refusal
+    (canvas_page_of site view manifest canvas region page)
+shown_of site view prefer (read.Container manifest iris) =
+    shown media.Annotation extra.Container page_refusal
     (container_of site view manifest (with_iris prefer iris))
-read_reply site view prefer (read.ContainerPage manifest page iris) =
-    page_reply media.Annotation extra.Absent (container_page_of site view manifest page iris)
-read_reply site view prefer read.Changes = changes_reply (changes_of site view)
-read_reply site view prefer (read.ChangesPage page) =
-    changes_page_reply (changes_page_of site view page)
+shown_of site view prefer (read.ContainerPage manifest page iris) =
+    shown media.Annotation extra.Absent page_refusal
+    (container_page_of site view manifest page iris)
+shown_of site view prefer read.Changes =
+    Ok (record { media = media.Changes; extra = extra.Absent; body = changes_of site view })
+shown_of site view prefer (read.ChangesPage page) =
+    shown media.Changes extra.Absent stream_refusal (changes_page_of site view page)
+
+-- the reply with what is shown, or with why it isn't, at a path with these methods
+abbrev pub shown_reply : Allow → Result Shown Code → Reply
+shown_reply methods (Ok shown) = record {
+  status = status.Ok;
+  allow = methods;
+  media = shown.media;
+  extra = shown.extra;
+  body = shown.body;
+}
+shown_reply methods (Err refusal) = refusal_reply methods refusal
 
 -- nobody is asked to sign, before all else
 abbrev pub unless_nobody : View → Allow → Reply → Reply
@@ -153,7 +129,8 @@ unless_nobody view methods reply =
 -- the answer to a read
 abbrev pub answer_of : Site → View → Prefer → Read → Reply
 answer_of site view prefer read =
-    unless_nobody view (read_methods read) (read_reply site view prefer read)
+    unless_nobody view (read_methods read)
+    (shown_reply (read_methods read) (shown_of site view prefer read))
 
 -- the answer to a read whose query is refused
 abbrev pub query_answer : View → Allow → Code → Reply

@@ -1,25 +1,25 @@
-ghost use Rattle.std.specs.Prelude.{◌≡◌, ◌<◌, ◌++◌, Err, IfOk, codes, string_bytes};
-ghost use Rattle.an_stream.specs.Stream.{changes_of, changes_page_of};
+ghost use Rattle.std.specs.Prelude.{◌≡◌, ◌<◌, ◌++◌, Ok, Err, IfOk, codes, string_bytes};
+ghost use Rattle.an_stream.specs.Stream.{changes_of};
 ghost use Rattle.an_policy.specs.Audience.{identity};
-ghost use Rattle.an_machine.specs.View.{view_of, view_by};
-ghost use Rattle.an_pages.specs.Bodies.{manifest_of_view, annotation_of_view};
-ghost use Rattle.an_search.specs.Search.{search_of};
-ghost use Rattle.an_complete.specs.Complete.{complete_of};
-ghost use Rattle.an_answers.specs.Answer.{challenge, refusal_reply, shown_reply, page_refusal};
-ghost use Rattle.an_answers.specs.Answer.{manifest_reply, note_reply, search_reply, completion_reply};
-ghost use Rattle.an_answers.specs.Answer.{with_iris, page_reply, changes_reply, changes_page_reply};
-ghost use Rattle.an_answers.specs.Answer.{read_reply, answer_of, query_answer, object_iri, bool_text, write_text};
-ghost use Rattle.an_answers.specs.Answer.{write_body, write_status, write_refusal, write_answer};
+ghost use Rattle.an_state.specs.View.{view_of, view_by};
+ghost use Rattle.an_http.specs.Errors.{refusal_reply};
+ghost use Rattle.an_answers.specs.Answer.{page_refusal, search_refusal, complete_refusal};
+ghost use Rattle.an_answers.specs.Answer.{stream_refusal, with_iris, shown, shown_of, shown_reply};
+ghost use Rattle.an_answers.specs.Answer.{answer_of, query_answer, object_iri, bool_text};
+ghost use Rattle.an_answers.specs.Answer.{write_text, write_body, write_status, write_refusal};
+ghost use Rattle.an_answers.specs.Answer.{write_answer};
 
-use an_base::{Bytes, Code, Name, Prefer, Steps};
+use an_base::{Bytes, Name, Prefer, Steps};
+use an_code::Code;
 use an_complete::{Ask, CompleteError, complete};
-use an_http::{Allow, Extra, Media, Reply, Status, error_body, status_of};
-use an_machine::{Look, Object, Refused, WriteReply};
+use an_http::{Allow, Extra, Media, Reply, Status, refusal_reply};
+use an_machine::{Refused, WriteReply};
 use an_manifest::manifest_iri;
 use an_pages::{PageError, annotation, canvas_page, container, container_page, manifest_answer};
 use an_policy::{Caller, Who};
 use an_routes::Read;
 use an_search::{AskError, Query, Settings, note_iri, search};
+use an_state::{Look, Object};
 use an_stream::{StreamError, changes, changes_page};
 use std::alloc::{AllocError, Global};
 use std::sync::ledger::Ledger;
@@ -39,7 +39,10 @@ pub fn answer<T: Look, L: Ledger>(
         (view_by (T.state look.now) caller.now) prefer read.now) }
 {
     match look.who(caller) {
-        Some(who) => answer_to(alloc, look, settings, &who, prefer, read, steps),
+        Some(who) => {
+            let shown = shown_to(alloc, look, settings, &who, prefer, read, steps)?;
+            shown_reply(alloc, read.methods(), shown)
+        }
         None => refusal_reply(alloc, read.methods(), Code::NotSigned),
     }
 }
@@ -76,34 +79,35 @@ pub fn write_answer(
     }
 }
 
-/// The reply that tells a refusal, at a route with these methods.
-pub fn refusal_reply(alloc: Global, allow: Allow, refusal: Code) -> Result<Reply, AllocError>
-    ensures reply { IfOk result (λ reply. reply ≡ refusal_reply allow refusal) }
-{
-    let status = status_of(refusal);
-    let body = error_body(alloc, refusal)?;
-    Ok(Reply {
-        status,
-        allow,
-        media: Media::Json,
-        extra: challenge(status),
-        body,
-    })
+// ---- reads
+
+/// What is shown: a body, what it is, and the further fields of its reply.
+#[derive(Debug, Drop)]
+pub(crate) struct Shown {
+    media: Media,
+    extra: Extra,
+    body: Bytes,
 }
 
-/// A token is asked for with 401.
-fn challenge(status: Status) -> Extra
-    ensures { result ≡ challenge status }
+/// The reply with what is shown, or with why it isn't, at a path with these methods.
+fn shown_reply(alloc: Global, allow: Allow, shown: Result<Shown, Code>) -> Result<Reply, AllocError>
+    ensures { IfOk result (λ reply. reply ≡ shown_reply allow shown) }
 {
-    match status {
-        Status::Unauthorized => Extra::Bearer,
-        _ => Extra::Absent,
+    match shown {
+        Ok(Shown { media, extra, body }) => Ok(Reply {
+            status: Status::Ok,
+            allow,
+            media,
+            extra,
+            body,
+        }),
+        Err(refusal) => refusal_reply(alloc, allow, refusal),
     }
 }
 
-// ---- reads
-
-fn answer_to<T: Look, L: Ledger>(
+/// What is shown of what is read, or why it isn't. An annotation is an LDP resource, and a container
+/// an LDP container.
+fn shown_to<T: Look, L: Ledger>(
     alloc: Global,
     look: &T,
     settings: &Settings,
@@ -111,18 +115,26 @@ fn answer_to<T: Look, L: Ledger>(
     prefer: Prefer,
     read: &Read,
     steps: &mut Steps<L>,
-) -> Result<Reply, AllocError>
-    ensures { IfOk result (λ reply. reply ≡ read_reply settings.now
+) -> Result<Result<Shown, Code>, AllocError>
+    ensures { IfOk result (λ shown. shown ≡ shown_of settings.now
         (view_of (T.state look.now) (identity who.now)) prefer read.now) }
 {
     match read {
-        Read::Manifest { name } => answer_manifest(alloc, look, settings, who, name),
-        Read::Note { owner, name } => answer_note(alloc, look, settings, who, owner, name),
+        Read::Manifest { name } => {
+            let body = manifest_answer(alloc, look, who, name, settings);
+            page_shown(Media::Manifest, Extra::Absent, body)
+        }
+        Read::Note { owner, name } => {
+            let body = annotation(alloc, look, who, owner, name, settings);
+            page_shown(Media::Annotation, Extra::Resource, body)
+        }
         Read::Search { manifest, query } => {
-            answer_search(alloc, look, settings, who, manifest, query, steps)
+            let body = search(alloc, look, who, manifest, query, settings, steps);
+            search_shown(body)
         }
         Read::Complete { manifest, ask } => {
-            answer_completion(alloc, look, settings, who, manifest, ask, steps)
+            let body = complete(alloc, look, who, manifest, ask, settings, steps);
+            completion_shown(body)
         }
         Read::Canvas {
             manifest,
@@ -130,100 +142,86 @@ fn answer_to<T: Look, L: Ledger>(
             region,
             page,
         } => {
-            let shown = canvas_page(
+            let body = canvas_page(
                 alloc, look, who, manifest, *canvas, *region, *page, settings, steps,
             );
-            page_reply(alloc, Media::Manifest, Extra::Absent, shown)
+            page_shown(Media::Manifest, Extra::Absent, body)
         }
         Read::Container { manifest, iris } => {
             let prefer = with_iris(prefer, *iris);
-            let shown = container(alloc, look, who, manifest, prefer, settings, steps);
-            page_reply(alloc, Media::Annotation, Extra::Container, shown)
+            let body = container(alloc, look, who, manifest, prefer, settings, steps);
+            page_shown(Media::Annotation, Extra::Container, body)
         }
         Read::ContainerPage {
             manifest,
             page,
             iris,
         } => {
-            let shown = container_page(alloc, look, who, manifest, *page, *iris, settings, steps);
-            page_reply(alloc, Media::Annotation, Extra::Absent, shown)
+            let body = container_page(alloc, look, who, manifest, *page, *iris, settings, steps);
+            page_shown(Media::Annotation, Extra::Absent, body)
         }
-        Read::Changes => answer_changes(alloc, look, settings, who),
-        Read::ChangesPage { page } => answer_changes_page(alloc, look, settings, who, *page),
-    }
-}
-
-fn answer_manifest<T: Look>(
-    alloc: Global,
-    look: &T,
-    settings: &Settings,
-    who: &Who<'_>,
-    name: &Name,
-) -> Result<Reply, AllocError>
-    ensures { IfOk result (λ reply. reply ≡ manifest_reply (manifest_of_view settings.now
-        (view_of (T.state look.now) (identity who.now)) name.now)) }
-{
-    match manifest_answer(alloc, look, who, name, settings) {
-        Ok(body) => Ok(shown_reply(Allow::Full, Media::Manifest, Extra::Absent, body)),
-        Err(error) => page_refused(alloc, Allow::Full, error),
-    }
-}
-
-fn answer_note<T: Look>(
-    alloc: Global,
-    look: &T,
-    settings: &Settings,
-    who: &Who<'_>,
-    owner: &Name,
-    name: &Name,
-) -> Result<Reply, AllocError>
-    ensures { IfOk result (λ reply. reply ≡ note_reply (annotation_of_view settings.now
-        (view_of (T.state look.now) (identity who.now)) owner.now name.now)) }
-{
-    match annotation(alloc, look, who, owner, name, settings) {
-        Ok(body) => Ok(shown_reply(Allow::Full, Media::Annotation, Extra::Resource, body)),
-        Err(error) => page_refused(alloc, Allow::Full, error),
-    }
-}
-
-fn answer_search<T: Look, L: Ledger>(
-    alloc: Global,
-    look: &T,
-    settings: &Settings,
-    who: &Who<'_>,
-    manifest: &Name,
-    query: &Query,
-    steps: &mut Steps<L>,
-) -> Result<Reply, AllocError>
-    ensures { IfOk result (λ reply. reply ≡ search_reply (search_of settings.now
-        (view_of (T.state look.now) (identity who.now)) manifest.now query.now)) }
-{
-    match search(alloc, look, who, manifest, query, settings, steps) {
-        Ok(body) => Ok(shown_reply(Allow::ReadOnly, Media::Search, Extra::Absent, body)),
-        Err(AskError::NoManifest) => refusal_reply(alloc, Allow::ReadOnly, Code::Absent),
-        Err(AskError::NoPage { pages }) => {
-            refusal_reply(alloc, Allow::ReadOnly, Code::NoPage { pages })
+        Read::Changes => changes_shown(alloc, look, settings, who),
+        Read::ChangesPage { page } => {
+            let body = changes_page(alloc, look, who, *page, settings);
+            changes_page_shown(body)
         }
-        Err(AskError::Memory) => Err(AllocError),
     }
 }
 
-fn answer_completion<T: Look, L: Ledger>(
-    alloc: Global,
-    look: &T,
-    settings: &Settings,
-    who: &Who<'_>,
-    manifest: &Name,
-    ask: &Ask,
-    steps: &mut Steps<L>,
-) -> Result<Reply, AllocError>
-    ensures { IfOk result (λ reply. reply ≡ completion_reply (complete_of settings.now
-        (view_of (T.state look.now) (identity who.now)) manifest.now ask.now)) }
+/// A manifest, an annotation, a container or a page.
+fn page_shown(
+    media: Media,
+    extra: Extra,
+    body: Result<Bytes, PageError>,
+) -> Result<Result<Shown, Code>, AllocError>
+    ensures shown { IfOk result (λ found. found ≡ shown media extra page_refusal body) }
+    ensures memory { IfOk result (λ _. ¬ (body ≡ Err PageError.Memory)) }
 {
-    match complete(alloc, look, who, manifest, ask, settings, steps) {
-        Ok(body) => Ok(shown_reply(Allow::ReadOnly, Media::Search, Extra::Absent, body)),
-        Err(CompleteError::NoManifest) => refusal_reply(alloc, Allow::ReadOnly, Code::Absent),
-        Err(CompleteError::Memory) => Err(AllocError),
+    match body {
+        Ok(body) => Ok(Ok(Shown { media, extra, body })),
+        Err(error) => match error {
+            PageError::Absent => Ok(Err(Code::Absent)),
+            PageError::Gone => Ok(Err(Code::Gone)),
+            PageError::NoPage { pages } => Ok(Err(Code::NoPage { pages })),
+            PageError::Memory => Err(AllocError),
+        },
+    }
+}
+
+fn search_shown(body: Result<Bytes, AskError>) -> Result<Result<Shown, Code>, AllocError>
+    ensures shown { IfOk result (λ found. found
+        ≡ shown Media.Search Extra.Absent search_refusal body) }
+    ensures memory { IfOk result (λ _. ¬ (body ≡ Err AskError.Memory)) }
+{
+    match body {
+        Ok(body) => Ok(Ok(Shown {
+            media: Media::Search,
+            extra: Extra::Absent,
+            body,
+        })),
+        Err(error) => match error {
+            AskError::NoManifest => Ok(Err(Code::Absent)),
+            AskError::NoPage { pages } => Ok(Err(Code::NoPage { pages })),
+            AskError::Memory => Err(AllocError),
+        },
+    }
+}
+
+fn completion_shown(body: Result<Bytes, CompleteError>) -> Result<Result<Shown, Code>, AllocError>
+    ensures shown { IfOk result (λ found. found
+        ≡ shown Media.Search Extra.Absent complete_refusal body) }
+    ensures memory { IfOk result (λ _. ¬ (body ≡ Err CompleteError.Memory)) }
+{
+    match body {
+        Ok(body) => Ok(Ok(Shown {
+            media: Media::Search,
+            extra: Extra::Absent,
+            body,
+        })),
+        Err(error) => match error {
+            CompleteError::NoManifest => Ok(Err(Code::Absent)),
+            CompleteError::Memory => Err(AllocError),
+        },
     }
 }
 
@@ -237,75 +235,41 @@ fn with_iris(prefer: Prefer, iris: bool) -> Prefer
     }
 }
 
-/// The reply with what is read alone, or with why there is nothing to show.
-fn page_reply(
-    alloc: Global,
-    media: Media,
-    extra: Extra,
-    shown: Result<Bytes, PageError>,
-) -> Result<Reply, AllocError>
-    ensures reply { IfOk result (λ reply. reply ≡ page_reply media extra shown) }
-    ensures memory { IfOk result (λ _. ¬ (shown ≡ Err PageError.Memory)) }
-{
-    match shown {
-        Ok(body) => Ok(shown_reply(Allow::ReadOnly, media, extra, body)),
-        Err(error) => page_refused(alloc, Allow::ReadOnly, error),
-    }
-}
-
-fn answer_changes<T: Look>(
+fn changes_shown<T: Look>(
     alloc: Global,
     look: &T,
     settings: &Settings,
     who: &Who<'_>,
-) -> Result<Reply, AllocError>
-    ensures { IfOk result (λ reply. reply ≡ changes_reply (changes_of settings.now
-        (view_of (T.state look.now) (identity who.now)))) }
+) -> Result<Result<Shown, Code>, AllocError>
+    ensures { IfOk result (λ shown. shown ≡ Ok (record {
+      media = Media.Changes;
+      extra = Extra.Absent;
+      body = changes_of settings.now (view_of (T.state look.now) (identity who.now));
+    })) }
 {
     let body = changes(alloc, look, who, settings)?;
-    Ok(shown_reply(Allow::ReadOnly, Media::Changes, Extra::Absent, body))
-}
-
-fn answer_changes_page<T: Look>(
-    alloc: Global,
-    look: &T,
-    settings: &Settings,
-    who: &Who<'_>,
-    page: u32,
-) -> Result<Reply, AllocError>
-    ensures { IfOk result (λ reply. reply ≡ changes_page_reply (changes_page_of settings.now
-        (view_of (T.state look.now) (identity who.now)) page)) }
-{
-    match changes_page(alloc, look, who, page, settings) {
-        Ok(body) => Ok(shown_reply(Allow::ReadOnly, Media::Changes, Extra::Absent, body)),
-        Err(StreamError::NoPage { pages }) => {
-            refusal_reply(alloc, Allow::ReadOnly, Code::NoPage { pages })
-        }
-        Err(StreamError::Memory) => Err(AllocError),
-    }
-}
-
-fn shown_reply(allow: Allow, media: Media, extra: Extra, body: Bytes) -> Reply
-    ensures { result ≡ shown_reply allow media extra body }
-{
-    Reply {
-        status: Status::Ok,
-        allow,
-        media,
-        extra,
+    Ok(Ok(Shown {
+        media: Media::Changes,
+        extra: Extra::Absent,
         body,
-    }
+    }))
 }
 
-fn page_refused(alloc: Global, allow: Allow, error: PageError) -> Result<Reply, AllocError>
-    ensures refused { IfOk result (λ reply. reply ≡ refusal_reply allow (page_refusal error)) }
-    ensures memory { IfOk result (λ _. ¬ (error ≡ PageError.Memory)) }
+fn changes_page_shown(body: Result<Bytes, StreamError>) -> Result<Result<Shown, Code>, AllocError>
+    ensures shown { IfOk result (λ found. found
+        ≡ shown Media.Changes Extra.Absent stream_refusal body) }
+    ensures memory { IfOk result (λ _. ¬ (body ≡ Err StreamError.Memory)) }
 {
-    match error {
-        PageError::Absent => refusal_reply(alloc, allow, Code::Absent),
-        PageError::Gone => refusal_reply(alloc, allow, Code::Gone),
-        PageError::NoPage { pages } => refusal_reply(alloc, allow, Code::NoPage { pages }),
-        PageError::Memory => Err(AllocError),
+    match body {
+        Ok(body) => Ok(Ok(Shown {
+            media: Media::Changes,
+            extra: Extra::Absent,
+            body,
+        })),
+        Err(error) => match error {
+            StreamError::NoPage { pages } => Ok(Err(Code::NoPage { pages })),
+            StreamError::Memory => Err(AllocError),
+        },
     }
 }
 

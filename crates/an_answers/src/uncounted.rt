@@ -1,14 +1,14 @@
 ghost use Rattle.std.specs.Prelude.{◌≡◌, ◌<◌, IfOk};
 ghost use Rattle.an_answers.specs.Answer.{answer_of};
-ghost use Rattle.an_machine.specs.View.{view_by};
+ghost use Rattle.an_state.specs.View.{view_by};
 
 use crate::answers::answer;
 use an_base::{Prefer, Steps};
 use an_http::Reply;
-use an_machine::Look;
 use an_policy::Caller;
 use an_routes::Read;
 use an_search::Settings;
+use an_state::Look;
 use std::alloc::{AllocError, Global};
 use std::marker::Brand;
 use std::sync::ledger::{Blank, Ledger};

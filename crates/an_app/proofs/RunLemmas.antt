@@ -1,29 +1,34 @@
 -- How the calls of a run at a keeper add up to its end.
-use Rattle.std.proofs.Common.{◌≡◌, ℕ, ℤ, Bool, ◌<◌, ◌≤◌, inr, ⊎_elim, List, [], ◌∷◌, map, length, Option, Some, None, IfSome, IfNone, IsSome, option_map, codes, refl, sym, subst, arith}
+use Rattle.std.proofs.Common.{◌≡◌, ℕ, ℤ, Bool, ◌<◌, ◌≤◌, inr, ⊎_elim, List, [], Option, Some, None, IfSome, IfNone, IsSome, refl, sym, subst, arith}
 use Rattle.std.proofs.lemmas.Bool.{false≢true}
-use Rattle.an_export.specs.Export.{exported}
 use Rattle.an_keep.specs.Keeper.{Told, StaysOrBegins}
-use Rattle.an_machine.specs.State.{State}
-use Rattle.an_machine.specs.View.{View}
+use Rattle.an_state.specs.State.{State}
+use Rattle.an_state.specs.View.{View}
 use Rattle.an_search.specs.Site.{Site}
 use Rattle.an_shelf.specs.Opening.{IsDamagedBy, StandFor, WasDamagedBy}
 use Rattle.an_shelf.specs.declared.error.OpenError.{OpenError}
 use Rattle.an_shelf.specs.declared.error.OpenError.TheVariants as error
 use Rattle.an_base.specs.Faults.{Rises}
 use Rattle.an_world.specs.Link.{Traffic, WritesFront}
-use Rattle.an_session.specs.Session.{IsCaused}
+use Rattle.an_session.specs.Session.{Ends, Line, ReadsRequests}
+use Rattle.an_session.specs.Trail.{Item}
 use Rattle.an_session.specs.declared.ended.Ended.{Ended}
 use Rattle.an_session.specs.declared.ended.Ended.TheVariants as ended
-use Rattle.an_app.specs.ImportEnds.{Imports, IsCause, Unopened, unopened_text}
-use Rattle.an_app.specs.ExportEnds.{ExportsAt, export_report, export_told, view_named}
-use Rattle.an_app.specs.SessionEnds.{IsEndCause, ended_status}
-use Rattle.an_app.specs.Status.{Exchanges, Finds, IsUnfailing, Misunderstands, PrintsFront, ReadsLittle, TellsReport, misunderstood}
-use Rattle.an_app.specs.Told.{IsTold, Tells}
-use Rattle.an_app.specs.Words as form
-use Rattle.an_app.specs.Words.{Form, ReadsInput, Runs, Trial, form_of, trial_report}
-use Rattle.an_app.specs.declared.status.Status.{Status}
-use Rattle.an_app.specs.declared.status.Status.TheVariants as status
-use Rattle.an_app.proofs.StatusLemmas.{Finds-no_memory, TellsReport-kept, TellsReport-nothing, TellsReport-unfailing, exchange, exchange-read, prints-unread, reads-nothing}
+use Rattle.an_lines.specs.ImportEnds.{Imports}
+use Rattle.an_app.specs.Unopened.{IsCause, Unopened, unopened_text}
+use Rattle.an_app.specs.AtStore.{ExportsAt}
+use Rattle.an_lines.specs.Export.{export_report, export_told, view_named}
+use Rattle.an_app.specs.SessionEnds.{ended_status}
+use Rattle.an_lines.specs.Status.{Exchanges, Finds, IsUnfailing, Misunderstands, PrintsFront, ReadsLittle, misunderstood}
+use Rattle.an_lines.specs.Told.{IsTold, Tells}
+use Rattle.an_app.specs.Outside.{Outside}
+use Rattle.an_app.specs.Runs.{ReadsInput, Runs}
+use Rattle.an_app.specs.declared.form.Form.{Form}
+use Rattle.an_app.specs.declared.form.Form.TheVariants as form
+use Rattle.an_lines.specs.Trials.{Trial, trial_report}
+use Rattle.an_lines.specs.declared.status.Status.{Status}
+use Rattle.an_lines.specs.declared.status.Status.TheVariants as status
+use Rattle.an_lines.proofs.StatusLemmas.{Finds-no_memory, TellsReport-kept, TellsReport-nothing, TellsReport-unfailing, exchange, exchange-read, prints-unread, reads_little-nothing, reads-nothing}
 
 -- ---- a store that isn't opened
 
@@ -110,85 +115,57 @@ damage_stood (Some cells) (Some others) why is some stays damaged = subst (λ ce
 pub damage_was : {K : Type 0} (told_by : K → Told) (told : Told) (tab key : ℕ) → WasDamagedBy told_by told (error.Damaged tab key) → IsSome told → ((kept : K) → IsSome (told_by kept)) → IsDamagedBy told (error.Damaged tab key)
 damage_was told_by told tab key was is telling = damage_stood told (told_by was.kept) (error.Damaged tab key) is (telling was.kept) was.stays was.damaged
 
--- why a keeper wasn't opened, which is gone
-pub open_cause : {K : Type 0} (told_by : K → Told) (Unkept : Type 0) (keeper : K) (failed : OpenError) → (failed ≡ error.Keeper → Unkept) → WasDamagedBy told_by (told_by keeper) failed
-    → (why : OpenError) → ((why ≡ failed) × ¬ (why ≡ error.Memory)) → IsCause Unkept ((kept : K) → IsSome (told_by kept)) (told_by keeper) why
-open_cause told_by Unkept keeper failed unkept was error.Keeper (is, some) = unkept (sym is)
-open_cause told_by Unkept keeper failed unkept was (error.Damaged tab key) (is, some) =
-    λ telling. damage_was told_by (told_by keeper) tab key (subst (WasDamagedBy told_by (told_by keeper)) (sym is) was) (telling keeper) telling
-open_cause told_by Unkept keeper failed unkept was error.Memory (is, some) = absurd (some refl)
+-- the outside, as far as the cause of what keeps a store closed depends on it
+abbrev pub at_store : Type 0 → Type 0 → Outside
+at_store can_fail tells = record { read_failed = ⊥; write_failed = ⊥; keeper_can_fail = can_fail; keepers_tell = tells }
 
--- why a connection ended
-pub end_cause : (ended : Ended) (new : Option Traffic) (read read' written written' : ℕ) → IsCaused ended new read read' written written'
-    → IsEndCause (Rises read read') (Rises written written') new ended
-end_cause ended.Closed new read read' written written' cause = tt
-end_cause ended.ReadFault new read read' written written' cause = cause
-end_cause ended.WriteFault new read read' written written' cause = cause
-end_cause ended.Memory new read read' written written' cause = cause
+-- why a keeper wasn't opened, which is gone
+pub open_cause : {K : Type 0} (told_by : K → Told) (can_fail tells : Type 0) (keeper : K) (failed : OpenError) → (tells → (kept : K) → IsSome (told_by kept))
+    → (failed ≡ error.Keeper → can_fail) → WasDamagedBy told_by (told_by keeper) failed
+    → (why : OpenError) → ((why ≡ failed) × ¬ (why ≡ error.Memory)) → IsCause (at_store can_fail tells) (told_by keeper) why
+open_cause told_by can_fail tells keeper failed tell unkept was error.Keeper (is, some) = unkept (sym is)
+open_cause told_by can_fail tells keeper failed tell unkept was (error.Damaged tab key) (is, some) =
+    λ telling. damage_was told_by (told_by keeper) tab key (subst (WasDamagedBy told_by (told_by keeper)) (sym is) was) (tell telling keeper) (tell telling)
+open_cause told_by can_fail tells keeper failed tell unkept was error.Memory (is, some) = absurd (some refl)
+
+-- a small input is no more than so many requests may have
+pub little_requests : (old new : Option Traffic) → ReadsLittle old new → ReadsRequests old new
+little_requests None None little = record { read = []; written = []; moves = tt; most = omega arith }
+little_requests None (Some new) little = absurd little.exchanged
+little_requests (Some old) None little = absurd little.exchanged
+little_requests (Some old) (Some new) little = record {
+  read = little.input;
+  written = little.written;
+  moves = record { left = little.exchanged.left; reads = little.exchanged.read; writes = little.exchanged.written };
+  most = omega (arith, little.most);
+}
 
 -- ---- all forms
 
--- words of no form have other counts
-pub no_form : {W : Type 0} (f : W → List ℕ) (words : List W) (P : Form → Type 0) → ¬ (length words ≡ 2) → ¬ (length words ≡ 3) → ¬ (length words ≡ 4) → IfSome (form_of (map f words)) P
-no_form f [] P two three four = tt
-no_form f (a ∷ []) P two three four = tt
-no_form f (a ∷ b ∷ []) P two three four = absurd (two refl)
-no_form f (a ∷ b ∷ c ∷ []) P two three four = absurd (three refl)
-no_form f (a ∷ b ∷ c ∷ d ∷ []) P two three four = absurd (four refl)
-no_form f (a ∷ b ∷ c ∷ d ∷ e ∷ words) P two three four = tt
+-- memory ran out before the form was read
+pub Runs-nothing_read : (outside : Outside) (clock : ℤ → Bool) (told : Told) (now : Line) (form : Option Form)
+    → IfSome form (Runs outside clock told now now status.Memory)
+unfolding ExportsAt
+Runs-nothing_read outside clock told now None = tt
+Runs-nothing_read outside clock told now (Some (form.Find site)) =
+    Finds-no_memory site outside.read_failed outside.write_failed now.traffic now.traffic ([], reads-nothing now.traffic, omega arith)
+Runs-nothing_read outside clock told now (Some form.Import) = inr (Unopened-no_memory (IsCause outside told) outside.write_failed now.traffic)
+Runs-nothing_read outside clock told now (Some (form.Export by)) = inr (Unopened-no_memory (IsCause outside told) outside.write_failed now.traffic)
+Runs-nothing_read outside clock told now (Some (form.Session site)) = inr (Unopened-no_memory (IsCause outside told) outside.write_failed now.traffic)
+Runs-nothing_read outside clock told now (Some (form.Trial count seed)) =
+    TellsReport-nothing (trial_report (record { count = count; seed = seed })) outside.write_failed now.traffic
 
--- `find` with the settings of two words
-pub Runs-find : (Unread Failed Unkept Telling : Type 0) (clock : ℤ → Bool) (told : Told) (old new : Option Traffic) (end : Status) (o : Option Site)
-    → IfSome o (λ site. Finds site Unread Failed old new end) → IfSome (option_map form.find o) (Runs Unread Failed Unkept Telling clock told old new end)
-Runs-find Unread Failed Unkept Telling clock told old new end None finds = tt
-Runs-find Unread Failed Unkept Telling clock told old new end (Some site) finds = finds
-
-pub Misunderstands-find : (P : Type 0) (o : Option Site) → IfNone o P → IfNone (option_map form.find o) P
-Misunderstands-find P None holds = holds
-Misunderstands-find P (Some site) holds = tt
-
-pub ReadsInput-find : (old new : Option Traffic) (o : Option Site) → ReadsLittle old new → IfSome (option_map form.find o) (ReadsInput old new)
-ReadsInput-find old new None little = tt
-ReadsInput-find old new (Some site) little = little
-
-pub ReadsInput-session : (old new : Option Traffic) (o : Option Site) → IfSome (option_map form.session o) (ReadsInput old new)
-ReadsInput-session old new None = tt
-ReadsInput-session old new (Some site) = tt
-
--- an export by a name that nobody has
-pub unnamed : (view : Option View) → None ≡ option_map exported view → record { status = status.NoReader; text = codes "no reader\n" } ≡ export_told view
-unnamed None is = refl
-unnamed (Some view) is = absurd (cc)
-
--- `trial` with what two words ask for
-pub Runs-trial : (Unread Failed Unkept Telling : Type 0) (clock : ℤ → Bool) (told : Told) (old new : Option Traffic) (end : Status) (o : Option Trial)
-    → IfSome o (λ asked. TellsReport (trial_report asked) Failed old new end) → IfSome (option_map form.trial o) (Runs Unread Failed Unkept Telling clock told old new end)
-Runs-trial Unread Failed Unkept Telling clock told old new end None tells = tt
-Runs-trial Unread Failed Unkept Telling clock told old new end (Some asked) tells = tells
-
-pub Misunderstands-trial : (P : Type 0) (o : Option Trial) → IfNone o P → IfNone (option_map form.trial o) P
-Misunderstands-trial P None holds = holds
-Misunderstands-trial P (Some asked) holds = tt
-
-pub ReadsInput-trial : (old new : Option Traffic) (o : Option Trial) → ReadsLittle old new → IfSome (option_map form.trial o) (ReadsInput old new)
-ReadsInput-trial old new None little = tt
-ReadsInput-trial old new (Some asked) little = little
-
-pub ruleset runs_of_find = (Runs-find, Misunderstands-find, ReadsInput-find, ReadsInput-session, Runs-trial, Misunderstands-trial, ReadsInput-trial)
-
--- memory ran out before anything was read
-pub Finds-nothing_read : (Unread Failed : Type 0) (traffic : Option Traffic) (o : Option Site) → IfSome o (λ site. Finds site Unread Failed traffic traffic status.Memory)
-Finds-nothing_read Unread Failed traffic None = tt
-Finds-nothing_read Unread Failed traffic (Some site) = Finds-no_memory site Unread Failed traffic traffic ([], reads-nothing traffic, omega arith)
-
-pub Runs-nothing_opened : (Unread Failed Unkept Telling : Type 0) (clock : ℤ → Bool) (told : Told) (traffic : Option Traffic) (o : Option Site)
-    → IfSome (option_map form.session o) (Runs Unread Failed Unkept Telling clock told traffic traffic status.Memory)
-Runs-nothing_opened Unread Failed Unkept Telling clock told traffic None = tt
-Runs-nothing_opened Unread Failed Unkept Telling clock told traffic (Some site) = inr (Unopened-no_memory (IsCause Unkept Telling told) Failed traffic)
-
-pub Misunderstands-nothing_read : {S : Type 0} (Failed : Type 0) (traffic : Option Traffic) (o : Option S) → IfNone o (Misunderstands Failed traffic traffic status.Memory)
+pub Misunderstands-nothing_read : (Failed : Type 0) (traffic : Option Traffic) (form : Option Form) → IfNone form (Misunderstands Failed traffic traffic status.Memory)
 Misunderstands-nothing_read Failed traffic None = TellsReport-nothing misunderstood Failed traffic
-Misunderstands-nothing_read Failed traffic (Some site) = tt
+Misunderstands-nothing_read Failed traffic (Some form) = tt
+
+pub ReadsInput-nothing_read : (traffic : Option Traffic) (form : Option Form) → IfSome form (ReadsInput traffic traffic)
+ReadsInput-nothing_read traffic None = tt
+ReadsInput-nothing_read traffic (Some (form.Find site)) = reads_little-nothing traffic
+ReadsInput-nothing_read traffic (Some form.Import) = reads_little-nothing traffic
+ReadsInput-nothing_read traffic (Some (form.Export by)) = reads_little-nothing traffic
+ReadsInput-nothing_read traffic (Some (form.Session site)) = little_requests traffic traffic (reads_little-nothing traffic)
+ReadsInput-nothing_read traffic (Some (form.Trial count seed)) = reads_little-nothing traffic
 
 pub never_rises : (a b : ℕ) → a ≡ 0 → b ≡ 0 → Rises a b → ⊥
 never_rises a b none still rises = let k : a < b = rises (omega arith) in omega arith
@@ -196,8 +173,8 @@ never_rises a b none still rises = let k : a < b = rises (omega arith) in omega 
 pub keeper_never_rises : (a b : ℕ) → b ≡ 0 → a ≤ b → Rises a b → ⊥
 keeper_never_rises a b still kept rises = let k : a < b = rises (omega arith) in omega arith
 
-module _ (Unread Failed Unkept Telling : Type 0) (clock : ℤ → Bool) (told : Told) (old new : Option Traffic) where
-  find_unfailing : (site : Site) (end : Status) → ¬ Unread → ¬ Failed → Finds site Unread Failed old new end → IsUnfailing end
+module _ (outside : Outside) (clock : ℤ → Bool) (told : Told) (old new : Line) where
+  find_unfailing : (site : Site) (end : Status) → ¬ outside.read_failed → ¬ outside.write_failed → Finds site outside.read_failed outside.write_failed old.traffic new.traffic end → IsUnfailing end
   unfolding Finds
   find_unfailing site status.WriteFault read written run = absurd (written run.0)
   find_unfailing site status.ReadFault read written run = absurd (read run.0)
@@ -209,7 +186,7 @@ module _ (Unread Failed Unkept Telling : Type 0) (clock : ℤ → Bool) (told : 
   find_unfailing site (status.Damaged tab key) read written run = tt
   find_unfailing site status.NoReader read written run = tt
 
-  import_unfailing : (s t : State) (end : Status) → ¬ Unread → ¬ Failed → Imports Unread Failed Unkept old new s t end → IsUnfailing end
+  import_unfailing : (s t : State) (end : Status) → ¬ outside.read_failed → ¬ outside.write_failed → Imports outside.read_failed outside.write_failed outside.keeper_can_fail old.traffic new.traffic s t end → IsUnfailing end
   unfolding Imports
   import_unfailing s t status.WriteFault read written run = absurd (written run.0)
   import_unfailing s t status.ReadFault read written run = absurd (read run.comes.0)
@@ -225,33 +202,36 @@ module _ (Unread Failed Unkept Telling : Type 0) (clock : ℤ → Bool) (told : 
   export_told-is None = tt
   export_told-is (Some view) = tt
 
-  ended_unfailing : (ended : Ended) → ¬ Unread → ¬ Failed → IsEndCause Unread Failed new ended → IsUnfailing (ended_status ended)
-  ended_unfailing ended.Closed read written cause = tt
-  ended_unfailing ended.ReadFault read written cause = absurd (read cause)
-  ended_unfailing ended.WriteFault read written cause = absurd (written cause)
-  ended_unfailing ended.Memory read written cause = tt
+  ended_unfailing : {E : Type 0} (ended : Ended) (trail lost : List (Item E)) (tail rest : List ℕ) → ¬ (Rises old.read_faults new.read_faults) → ¬ (Rises old.write_faults new.write_faults)
+      → Ends ended old new trail lost tail rest → IsUnfailing (ended_status ended)
+  ended_unfailing ended.Closed trail lost tail rest read written ends = tt
+  ended_unfailing ended.ReadFault trail lost tail rest read written (none, nothing, goes_on, open_, fault) = absurd (read fault)
+  ended_unfailing ended.WriteFault trail lost tail rest read written (last, is, stops) = absurd (written stops.fault)
+  ended_unfailing ended.Memory trail lost tail rest read written ends = tt
 
-  export_unfailing : (by : List ℕ) (end : Status) → ¬ Failed → ExportsAt Failed Unkept Telling told by old new end → IsUnfailing end
+  export_unfailing : (by : List ℕ) (end : Status) → ¬ outside.write_failed → ExportsAt outside told by old.traffic new.traffic end → IsUnfailing end
   unfolding ExportsAt
   export_unfailing by end written run =
-      ⊎_elim (λ opened. TellsReport-unfailing (export_report opened.state by) Failed old new end (export_told-is (view_named opened.state by)) written opened.tells)
-      (λ whole. unopened_unfailing (IsCause Unkept Telling told) Failed old new end written whole) run
+      ⊎_elim (λ opened. TellsReport-unfailing (export_report opened.state by) outside.write_failed old.traffic new.traffic end (export_told-is (view_named opened.state by)) written opened.tells)
+      (λ whole. unopened_unfailing (IsCause outside told) outside.write_failed old.traffic new.traffic end written whole) run
 
-  export_kept : (by : List ℕ) → ¬ Unkept → ExportsAt Failed Unkept Telling told by old new status.KeeperFailed → ⊥
+  export_kept : (by : List ℕ) → ¬ outside.keeper_can_fail → ExportsAt outside told by old.traffic new.traffic status.KeeperFailed → ⊥
   unfolding ExportsAt
   export_kept by kept run =
-      ⊎_elim (λ opened. TellsReport-kept (export_report opened.state by) Failed old new (export_told-is (view_named opened.state by)) opened.tells)
-      (λ whole. unopened_kept (IsCause Unkept Telling told) Failed old new kept whole) run
+      ⊎_elim (λ opened. TellsReport-kept (export_report opened.state by) outside.write_failed old.traffic new.traffic (export_told-is (view_named opened.state by)) opened.tells)
+      (λ whole. unopened_kept (IsCause outside told) outside.write_failed old.traffic new.traffic kept whole) run
 
-  run_unfailing : (end : Status) (form : Form) → ¬ Unread → ¬ Failed → Runs Unread Failed Unkept Telling clock told old new end form → IsUnfailing end
-  run_unfailing end (form.find site) read written run = find_unfailing site end read written run
-  run_unfailing end form.import read written run =
-      ⊎_elim (λ opened. import_unfailing opened.before opened.behind end read written opened.imports) (λ whole. unopened_unfailing (IsCause Unkept Telling told) Failed old new end written whole) run
-  run_unfailing end (form.export by) read written run = export_unfailing by end written run
-  run_unfailing end (form.trial asked) read written run = TellsReport-unfailing (trial_report asked) Failed old new end tt written run
-  run_unfailing end (form.session site) read written run =
-      ⊎_elim (λ opened. subst IsUnfailing (sym opened.is) (ended_unfailing opened.ended read written opened.cause))
-      (λ whole. unopened_unfailing (IsCause Unkept Telling told) Failed old new end written whole) run
+  run_unfailing : (end : Status) (form : Form) → (Rises old.read_faults new.read_faults → outside.read_failed) → (Rises old.write_faults new.write_faults → outside.write_failed) → ¬ outside.read_failed → ¬ outside.write_failed → Runs outside clock told old new end form → IsUnfailing end
+  run_unfailing end (form.Find site) reads writes read written run = find_unfailing site end read written run
+  run_unfailing end form.Import reads writes read written run =
+      ⊎_elim (λ opened. import_unfailing opened.before opened.behind end read written opened.imports) (λ whole. unopened_unfailing (IsCause outside told) outside.write_failed old.traffic new.traffic end written whole) run
+  run_unfailing end (form.Export by) reads writes read written run = export_unfailing by end written run
+  run_unfailing end (form.Trial count seed) reads writes read written run = TellsReport-unfailing (trial_report (record { count = count; seed = seed })) outside.write_failed old.traffic new.traffic end tt written run
+  run_unfailing end (form.Session site) reads writes read written run =
+      ⊎_elim (λ opened.
+      let session = opened.connection.session in
+      subst IsUnfailing (sym opened.is) (ended_unfailing opened.ended session.trail session.lost session.tail session.rest (λ h. read (reads h)) (λ h. written (writes h)) session.ends))
+      (λ whole. unopened_unfailing (IsCause outside told) outside.write_failed old.traffic new.traffic end written whole) run
 
   ended_kept : (ended : Ended) → status.KeeperFailed ≡ ended_status ended → ⊥
   ended_kept ended.Closed is = cc
@@ -259,31 +239,31 @@ module _ (Unread Failed Unkept Telling : Type 0) (clock : ℤ → Bool) (told : 
   ended_kept ended.WriteFault is = cc
   ended_kept ended.Memory is = cc
 
-  find_kept : (site : Site) → Finds site Unread Failed old new status.KeeperFailed → ⊥
+  find_kept : (site : Site) → Finds site outside.read_failed outside.write_failed old.traffic new.traffic status.KeeperFailed → ⊥
   unfolding Finds
   find_kept site run = run
 
-  import_kept : (s t : State) → ¬ Unkept → Imports Unread Failed Unkept old new s t status.KeeperFailed → ⊥
+  import_kept : (s t : State) → ¬ outside.keeper_can_fail → Imports outside.read_failed outside.write_failed outside.keeper_can_fail old.traffic new.traffic s t status.KeeperFailed → ⊥
   unfolding Imports
   import_kept s t kept run = kept run.comes.0
 
-  run_kept : (form : Form) → ¬ Unkept → Runs Unread Failed Unkept Telling clock told old new status.KeeperFailed form → ⊥
-  run_kept (form.find site) kept run = find_kept site run
-  run_kept form.import kept run =
-      ⊎_elim (λ opened. import_kept opened.before opened.behind kept opened.imports) (λ whole. unopened_kept (IsCause Unkept Telling told) Failed old new kept whole) run
-  run_kept (form.export by) kept run = export_kept by kept run
-  run_kept (form.trial asked) kept run = TellsReport-kept (trial_report asked) Failed old new tt run
-  run_kept (form.session site) kept run = ⊎_elim (λ opened. ended_kept opened.ended opened.is) (λ whole. unopened_kept (IsCause Unkept Telling told) Failed old new kept whole) run
+  run_kept : (form : Form) → ¬ outside.keeper_can_fail → Runs outside clock told old new status.KeeperFailed form → ⊥
+  run_kept (form.Find site) kept run = find_kept site run
+  run_kept form.Import kept run =
+      ⊎_elim (λ opened. import_kept opened.before opened.behind kept opened.imports) (λ whole. unopened_kept (IsCause outside told) outside.write_failed old.traffic new.traffic kept whole) run
+  run_kept (form.Export by) kept run = export_kept by kept run
+  run_kept (form.Trial count seed) kept run = TellsReport-kept (trial_report (record { count = count; seed = seed })) outside.write_failed old.traffic new.traffic tt run
+  run_kept (form.Session site) kept run = ⊎_elim (λ opened. ended_kept opened.ended opened.is) (λ whole. unopened_kept (IsCause outside told) outside.write_failed old.traffic new.traffic kept whole) run
 
   -- no call of the link is told to have failed where none can
-  pub ends_unfailing : (end : Status) (form : Option Form) → ¬ Unread → ¬ Failed → IfSome form (Runs Unread Failed Unkept Telling clock told old new end)
-      → IfNone form (Misunderstands Failed old new end) → IsUnfailing end
-  ends_unfailing end None read written understood run = TellsReport-unfailing misunderstood Failed old new end tt written run
-  ends_unfailing end (Some form) read written understood misunderstood = run_unfailing end form read written understood
+  pub ends_unfailing : (end : Status) (form : Option Form) → (Rises old.read_faults new.read_faults → outside.read_failed) → (Rises old.write_faults new.write_faults → outside.write_failed) → ¬ outside.read_failed → ¬ outside.write_failed → IfSome form (Runs outside clock told old new end)
+      → IfNone form (Misunderstands outside.write_failed old.traffic new.traffic end) → IsUnfailing end
+  ends_unfailing end None reads writes read written understood run = TellsReport-unfailing misunderstood outside.write_failed old.traffic new.traffic end tt written run
+  ends_unfailing end (Some form) reads writes read written understood misunderstood = run_unfailing end form reads writes read written understood
 
   -- nor the keeper
-  pub ends_kept : (end : Status) (form : Option Form) → ¬ Unkept → IfSome form (Runs Unread Failed Unkept Telling clock told old new end)
-      → IfNone form (Misunderstands Failed old new end) → ¬ (end ≡ status.KeeperFailed)
-  ends_kept end None kept understood run = λ is. TellsReport-kept misunderstood Failed old new tt (subst (λ end. Misunderstands Failed old new end) is run)
+  pub ends_kept : (end : Status) (form : Option Form) → ¬ outside.keeper_can_fail → IfSome form (Runs outside clock told old new end)
+      → IfNone form (Misunderstands outside.write_failed old.traffic new.traffic end) → ¬ (end ≡ status.KeeperFailed)
+  ends_kept end None kept understood run = λ is. TellsReport-kept misunderstood outside.write_failed old.traffic new.traffic tt (subst (λ end. Misunderstands outside.write_failed old.traffic new.traffic end) is run)
   ends_kept end (Some form) kept understood misunderstood =
-      λ is. run_kept form kept (subst (λ end. Runs Unread Failed Unkept Telling clock told old new end form) is understood)
+      λ is. run_kept form kept (subst (λ end. Runs outside clock told old new end form) is understood)

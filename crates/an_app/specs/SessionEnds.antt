@@ -1,18 +1,19 @@
--- How a run of `session` ends: its status, what went over its link, and why.
-use Rattle.std.specs.Prelude.{◌≡◌, ℤ, ◌⊎◌, [], Bool, Option}
-use Rattle.an_http.specs.Replies.{memory_reply}
+-- How a run of `session` ends: its status, and what it comes to.
+use Rattle.std.specs.Prelude.{◌≡◌, ℤ, ◌⊎◌, Bool}
 use Rattle.an_keep.specs.Keeper.{Told}
-use Rattle.an_machine.specs.State.{State}
+use Rattle.an_state.specs.State.{State}
 use Rattle.an_search.specs.Site.{Site}
-use Rattle.an_session.specs.Session.{EndsWith}
+use Rattle.an_session.specs.Session.{Line}
+use Rattle.an_session.specs.Trail.{Known}
 use Rattle.an_session.specs.declared.ended.Ended.{Ended}
 use Rattle.an_session.specs.declared.ended.Ended.TheVariants as ended
 use Rattle.an_shelf.specs.Opening.{StandFor}
-use Rattle.an_world.specs.Link.{Traffic}
-use Rattle.an_app.specs.AtDesk.{Connection}
-use Rattle.an_app.specs.ImportEnds.{IsCause, Unopened}
-use Rattle.an_app.specs.declared.status.Status.{Status}
-use Rattle.an_app.specs.declared.status.Status.TheVariants as status
+use Rattle.an_serve.specs.AtDesk.{Connection}
+use Rattle.an_serve.specs.Events.{Event, IsLegal, opened}
+use Rattle.an_app.specs.Outside.{Outside}
+use Rattle.an_app.specs.Unopened.{IsCause, Unopened}
+use Rattle.an_lines.specs.declared.status.Status.{Status}
+use Rattle.an_lines.specs.declared.status.Status.TheVariants as status
 
 -- the status of a run whose connection ended so
 abbrev pub ended_status : Ended → Status
@@ -21,31 +22,21 @@ ended_status ended.ReadFault = status.ReadFault
 ended_status ended.WriteFault = status.WriteFault
 ended_status ended.Memory = status.Memory
 
--- why a connection ended so: `Unread` and `Failed` say that the counts of read faults and of write
--- faults rose; where memory ran out, the reply that says so was written, unless a write failed
-abbrev pub IsEndCause : Type 0 → Type 0 → Option Traffic → Ended → Type 0
-IsEndCause Unread Failed new ended.Closed = Unit {0}
-IsEndCause Unread Failed new ended.ReadFault = Unread
-IsEndCause Unread Failed new ended.WriteFault = Failed
-IsEndCause Unread Failed new ended.Memory = Failed ⊎ EndsWith new memory_reply
-
--- From a state one connection was served, whose writes are the first of their history. The cells
--- stand for the state, where each keeper of this kind tells its cells.
-pub record SessionOpened (Unread Failed Unkept Telling : Type 0) (clock : ℤ → Bool) (site : Site)
-    (told : Told) (old new : Option Traffic) (end : Status) : Type 0 where
-  pub before : State
-  pub behind : State
-  pub stand : Telling → StandFor told before
+-- From the state with which the store was opened one connection was served. The cells stand for the
+-- state, where each keeper of this kind tells its cells.
+pub record SessionOpened (outside : Outside) (clock : ℤ → Bool) (site : Site) (told : Told)
+    (old new : Line) (end : Status) : Type 0 where
+  pub state : State
+  pub stand : outside.keepers_tell → StandFor told state
+  pub behind : Known Event
+  pub legal : IsLegal behind.list
   pub ended : Ended
   pub is : end ≡ ended_status ended
-  pub cause : IsEndCause Unread Failed new ended
-  pub connection : Connection Unkept clock site ended old new before [] behind
+  pub connection : Connection outside.keeper_can_fail clock site ended old new (opened state) behind
 
--- How a run of `session` ends at a keeper that told this, with moments that the clock tells.
--- `Unkept` says that the keeper can fail, and `Telling` that each keeper of this kind tells its
--- cells. It prints nothing of its own where the store is opened.
-abbrev pub SessionAt : Type 0 → Type 0 → Type 0 → Type 0 → (ℤ → Bool) → Site → Told
-    → Option Traffic → Option Traffic → Status → Type 0
-SessionAt Unread Failed Unkept Telling clock site told old new status =
-    SessionOpened Unread Failed Unkept Telling clock site told old new status
-    ⊎ Unopened (IsCause Unkept Telling told) Failed old new status
+-- How a run of `session` ends at a keeper that told this, with moments that the clock tells. It
+-- prints nothing of its own where the store is opened.
+abbrev pub SessionAt : Outside → (ℤ → Bool) → Site → Told → Line → Line → Status → Type 0
+SessionAt outside clock site told old new status =
+    SessionOpened outside clock site told old new status
+    ⊎ Unopened (IsCause outside told) outside.write_failed old.traffic new.traffic status

@@ -1,17 +1,18 @@
 //! What holds of every answer. Each law is the contract of a function that does nothing.
 ghost use Rattle.std.specs.Prelude.{◌≡◌, ℕ, List};
 ghost use Rattle.an_http.specs.declared.request.Request.{Request};
-ghost use Rattle.an_machine.specs.State.{State};
+ghost use Rattle.an_state.specs.State.{State};
 ghost use Rattle.an_search.specs.Site.{Site};
-ghost use Rattle.an_app.specs.Asked.{asked_of};
-ghost use Rattle.an_app.specs.Find.{turn_of};
-ghost use Rattle.an_app.specs.Isolation.{ReaderSeesAlike, SenderSeesAlike};
-ghost use Rattle.an_app.specs.Respond.{response_of};
+ghost use Rattle.an_lines.specs.Asked.{asked_of};
+ghost use Rattle.an_lines.specs.Find.{turn_of};
+ghost use Rattle.an_lines.specs.Isolation.{ReaderSeesAlike};
+ghost use Rattle.an_serve.specs.Isolation.{SenderSeesAlike};
+ghost use Rattle.an_serve.specs.Respond.{response_of};
 
 /// A law: in two states of which a caller has one view, the caller is answered alike. A request
 /// has the same reply in both, unless the machine is asked to write, and then it is asked the same;
 /// a line that reads prints the same.
-#[tactic(auto, using(crate::proofs::IsolationLemmas::alike))]
+#[tactic(auto, using(crate::proofs::Isolation::alike))]
 pub fn equal_views_are_answered_alike()
     ensures requests { (site : Site) (s t : State) (request : Request)
         → SenderSeesAlike s t request → response_of site s request ≡ response_of site t request }

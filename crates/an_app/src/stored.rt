@@ -1,20 +1,23 @@
 //! Runs at a store, which is opened first.
 ghost use Rattle.std.specs.Prelude.{◌≡◌, [], IfOk, IsSome, IsTrue, string_bytes};
 ghost use Rattle.an_base.specs.Faults.{Rises};
-ghost use Rattle.an_machine.specs.State.{State};
-ghost use Rattle.an_app.specs.AtDesk.{Connection};
-ghost use Rattle.an_app.specs.ExportEnds.{ExportsAt, export_report};
-ghost use Rattle.an_app.specs.ImportEnds.{Imports, ImportsAt, Unopened, damage_text};
-ghost use Rattle.an_app.specs.SessionEnds.{IsEndCause, SessionAt, ended_status};
-ghost use Rattle.an_app.specs.Status.{ReadsLittle, TellsReport};
+ghost use Rattle.an_state.specs.State.{State};
+ghost use Rattle.an_serve.specs.AtDesk.{Connection};
+ghost use Rattle.an_serve.specs.Events.{Event, IsLegal, opened};
+ghost use Rattle.an_session.specs.Session.{ReadsRequests, line};
+ghost use Rattle.an_session.specs.Trail.{Known};
+ghost use Rattle.an_app.specs.AtStore.{ExportsAt};
+ghost use Rattle.an_lines.specs.Export.{export_report};
+ghost use Rattle.an_lines.specs.ImportEnds.{Imports};
+ghost use Rattle.an_app.specs.AtStore.{ImportsAt};
+ghost use Rattle.an_app.specs.Unopened.{Unopened, damage_text};
+ghost use Rattle.an_app.specs.SessionEnds.{SessionAt, ended_status};
+ghost use Rattle.an_lines.specs.Status.{ReadsLittle, TellsReport};
 
-use crate::at_desk::session_at_desk;
-use crate::exporting::export;
-use crate::importing::import;
-use crate::status::Status;
-use crate::told::tell;
 use an_keep::Keeper;
+use an_lines::{Status, export, import, tell};
 use an_search::Settings;
+use an_serve::session_at_desk;
 use an_session::Ended;
 use an_shelf::{Desk, OpenError};
 use an_world::{Clock, Link};
@@ -23,9 +26,13 @@ use std::alloc::{AllocError, Global};
 /// Writes lines to the store of a keeper.
 pub(crate) fn import_at<L: Link, K: Keeper>(alloc: Global, link: &mut L, keeper: K) -> Status
     ensures imports { ImportsAt
-        (Rises (L.read_faults link.old) (L.read_faults link.new))
-        (Rises (L.write_faults link.old) (L.write_faults link.new))
-        (¬ (IsTrue K.is_sure)) ((kept : K) → IsSome (K.told kept)) (K.told keeper)
+        (record {
+          read_failed = Rises (L.read_faults link.old) (L.read_faults link.new);
+          write_failed = Rises (L.write_faults link.old) (L.write_faults link.new);
+          keeper_can_fail = ¬ (IsTrue K.is_sure);
+          keepers_tell = (kept : K) → IsSome (K.told kept);
+        })
+        (K.told keeper)
         (L.traffic link.old) (L.traffic link.new) result }
     ensures bounded { ReadsLittle (L.traffic link.old) (L.traffic link.new) }
 {
@@ -60,8 +67,13 @@ pub(crate) fn export_at<L: Link, K: Keeper>(
     by: &str,
 ) -> Status
     ensures exports { ExportsAt
-        (Rises (L.write_faults link.old) (L.write_faults link.new))
-        (¬ (IsTrue K.is_sure)) ((kept : K) → IsSome (K.told kept)) (K.told keeper) by.now
+        (record {
+          read_failed = Rises (L.read_faults link.old) (L.read_faults link.new);
+          write_failed = Rises (L.write_faults link.old) (L.write_faults link.new);
+          keeper_can_fail = ¬ (IsTrue K.is_sure);
+          keepers_tell = (kept : K) → IsSome (K.told kept);
+        })
+        (K.told keeper) by.now
         (L.traffic link.old) (L.traffic link.new) result }
     ensures bounded { ReadsLittle (L.traffic link.old) (L.traffic link.new) }
 {
@@ -94,11 +106,16 @@ pub(crate) fn session_at<L: Link, K: Keeper, C: Clock>(
     clock: &C,
 ) -> Status
     ensures session { SessionAt
-        (Rises (L.read_faults link.old) (L.read_faults link.new))
-        (Rises (L.write_faults link.old) (L.write_faults link.new))
-        (¬ (IsTrue K.is_sure)) ((kept : K) → IsSome (K.told kept))
+        (record {
+          read_failed = Rises (L.read_faults link.old) (L.read_faults link.new);
+          write_failed = Rises (L.write_faults link.old) (L.write_faults link.new);
+          keeper_can_fail = ¬ (IsTrue K.is_sure);
+          keepers_tell = (kept : K) → IsSome (K.told kept);
+        })
         (C.answers clock.now) settings.now (K.told keeper)
-        (L.traffic link.old) (L.traffic link.new) result }
+        (line (L.traffic link.old) (L.read_faults link.old) (L.write_faults link.old))
+        (line (L.traffic link.new) (L.read_faults link.new) (L.write_faults link.new)) result }
+    ensures bounded { ReadsRequests (L.traffic link.old) (L.traffic link.new) }
 {
     match Desk::open(alloc, keeper) {
         Ok(desk) => ended_status(session_into(alloc, link, desk, settings, clock)),
@@ -115,14 +132,13 @@ fn session_into<L: Link, K: Keeper, C: Clock>(
     settings: &Settings,
     clock: &C,
 ) -> Ended
-    ensures connection { (behind : State) × Connection
+    ensures connection { (behind : Known Event) × IsLegal behind.list × Connection
         (¬ (IsTrue K.is_sure)) (C.answers clock.now) settings.now result
-        (L.traffic link.old) (L.traffic link.new) desk.state [] behind }
+        (line (L.traffic link.old) (L.read_faults link.old) (L.write_faults link.old))
+        (line (L.traffic link.new) (L.read_faults link.new) (L.write_faults link.new))
+        (opened desk.state) behind }
     ensures told { ((kept : K) → IsSome (K.told kept)) → IsSome desk.told }
-    ensures cause { IsEndCause
-        (Rises (L.read_faults link.old) (L.read_faults link.new))
-        (Rises (L.write_faults link.old) (L.write_faults link.new))
-        (L.traffic link.new) result }
+    ensures bounded { ReadsRequests (L.traffic link.old) (L.traffic link.new) }
 {
     let mut desk = desk;
     let ended = session_at_desk(alloc, link, &mut desk, settings, clock);

@@ -2,13 +2,15 @@ pub mod TreeLemmas
 pub mod TreeTexts
 pub mod ValueLemmas
 pub mod CharLemmas
-pub mod TreeEquality
 pub mod ObjectLemmas
 pub mod ItemLemmas
 pub mod WriteLemmas
 pub mod CutLemmas
 pub mod KeptLemmas
+pub mod AscendLemmas
 pub mod TextSetLemmas
+pub mod NumberedLemmas
+pub mod TotalLemmas
 mod TreeRows
 pub mod DecimalLemmas
 pub mod MomentCalendar

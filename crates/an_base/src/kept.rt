@@ -112,28 +112,6 @@ impl TryCopy for KeptTree {
     }
 }
 
-impl PartialEq for KeptTree {
-    ghost use Rattle.serde_json.specs.Written.{compact_text};
-    ghost use Rattle.std.specs.Cmp.Lexicographic.{on_texts_equal};
-    ghost use Rattle.std.specs.Cmp as Cmp;
-    ghost use Rattle.an_base.specs.Tree.{same_text};
-
-    ghost eq = { same_text };
-
-    ghost laws = { Cmp.partial_equiv_from_equiv (on_texts_equal compact_text) };
-
-    fn eq(&self, other: &KeptTree) -> bool {
-        self.text() == other.text()
-    }
-}
-
-impl Eq for KeptTree {
-    ghost use Rattle.serde_json.specs.Written.{compact_text};
-    ghost use Rattle.std.specs.Cmp.Lexicographic.{on_texts_equal};
-
-    ghost laws = { on_texts_equal compact_text };
-}
-
 /// Where the members of an object's text end.
 fn members_end(text: &[u8]) -> usize
     ensures end { (tree : Data) → is_object tree ≡ true → text.now ≡ compact_text tree

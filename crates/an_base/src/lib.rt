@@ -3,8 +3,7 @@
 
 pub use bytes::Bytes;
 pub use chars::char_count;
-pub use code::Code;
-pub use copy::TryCopy;
+pub use copy::{TryCopy, copy_both};
 pub use decimal::read_decimal;
 pub use kept::KeptTree;
 pub use list::List;
@@ -15,12 +14,14 @@ pub use moment::{
 };
 pub use name::{Name, NameError};
 pub use object::{with_member, without_member};
-pub use parameter::Parameter;
+pub use shared::Shared;
 pub use span::{Prefer, Span, TermTotal};
 pub use steps::Steps;
+pub use term_list::TermList;
 pub use text::Text;
 pub use text_set::{TextSet, to_u32};
 pub use token::is_token;
+pub use totals::TermTotals;
 pub use tree::{
     Tree, TreeError, equal_texts_are_equal_trees, one_or_many, read_tree, tree_text,
     trees_read_back,
@@ -34,7 +35,6 @@ pub use write::{
 
 mod bytes;
 mod chars;
-mod code;
 mod copy;
 mod decimal;
 mod kept;
@@ -43,12 +43,14 @@ mod member;
 mod moment;
 mod name;
 mod object;
-mod parameter;
+mod shared;
 mod span;
 mod steps;
+mod term_list;
 mod text;
 mod text_set;
 mod token;
+mod totals;
 mod tree;
 mod value;
 mod write;

@@ -21,7 +21,7 @@ pub enum NameError {
 
 /// The name of a reader, a manifest, an annotation or a group: 1 to 64 bytes of `a-z`, `0-9`, `-`
 /// and `_`, other than `-` alone. Contracts see the list of its bytes.
-#[derive(Debug, Drop)]
+#[derive(Debug, Drop, PartialEq, Eq)]
 pub struct Name {
     text: Text,
 }
@@ -33,6 +33,8 @@ impl Model for Name {
     ghost Value = { List ℕ };
 
     ghost view = { λ n. n.text };
+
+    ghost inverse = { λ text. record { text = text } };
 
     ghost invariant = { λ n. IsTrue (is_name n.text) };
 }
@@ -67,26 +69,6 @@ impl TryCopy for Name {
             text: self.text.copy()?,
         })
     }
-}
-
-impl PartialEq for Name {
-    ghost use Rattle.std.specs.Prelude.{bytes_eq};
-    ghost use Rattle.std.specs.Cmp.Lexicographic.{nat_list_eq_equiv};
-    ghost use Rattle.std.specs.Cmp as Cmp;
-
-    ghost eq = { bytes_eq };
-
-    ghost laws = { Cmp.partial_equiv_from_equiv nat_list_eq_equiv };
-
-    fn eq(&self, other: &Name) -> bool {
-        self.as_str() == other.as_str()
-    }
-}
-
-impl Eq for Name {
-    ghost use Rattle.std.specs.Cmp.Lexicographic.{nat_list_eq_equiv};
-
-    ghost laws = { nat_list_eq_equiv };
 }
 
 /// The first refusal of a text as a name.

@@ -1,14 +1,18 @@
-ghost use Rattle.std.specs.Prelude.{◌≡◌, ◌≤◌, ◌++◌, ◌∷◌, [], bytes_eq, length, slice_range, true};
-ghost use Rattle.std.specs.Prelude.{IfOk};
-ghost use Rattle.an_base.specs.TextSet.{has_text, with_text, distinct, pieces, are_ends};
+ghost use Rattle.std.specs.Prelude.{◌≡◌, ◌≤◌, ◌<◌, ◌++◌, ◌∷◌, [], length, get_or, map};
+ghost use Rattle.std.specs.List.{prefix_len, starts_with};
+ghost use Rattle.std.specs.Prelude.{bytes_eq, nat_eq, slice_range, string_bytes, true, IfOk};
+ghost use Rattle.std.specs.Str.{is_utf8};
+ghost use Rattle.an_base.specs.TextSet.{Ascend, are_ends, ascending, has_text, is_below, pieces, start_of};
 
 use crate::copy::TryCopy;
 use crate::text::Text;
 use std::alloc::{AllocError, Global};
+use std::collections::BTreeSet;
 use std::marker::Model;
+use std::str::from_utf8;
 
-/// Texts, each once, in one buffer: a text takes its bytes and four more. Contracts see the list
-/// of them.
+/// Texts, each once, ascending by their bytes, in one buffer: a text takes its bytes and four more.
+/// Contracts see the list of them.
 #[derive(Debug, Drop)]
 pub struct TextSet {
     bytes: Vec<u8>,
@@ -16,14 +20,14 @@ pub struct TextSet {
 }
 
 impl Model for TextSet {
-    ghost use Rattle.std.specs.Prelude.{ℕ, IsTrue, List, length};
-    ghost use Rattle.an_base.specs.TextSet.{pieces, are_ends};
+    ghost use Rattle.std.specs.Prelude.{ℕ, List};
+    ghost use Rattle.an_base.specs.TextSet.{pieces, ArePacked};
 
     ghost Value = { List (List ℕ) };
 
     ghost view = { λ s. pieces 0 s.ends.items s.bytes.items };
 
-    ghost invariant = { λ s. IsTrue (are_ends 0 s.ends.items (length s.bytes.items)) };
+    ghost invariant = { λ s. ArePacked s.ends.items s.bytes.items };
 }
 
 impl TextSet {
@@ -37,37 +41,75 @@ impl TextSet {
         }
     }
 
-    /// The texts, each once, in no more memory than they need.
+    /// The texts, each once, in no more memory than they need. Texts of 4 GiB together are refused
+    /// as want of memory.
     pub fn of(alloc: Global, texts: &[Text]) -> Result<TextSet, AllocError>
-        ensures value { IfOk result (λ s. s ≡ distinct texts.now) }
+        ensures value { IfOk result (λ s. s ≡ ascending texts.now) }
     {
-        let mut set = TextSet::new(alloc);
+        let mut found = BTreeSet::new(alloc);
         for text in texts {
-            set = set.with(text.as_str())?;
+            found.insert(String::from_str(alloc, text.as_str())?)?;
         }
-        Ok(set.shrunk())
+        packed(alloc, found)
+    }
+
+    /// How many they are.
+    pub fn len(&self) -> usize
+        ensures length { result ≡ length self.now }
+        ensures order { Ascend self.now }
+    {
+        self.ends.as_slice().len()
+    }
+
+    /// The text at this place, from 0.
+    pub fn text(&self, place: usize) -> &str
+        requires within { place < length self.now }
+        ensures text { result.now ≡ get_or self.now place [] }
+    {
+        match from_utf8(self.bytes_at(place)) {
+            Ok(text) => text,
+            Err(_) => unreachable!(),
+        }
+    }
+
+    /// The place of the first text that doesn't stand before this one, which is the text's own
+    /// where it is one of them.
+    pub fn place_of(&self, text: &str) -> usize
+        ensures place { result ≡ prefix_len (is_below text.now) self.now }
+    {
+        let mut low = 0;
+        let mut high = self.len();
+        while low < high {
+            let middle = low + (high - low) / 2;
+            if self.is_below(middle, text) {
+                low = middle + 1;
+            } else {
+                high = middle;
+            }
+        }
+        low
+    }
+
+    /// Whether the text at this place begins with the prefix.
+    pub fn begins(&self, place: usize, prefix: &str) -> bool
+        requires within { place < length self.now }
+        ensures begins { result ≡ starts_with nat_eq (get_or self.now place []) prefix.now }
+    {
+        self.bytes_at(place).starts_with(prefix.as_bytes())
     }
 
     /// Whether the text is one of them.
     pub fn has(&self, text: &str) -> bool
         ensures found { result ≡ has_text text.now self.now }
     {
-        has_piece(self.bytes.as_slice(), self.ends.as_slice(), text)
+        let place = self.place_of(text);
+        place < self.len() && self.is_at(place, text)
     }
 
-    /// The set with this text too. Texts of 4 GiB together are refused as want of memory.
-    pub fn with(self, text: &str) -> Result<TextSet, AllocError>
-        ensures value { IfOk result (λ s. s ≡ with_text self text.now) }
-    {
-        if self.has(text) {
-            return Ok(self);
-        }
-        let set = self.followed_by(text)?;
-        Ok(set)
-    }
-
-    fn followed_by(self, text: &str) -> Result<TextSet, AllocError>
-        ensures { IfOk result (λ s. s ≡ self ++ text.now ∷ []) }
+    /// The texts with one more, behind all.
+    pub(crate) fn followed_by(self, text: &str) -> Result<TextSet, AllocError>
+        requires order { Ascend (self ++ text.now ∷ []) }
+        ensures value { IfOk result (λ s. s ≡ self ++ text.now ∷ []) }
     {
         let TextSet { bytes, ends } = self;
         let mut bytes = bytes;
@@ -79,7 +121,7 @@ impl TextSet {
     }
 
     /// The same texts, in no more memory than they need.
-    pub fn shrunk(self) -> TextSet
+    pub(crate) fn shrunk(self) -> TextSet
         ensures same { result ≡ self }
     {
         let TextSet { bytes, ends } = self;
@@ -88,6 +130,30 @@ impl TextSet {
         bytes.shrink_to_fit();
         ends.shrink_to_fit();
         TextSet { bytes, ends }
+    }
+
+    fn bytes_at(&self, place: usize) -> &[u8]
+        requires { place < length self.now }
+        ensures bytes { result.now ≡ get_or self.now place [] }
+        ensures utf8 { is_utf8 result.now ≡ true }
+    {
+        piece(self.bytes.as_slice(), self.ends.as_slice(), place)
+    }
+
+    /// Whether the text at this place stands before the other.
+    fn is_below(&self, place: usize, text: &str) -> bool
+        requires { place < length self.now }
+        ensures { result ≡ is_below text.now (get_or self.now place []) }
+    {
+        self.bytes_at(place).cmp(text.as_bytes()).is_lt()
+    }
+
+    /// Whether the text stands at this place.
+    fn is_at(&self, place: usize, text: &str) -> bool
+        requires { place < length self.now }
+        ensures { result ≡ bytes_eq (get_or self.now place []) text.now }
+    {
+        self.bytes_at(place) == text.as_bytes()
     }
 }
 
@@ -101,6 +167,17 @@ impl TryCopy for TextSet {
     }
 }
 
+/// The texts of a set, one behind the other.
+fn packed(alloc: Global, texts: BTreeSet<String>) -> Result<TextSet, AllocError>
+    ensures { IfOk result (λ s. s ≡ map string_bytes texts.keys) }
+{
+    let mut set = TextSet::new(alloc);
+    for text in texts {
+        set = set.followed_by(text.as_str())?;
+    }
+    Ok(set.shrunk())
+}
+
 /// The number in 32 bits, if it has no more.
 pub fn to_u32(n: usize) -> Result<u32, AllocError>
     ensures value { IfOk result (λ m. m ≡ n) }
@@ -111,27 +188,31 @@ pub fn to_u32(n: usize) -> Result<u32, AllocError>
     }
 }
 
-/// Whether one of the texts that end at these places is this one.
-fn has_piece(bytes: &[u8], ends: &[u32], text: &str) -> bool
+/// The text at a place of those that end at these places.
+fn piece<'a>(bytes: &'a [u8], ends: &[u32], place: usize) -> &'a [u8]
     requires ends { are_ends 0 ends.now (length bytes.now) ≡ true }
-    ensures found { result ≡ has_text text.now (pieces 0 ends.now bytes.now) }
+    requires within { place < length ends.now }
+    ensures { result.now ≡ get_or (pieces 0 ends.now bytes.now) place [] }
 {
-    let mut start = 0;
-    for end in ends {
-        let end = *end as usize;
-        if is_piece(bytes, start, end, text) {
-            return true;
-        }
-        start = end;
-    }
-    false
+    part(bytes, start_of(ends, place), ends[place] as usize)
 }
 
-/// Whether the text stands there.
-fn is_piece(bytes: &[u8], start: usize, end: usize, text: &str) -> bool
+/// Where the text at a place begins: where the one before it ends.
+fn start_of(ends: &[u32], place: usize) -> usize
+    requires { place < length ends.now }
+    ensures { result ≡ start_of ends.now place }
+{
+    if place == 0 {
+        0
+    } else {
+        ends[place - 1] as usize
+    }
+}
+
+fn part(bytes: &[u8], start: usize, end: usize) -> &[u8]
     requires order { start ≤ end }
     requires within { end ≤ length bytes.now }
-    ensures { result ≡ bytes_eq (slice_range bytes.now start end) text.now }
+    ensures { result.now ≡ slice_range bytes.now start end }
 {
-    &bytes[start..end] == text.as_bytes()
+    &bytes[start..end]
 }

@@ -7,7 +7,6 @@ ghost use Rattle.serde_json.specs.Written.{compact_text};
 ghost use Rattle.an_base.specs.Outcome.{Gives};
 ghost use Rattle.an_base.specs.Tree.{is_whole_number, is_whole, items_are_whole, members_are_whole};
 ghost use Rattle.an_base.specs.Tree.{is_tree, json_of, tree_of, one_or_many};
-ghost use Rattle.an_base.specs.TreeSame.{same, same_number, same_items, same_members};
 
 use crate::bytes::Bytes;
 use crate::copy::TryCopy;
@@ -125,28 +124,6 @@ impl TryCopy for Tree {
             value: self.value.clone()?,
         })
     }
-}
-
-impl PartialEq for Tree {
-    ghost use Rattle.serde_json.specs.Written.{compact_text};
-    ghost use Rattle.std.specs.Cmp.Lexicographic.{on_texts_equal};
-    ghost use Rattle.std.specs.Cmp as Cmp;
-    ghost use Rattle.an_base.specs.Tree.{same_text};
-
-    ghost eq = { same_text };
-
-    ghost laws = { Cmp.partial_equiv_from_equiv (on_texts_equal compact_text) };
-
-    fn eq(&self, other: &Tree) -> bool {
-        is_same(self.as_value(), other.as_value())
-    }
-}
-
-impl Eq for Tree {
-    ghost use Rattle.serde_json.specs.Written.{compact_text};
-    ghost use Rattle.std.specs.Cmp.Lexicographic.{on_texts_equal};
-
-    ghost laws = { on_texts_equal compact_text };
 }
 
 /// A law: the text of a tree reads back as the tree.
@@ -271,75 +248,4 @@ fn members_nest_within(members: &Map<String, Value>, levels: usize) -> bool
         }
     }
     true
-}
-
-/// Whether two values are the same, where every number is whole.
-#[cycle(same)]
-fn is_same(value: &Value, other: &Value) -> bool
-    ensures { result ≡ same (view value.now) (view other.now) }
-{
-    match value {
-        Value::Null => other.is_null(),
-        Value::Bool(flag) => match other.as_bool() {
-            Some(other) => *flag == other,
-            None => false,
-        },
-        Value::Number(number) => match other.as_number() {
-            Some(other) => is_same_number(number, other),
-            None => false,
-        },
-        Value::String(text) => match other.as_str() {
-            Some(other) => text.as_str() == other,
-            None => false,
-        },
-        Value::Array(items) => match other.as_array() {
-            Some(others) => are_same_items(items, others),
-            None => false,
-        },
-        Value::Object(members) => match other.as_object() {
-            Some(others) => are_same_members(members, others),
-            None => false,
-        },
-    }
-}
-
-fn is_same_number(number: &Number, other: &Number) -> bool
-    ensures { result ≡ same_number (number_view number.now) (number_view other.now) }
-{
-    number.as_u64() == other.as_u64() && number.as_i64() == other.as_i64()
-}
-
-#[cycle(same)]
-fn are_same_items(items: &[Value], others: &[Value]) -> bool
-    ensures { result ≡ same_items (items_view items.now) (items_view others.now) }
-{
-    let mut others = others.iter();
-    for item in items {
-        match others.next() {
-            Some(other) => if !is_same(item, other) {
-                return false;
-            },
-            None => return false,
-        }
-    }
-    others.next().is_none()
-}
-
-#[cycle(same)]
-fn are_same_members(members: &Map<String, Value>, others: &Map<String, Value>) -> bool
-    ensures { result ≡ same_members (members_view members.now.entries)
-        (members_view others.now.entries) }
-{
-    let mut others = others.iter();
-    for (name, member) in members.iter() {
-        match others.next() {
-            Some((other_name, other)) => {
-                if name.as_str() != other_name.as_str() || !is_same(member, other) {
-                    return false;
-                }
-            }
-            None => return false,
-        }
-    }
-    others.next().is_none()
 }

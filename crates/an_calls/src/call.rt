@@ -1,72 +1,100 @@
-use crate::http_calls::HttpCall;
-use crate::keep_calls::row;
-use crate::link_calls::LinkCall;
-use crate::model_calls::ModelCall;
-use crate::policy_calls::PolicyCall;
+use crate::http_calls::{memory_reply, requests};
+use crate::model_calls::{note, parts, sheet};
+use crate::policy_calls::{may_read, settings};
+use crate::row_calls::row;
 use crate::rows::{Answers, RowError};
-use crate::selector_calls::SelectorCall;
-use crate::text_calls::TextCall;
-use crate::tree_calls::TreeCall;
+use crate::selector_calls::{places_of, quote, region, selector};
+use crate::text_calls::{decimal, moment, name, plain, words};
+use crate::tree_calls::tree;
 use std::alloc::Global;
 
 /// A call of a crate below the server's, which is made for each row of a case.
 #[derive(Clone, Copy)]
 pub enum Call {
-    /// On names, numbers, moments and words.
-    Text(TextCall),
-    /// On trees.
-    Tree(TreeCall),
-    /// On selectors, regions and places in a text.
-    Selector(SelectorCall),
-    /// On annotations and manifests.
-    Model(ModelCall),
-    /// On readers, audiences and settings.
-    Policy(PolicyCall),
-    /// On links in memory.
-    Link(LinkCall),
-    /// On requests and replies of HTTP.
-    Http(HttpCall),
-    /// On the texts of rows.
+    /// The name that a text is.
+    Name,
+    /// The seconds of a moment, and its text again.
+    Moment,
+    /// The decimal number up to a greatest one.
+    Decimal,
+    /// The words of a text, each with its span.
+    Words,
+    /// The plain text of an HTML text.
+    Plain,
+    /// The text of the tree that a JSON text is.
+    Tree,
+    /// The selector that a tree is.
+    Selector,
+    /// The region that a fragment names.
+    Region,
+    /// The places of a selector in a text.
+    Places,
+    /// The quote of a span.
+    Quote,
+    /// What is kept of an annotation.
+    Note,
+    /// What an annotation says.
+    Parts,
+    /// The canvases of a manifest.
+    Sheet,
+    /// Whether a caller may read what has an audience.
+    May,
+    /// The settings that two words are.
+    Settings,
+    /// The row that bytes are.
     Row,
+    /// The requests that an input begins with, and what ends them.
+    Requests,
+    /// The reply for want of memory.
+    MemoryReply,
 }
 
 /// The call of this name.
 pub fn call_named(name: &str) -> Option<Call> {
-    if name == "row" {
-        return Some(Call::Row);
-    }
-    if let Some(call) = TextCall::named(name) {
-        return Some(Call::Text(call));
-    }
-    if let Some(call) = TreeCall::named(name) {
-        return Some(Call::Tree(call));
-    }
-    if let Some(call) = SelectorCall::named(name) {
-        return Some(Call::Selector(call));
-    }
-    if let Some(call) = ModelCall::named(name) {
-        return Some(Call::Model(call));
-    }
-    if let Some(call) = PolicyCall::named(name) {
-        return Some(Call::Policy(call));
-    }
-    if let Some(call) = LinkCall::named(name) {
-        return Some(Call::Link(call));
-    }
-    HttpCall::named(name).map(Call::Http)
+    Some(match name {
+        "name" => Call::Name,
+        "moment" => Call::Moment,
+        "decimal" => Call::Decimal,
+        "words" => Call::Words,
+        "plain" => Call::Plain,
+        "tree" => Call::Tree,
+        "selector" => Call::Selector,
+        "region" => Call::Region,
+        "places" => Call::Places,
+        "quote" => Call::Quote,
+        "note" => Call::Note,
+        "parts" => Call::Parts,
+        "sheet" => Call::Sheet,
+        "may" => Call::May,
+        "settings" => Call::Settings,
+        "row" => Call::Row,
+        "requests" => Call::Requests,
+        "memory_reply" => Call::MemoryReply,
+        _ => return None,
+    })
 }
 
 impl Answers for Call {
     fn answer(&mut self, alloc: Global, argument: &str) -> Result<String, RowError> {
         match self {
-            Call::Text(call) => call.answer(alloc, argument),
-            Call::Tree(call) => call.answer(alloc, argument),
-            Call::Selector(call) => call.answer(alloc, argument),
-            Call::Model(call) => call.answer(alloc, argument),
-            Call::Policy(call) => call.answer(alloc, argument),
-            Call::Link(call) => call.answer(alloc, argument),
-            Call::Http(call) => call.answer(alloc, argument),
+            Call::Name => Ok(name(alloc, argument)?),
+            Call::Moment => Ok(moment(alloc, argument)?),
+            Call::Decimal => decimal(alloc, argument),
+            Call::Words => Ok(words(alloc, argument)?),
+            Call::Plain => Ok(plain(alloc, argument)?),
+            Call::Tree => Ok(tree(alloc, argument)?),
+            Call::Selector => selector(alloc, argument),
+            Call::Region => Ok(region(alloc, argument)?),
+            Call::Places => places_of(alloc, argument),
+            Call::Quote => quote(alloc, argument),
+            Call::Note => note(alloc, argument),
+            Call::Parts => parts(alloc, argument),
+            Call::Sheet => sheet(alloc, argument),
+            Call::May => may_read(alloc, argument),
+            Call::Settings => settings(alloc, argument),
             Call::Row => row(alloc, argument),
+            Call::Requests => requests(alloc, argument),
+            Call::MemoryReply => memory_reply(alloc),
         }
     }
 }

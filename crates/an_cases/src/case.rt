@@ -1,6 +1,7 @@
 use an_base::Moment;
 use an_calls::{Call, call_named};
 use an_keep::Cell;
+use an_report::Outcome;
 use std::alloc::Global;
 
 /// What a case plays.
@@ -10,12 +11,8 @@ pub enum Kind {
     Run,
     /// A call of one of the crates below, once for each row that is due.
     Rows(Call),
-    /// Writes, which one machine does one after the other, a row each.
-    Writes,
     /// Runs over a link that never fails, each over a line, of which a row has the status.
     SureRuns,
-    /// The calls of a keeper in memory, one after the other, a row each.
-    Keeper,
     /// What is done with a store in memory, one after the other, a row each.
     Store,
 }
@@ -23,9 +20,7 @@ pub enum Kind {
 /// What rows with this name play.
 pub fn rows_named(name: &str) -> Option<Kind> {
     match name {
-        "write" => Some(Kind::Writes),
         "sure_run" => Some(Kind::SureRuns),
-        "keeper" => Some(Kind::Keeper),
         "store" => Some(Kind::Store),
         _ => call_named(name).map(Kind::Rows),
     }
@@ -62,10 +57,8 @@ pub struct Case {
     pub clock: Moment,
     /// How many bytes can be written, where it isn't more than enough.
     pub room: Option<usize>,
-    /// The status that is due from a run.
-    pub status: u8,
-    /// What is due: the whole output of a run, or the rows, each an argument before its answer.
-    pub output: Vec<u8>,
+    /// What is due from it.
+    pub due: Outcome,
 }
 
 impl Case {
@@ -84,8 +77,10 @@ impl Case {
             imported: Vec::new(alloc),
             clock: noon(),
             room: None,
-            status: 0,
-            output: Vec::new(alloc),
+            due: Outcome {
+                status: 0,
+                output: Vec::new(alloc),
+            },
         }
     }
 }

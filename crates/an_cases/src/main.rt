@@ -2,19 +2,16 @@
 //! them, and prints those that come out otherwise.
 #![tactic(auto)]
 
-ghost use Rattle.std.specs.Prelude.{◌≡◌, ◌↔◌, IsTrue};
-
 mod case;
 mod play;
-mod report;
 mod rows;
 mod stores;
 mod sure_runs;
 mod table;
 
+use an_report::{report, wrong_with};
 use case::Case;
 use play::play;
-use report::report;
 use std::process::ExitCode;
 use std::rt::Files;
 use std::{fs, io};
@@ -103,16 +100,5 @@ fn play_all<R: Print + AllocGlobal>(rt: &R, cases: &[Case]) -> io::Result<bool> 
 /// Plays a case, and prints what came out otherwise than it is due.
 fn is_right<R: Print + AllocGlobal>(rt: &R, case: &Case) -> io::Result<bool> {
     let played = play(rt.alloc(), case)?;
-    report(rt, case, &played)
-}
-
-/// How many cases are wrong with one case more.
-fn wrong_with(wrong: usize, is_right: bool) -> usize
-    ensures { (result ≡ 0) ↔ ((wrong ≡ 0) × IsTrue is_right) }
-{
-    if is_right {
-        wrong
-    } else {
-        wrong.saturating_add(1)
-    }
+    report(rt, case.name.as_str(), &case.due, &played)
 }

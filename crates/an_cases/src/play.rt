@@ -6,29 +6,20 @@ use an_app::{import, run};
 use an_base::{Bytes, TryCopy};
 use an_calls::Answers;
 use an_keep::{Cell, Change, KeepError, Keeper, MemKeeper};
-use an_machine::Book;
+use an_report::Outcome;
 use an_shelf::Desk;
 use an_world::{MemLink, SetClock, SureLink};
 use std::alloc::{AllocError, Global};
-
-/// What came of a case.
-#[derive(Drop)]
-pub struct Played {
-    pub status: u8,
-    pub output: Vec<u8>,
-}
 
 /// How many bytes more than are due can be written, where a case says nothing of it.
 const SPARE: usize = 65_536;
 
 /// Plays a case.
-pub fn play(alloc: Global, case: &Case) -> Result<Played, AllocError> {
+pub fn play(alloc: Global, case: &Case) -> Result<Outcome, AllocError> {
     match case.kind {
         Kind::Run => play_run(alloc, case),
         Kind::Rows(call) => play_rows(alloc, call, case),
-        Kind::Writes => play_rows(alloc, Book::new(alloc), case),
         Kind::SureRuns => play_rows(alloc, SureRuns, case),
-        Kind::Keeper => play_rows(alloc, keeper_of(alloc, case)?, case),
         Kind::Store => play_rows(alloc, Stores::new(keeper_of(alloc, case)?), case),
     }
 }
@@ -37,13 +28,13 @@ fn play_rows<A: Answers + Drop>(
     alloc: Global,
     mut answers: A,
     case: &Case,
-) -> Result<Played, AllocError> {
-    let output = answer_rows(alloc, &mut answers, case.output.as_slice())?;
-    Ok(Played { status: 0, output })
+) -> Result<Outcome, AllocError> {
+    let output = answer_rows(alloc, &mut answers, case.due.output.as_slice())?;
+    Ok(Outcome { status: 0, output })
 }
 
 /// Runs the server over a link in memory.
-fn play_run(alloc: Global, case: &Case) -> Result<Played, AllocError> {
+fn play_run(alloc: Global, case: &Case) -> Result<Outcome, AllocError> {
     let mut link = link_of(alloc, case)?;
     let keeper = with_lines(
         alloc,
@@ -55,9 +46,9 @@ fn play_run(alloc: Global, case: &Case) -> Result<Played, AllocError> {
     what_came(alloc, status, link.written())
 }
 
-fn what_came(alloc: Global, status: u8, written: &[u8]) -> Result<Played, AllocError> {
+fn what_came(alloc: Global, status: u8, written: &[u8]) -> Result<Outcome, AllocError> {
     let output = Vec::from_slice(alloc, written)?;
-    Ok(Played { status, output })
+    Ok(Outcome { status, output })
 }
 
 /// A keeper without cells.
@@ -115,6 +106,8 @@ fn link_of(alloc: Global, case: &Case) -> Result<MemLink, AllocError> {
     let cut = Vec::from_slice(alloc, case.cut.as_slice())?;
     let fail_reads = Vec::from_slice(alloc, case.fail_reads.as_slice())?;
     let fail_writes = Vec::from_slice(alloc, case.fail_writes.as_slice())?;
-    let room = case.room.unwrap_or(case.output.len().saturating_add(SPARE));
+    let room = case
+        .room
+        .unwrap_or(case.due.output.len().saturating_add(SPARE));
     MemLink::new(alloc, input, cut, fail_reads, fail_writes, room)
 }

@@ -1,10 +1,10 @@
 use crate::case::noon;
 use an_app::{Status, import, session_at_desk};
 use an_base::Bytes;
-use an_calls::{Answers, RowError, Sent, cell_shown, look_at, read_write, reply_shown};
-use an_keep::{KeepError, Keeper, MemKeeper};
+use an_calls::{Answers, RowError, cell_shown, look_at, number, two_parts, two_words};
+use an_keep::{Cell, Change, KeepError, Keeper, MemKeeper};
 use an_search::read_settings;
-use an_shelf::{Desk, WriteError};
+use an_shelf::Desk;
 use an_world::{MemLink, SetClock};
 use std::alloc::{AllocError, Global};
 use std::str::from_utf8;
@@ -33,9 +33,10 @@ impl Stores {
 }
 
 /// Of a store that is gone a row is `new`. Of a closed one it is `open`, `cells`, which shows them
-/// all, or a call of its keeper, as `put 1 0 | {}`. Of an open one it is `close`, a look at its state,
-/// as `length 1`, a write, as `2024-05-01T10:02:00Z ivo | drop note ivo o1 2`, `import TEXT`, whose
-/// lines end in `\n`, or `session TEXT`, whose lines end in `\r\n`.
+/// all, `put 1 0 | {}`, which puts a cell, or `faults`, which counts the calls of its keeper that
+/// failed. Of an open one it is `close`, a look at its state, as `length 1`, `row 1 0` or
+/// `changes 1 0 | {}`, `import TEXT`, whose lines end in `\n`, or `session TEXT`, whose lines end in
+/// `\r\n`.
 impl Answers for Stores {
     fn answer(&mut self, alloc: Global, argument: &str) -> Result<String, RowError> {
         match argument {
@@ -109,8 +110,21 @@ fn call_of_keeper(
 ) -> Result<String, RowError> {
     match argument {
         "cells" => cells(alloc, keeper),
-        _ => keeper.answer(alloc, argument),
+        "faults" => Ok(format!(in alloc; "{}", keeper.faults())?),
+        _ => put(alloc, keeper, argument),
     }
+}
+
+/// Puts a cell: `put 1 0 | {}`.
+fn put(alloc: Global, keeper: &mut MemKeeper, argument: &str) -> Result<String, RowError> {
+    let (place, val) = two_parts(argument.strip_prefix("put ").ok_or(RowError::Form)?)?;
+    let (tab, key) = two_words(place)?;
+    let change = Change {
+        tab: number(tab)?,
+        key: number(key)?,
+        val: Some(Bytes::new(alloc, val.as_bytes())?),
+    };
+    Ok(format!(in alloc; "{:?}", keeper.commit(&[change]))?)
 }
 
 /// How many cells are shown at most.
@@ -133,7 +147,7 @@ fn cells(alloc: Global, keeper: &mut MemKeeper) -> Result<String, RowError> {
 fn add_cell(
     alloc: Global,
     found: &mut String,
-    cell: &Result<Option<an_keep::Cell>, KeepError>,
+    cell: &Result<Option<Cell>, KeepError>,
 ) -> Result<Option<(u8, u64)>, RowError> {
     match cell {
         Ok(Some(cell)) => {
@@ -159,23 +173,7 @@ fn call_of_desk(
     if let Some(requests) = argument.strip_prefix("session ") {
         return serve(alloc, desk, requests);
     }
-    match look_at(alloc, desk.look(), argument)? {
-        Some(seen) => Ok(seen),
-        None => write(alloc, desk, argument),
-    }
-}
-
-fn write(alloc: Global, desk: &mut Desk<MemKeeper>, argument: &str) -> Result<String, RowError> {
-    let Sent {
-        moment,
-        caller,
-        command,
-    } = read_write(alloc, argument)?;
-    match desk.write(alloc, moment, &caller, command) {
-        Ok(reply) => reply_shown(alloc, &reply),
-        Err(WriteError::Refused(refused)) => Ok(format!(in alloc; "{refused:?}")?),
-        Err(error) => Ok(format!(in alloc; "{error:?}")?),
-    }
+    look_at(alloc, desk.look(), argument)
 }
 
 /// The status of an import, and what it prints.

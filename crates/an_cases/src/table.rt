@@ -182,7 +182,7 @@ impl Table {
             }
             "output" => {
                 self.part = Part::Output;
-                add_texts(&mut case.output, self.texts.as_slice(), rest)
+                add_texts(&mut case.due.output, self.texts.as_slice(), rest)
             }
             "rows" => {
                 self.part = Part::Output;
@@ -210,7 +210,7 @@ fn add_to_input(cases: &mut [Case], bytes: &[u8]) -> Result<(), AllocError> {
 
 fn add_to_output(cases: &mut [Case], bytes: &[u8]) -> Result<(), AllocError> {
     match cases.last_mut() {
-        Some(case) => case.output.extend_from_slice(bytes),
+        Some(case) => case.due.output.extend_from_slice(bytes),
         None => Ok(()),
     }
 }
@@ -250,7 +250,7 @@ fn read_setting(alloc: Global, case: &mut Case, word: &str, rest: &str) -> Resul
             Ok(())
         }
         "status" => {
-            case.status = number(rest)?;
+            case.due.status = number(rest)?;
             Ok(())
         }
         _ => Err(LineError::Unknown),

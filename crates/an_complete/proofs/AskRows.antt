@@ -9,7 +9,8 @@ use Rattle.percent_encoding.specs.Percent.{percent_decode}
 use Rattle.unicode_normalization.proofs.Computing.{unicode_normalization}
 use Rattle.an_base.specs.Moment.{moment_of, has_form, days_of_months}
 use Rattle.an_terms.specs.Terms.{term_of}
-use Rattle.an_base.specs.declared.parameter.Parameter.TheVariants as parameter
+use Rattle.an_code.specs.declared.parameter.Parameter.TheVariants as parameter
+use Rattle.an_search.specs.Filters.{FiltersRecord}
 use Rattle.an_complete.specs.Ask.{AskRecord, ask_of}
 use Rattle.an_complete.specs.declared.ask.QueryAskError.TheVariants as refusal
 
@@ -17,8 +18,11 @@ unfoldable asks_on_literals : Unit {0}
 unfolding ask_of raw_pairs split percent_decode is_utf8 chars encode_utf8 moment_of has_form days_of_months term_of caseless unicode_normalization
 asks_on_literals = tt
 
+abbrev unfiltered : FiltersRecord
+unfiltered = record { motivation = None; date = None; user = None }
+
 abbrev h : AskRecord
-h = record { q = codes "h"; min = None; motivation = None; date = None; user = None; ignored = [] }
+h = record { q = codes "h"; min = None; filters = unfiltered; ignored = [] }
 
 row-prefix : ask_of (codes "q=h") ≡ Ok h
 unfolding asks_on_literals
@@ -77,6 +81,6 @@ row-page : ask_of (codes "page=3&q=h&page=4") ≡ Ok (record h { ignored = codes
 unfolding asks_on_literals
 row-page = refl
 
-row-empty_values : ask_of (codes "q=+&motivation=&user") ≡ Ok (record h { q = codes " "; motivation = Some []; user = Some [] })
+row-empty_values : ask_of (codes "q=+&motivation=&user") ≡ Ok (record h { q = codes " "; filters = record unfiltered { motivation = Some []; user = Some [] } })
 unfolding asks_on_literals
 row-empty_values = refl

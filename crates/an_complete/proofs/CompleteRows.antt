@@ -13,10 +13,11 @@ use Rattle.unicode_segmentation.proofs.Computing.{unicode_segmentation}
 use Rattle.an_policy.specs.declared.group.Group.TheVariants.{Public}
 use Rattle.an_terms.specs.Terms.{term_of, placed, occurrences_of}
 use Rattle.an_model.specs.Bodies.{texts_of, note_occurrences, note_terms}
-use Rattle.an_machine.specs.State.{KeptManifest, KeptNote}
-use Rattle.an_machine.specs.Terms.{capped, totals_of}
-use Rattle.an_machine.specs.View.{View}
+use Rattle.an_state.specs.State.{KeptManifest, KeptNote}
+use Rattle.an_base.specs.Totals.{capped, totals_of}
+use Rattle.an_state.specs.View.{View}
 use Rattle.an_search.specs.Site.{Site}
+use Rattle.an_search.specs.Filters.{FiltersRecord}
 use Rattle.an_complete.specs.Ask.{AskRecord}
 use Rattle.an_complete.specs.Complete.{asked_terms, ask_form, ask_iri, complete_of, terms_page}
 use Rattle.an_complete.specs.declared.completion.CompleteError.TheVariants.{NoManifest}
@@ -50,14 +51,17 @@ note name text = record {
 abbrev view : List KeptNote → View
 view notes = record { who = None; manifests = manifest ∷ []; notes = notes; seen = [] }
 
+abbrev unfiltered : FiltersRecord
+unfiltered = record { motivation = None; date = None; user = None }
+
 abbrev ask : AskRecord
-ask = record { q = codes "her"; min = Some 3; motivation = None; date = None; user = None; ignored = [] }
+ask = record { q = codes "her"; min = Some 3; filters = unfiltered; ignored = [] }
 
 row-iri : ask_iri site.base (codes "m1") ask ≡ codes "http://a.example/autocomplete/m1?q=her&min=3"
 unfolding completions_on_literals
 row-iri = refl
 
-row-iri_of_all : ask_iri site.base (codes "m1") (record ask { q = codes "a b"; motivation = Some []; user = Some (codes "x/y") })
+row-iri_of_all : ask_iri site.base (codes "m1") (record ask { q = codes "a b"; filters = record unfiltered { motivation = Some []; user = Some (codes "x/y") } })
     ≡ codes "http://a.example/autocomplete/m1?q=a+b&min=3&motivation=&user=x%2Fy"
 unfolding completions_on_literals
 row-iri_of_all = refl
@@ -83,7 +87,7 @@ row-folded : asked_terms (view (note (codes "n1") (codes "Two Herons") ∷ [])) 
 unfolding completions_on_literals
 row-folded = refl
 
-row-another_user : asked_terms (view herons) (codes "m1") (record ask { user = Some (codes "http://a.example/readers/tom") }) ≡ []
+row-another_user : asked_terms (view herons) (codes "m1") (record ask { filters = record unfiltered { user = Some (codes "http://a.example/readers/tom") } }) ≡ []
 unfolding completions_on_literals
 row-another_user = refl
 

@@ -4,9 +4,9 @@ use Rattle.std.proofs.lemmas.Bool.Decides.{nat_tests}
 use Rattle.std.specs.Prelude.{filter, slice_get, ◌==◌}
 use Rattle.std.specs.List.{filter_map}
 use Rattle.an_policy.specs.Audience.{Identity}
-use Rattle.an_machine.specs.State.{State, KeptNote, LiveNote}
-use Rattle.an_machine.specs.Terms.{terms_with_prefix, totals_in}
-use Rattle.an_machine.specs.View.{view_of, is_on, shows_note, readable_places}
+use Rattle.an_state.specs.State.{State, KeptNote, LiveNote}
+use Rattle.an_state.specs.Terms.{terms_with_prefix, totals_in}
+use Rattle.an_state.specs.View.{view_of, is_on, shows_note, readable_places}
 use Rattle.an_search.proofs.ViewLemmas.{filter_both, readable_rows}
 use Rattle.an_search.specs.Wanted.{fits, matches, wants_nothing}
 use Rattle.an_search.specs.declared.dates.DateRange.{DateRange}

@@ -1,15 +1,16 @@
 -- The query of a completion (IIIF Content Search API 2.0).
 use Rattle.std.specs.Prelude.{ℕ, List, [], ◌∷◌, length, nat_lt, Option, Some, None, option_map}
-use Rattle.std.specs.Prelude.{option_and_then, unwrap_or, Result, Bool, true, is_none, not, ◌&&◌}
+use Rattle.std.specs.Prelude.{option_and_then, unwrap_or, Result, Bool, true, not}
 use Rattle.an_base.specs.Outcome.{when, first_of, unless, or_refuse, passes}
 use Rattle.an_terms.specs.Terms.{term_of}
 use Rattle.an_search.specs.Dates.{bad_date}
+use Rattle.an_search.specs.Filters.{FiltersRecord, filters_in}
 use Rattle.an_search.specs.Given.{value_of, twice_of, others_of, is_number, number_in}
 use Rattle.an_search.specs.Given.{is_bad_number}
 use Rattle.an_search.specs.Pairs.{pairs_of}
 use Rattle.an_search.specs.declared.pairs.Pair.{Pair}
-use Rattle.an_base.specs.declared.parameter.Parameter.{Parameter}
-use Rattle.an_base.specs.declared.parameter.Parameter.TheVariants as parameter
+use Rattle.an_code.specs.declared.parameter.Parameter.{Parameter}
+use Rattle.an_code.specs.declared.parameter.Parameter.TheVariants as parameter
 use Rattle.an_complete.specs.declared.ask.QueryAskError.{QueryAskError}
 use Rattle.an_complete.specs.declared.ask.QueryAskError.TheVariants as refusal
 
@@ -17,19 +18,13 @@ use Rattle.an_complete.specs.declared.ask.QueryAskError.TheVariants as refusal
 pub record AskRecord : Type 0 where
   pub q : List ℕ
   pub min : Option ℕ
-  pub motivation : Option (List ℕ)
-  pub date : Option (List ℕ)
-  pub user : Option (List ℕ)
+  pub filters : FiltersRecord
   pub ignored : List (List ℕ)
 
 -- what may be given is a number
 abbrev pub is_number_if : Option ℕ → Bool
 is_number_if None = true
 is_number_if (Some n) = is_number n
-
--- each piece of the date is a range, and the least number of occurrences a number
-abbrev pub is_ask : Option (List ℕ) → Option ℕ → Bool
-is_ask date min = is_none (bad_date date) && is_number_if min
 
 -- the parameters of a completion
 abbrev pub ask_parameters : List Parameter
@@ -53,9 +48,7 @@ abbrev pub ask_in : List Pair → AskRecord
 ask_in pairs = record {
   q = unwrap_or (value_of parameter.Q pairs) [];
   min = option_and_then number_in (value_of parameter.Min pairs);
-  motivation = value_of parameter.Motivation pairs;
-  date = value_of parameter.Date pairs;
-  user = value_of parameter.User pairs;
+  filters = filters_in pairs;
   ignored = others_of ask_parameters pairs;
 }
 

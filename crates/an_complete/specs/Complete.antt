@@ -8,16 +8,17 @@ use Rattle.serde_json.specs.View.{items_of}
 use Rattle.serde_json.specs.Written.{compact_text}
 use Rattle.an_base.specs.Object.{with_member_if}
 use Rattle.an_terms.specs.Terms.{term_of}
-use Rattle.an_machine.specs.State.{KeptNote}
-use Rattle.an_machine.specs.Terms.{totals_in}
-use Rattle.an_machine.specs.View.{View, is_on, manifest_in}
+use Rattle.an_state.specs.State.{KeptNote}
+use Rattle.an_state.specs.Terms.{totals_in}
+use Rattle.an_state.specs.View.{View, is_on, manifest_in}
 use Rattle.an_base.specs.declared.span.TermTotal.{TermTotal}
+use Rattle.an_search.specs.Filters.{filter_parameters}
 use Rattle.an_search.specs.Form.{form_of}
 use Rattle.an_search.specs.Page.{texts_beside}
 use Rattle.an_search.specs.Search.{search_context}
 use Rattle.an_search.specs.Site.{Site}
 use Rattle.an_search.specs.Wanted.{matches, wanted_by}
-use Rattle.an_base.specs.declared.parameter.Parameter.TheVariants as parameter
+use Rattle.an_code.specs.declared.parameter.Parameter.TheVariants as parameter
 use Rattle.an_search.specs.declared.wanted.Wanted.{Wanted}
 use Rattle.an_complete.specs.Ask.{AskRecord}
 use Rattle.an_complete.specs.declared.completion.CompleteError.{CompleteError}
@@ -27,7 +28,7 @@ use Rattle.an_complete.specs.declared.completion.CompleteError.TheVariants.{NoMa
 
 -- what is wanted of an annotation: what the same values want in a search without `q`
 abbrev pub filters_of : AskRecord → Wanted
-filters_of ask = wanted_by None ask.motivation ask.date ask.user
+filters_of ask = wanted_by None ask.filters
 
 -- the annotations of the view on the manifest that the filters let pass, in their order
 abbrev pub asked_notes : View → List ℕ → Wanted → List KeptNote
@@ -68,10 +69,7 @@ terms_page iri ignored terms =
 unfoldable pub ask_form : AskRecord → List ℕ
 ask_form ask =
     form_of ((parameter.Q, Some ask.q)
-    ∷ (parameter.Min, option_map decimal ask.min)
-    ∷ (parameter.Motivation, ask.motivation)
-    ∷ (parameter.Date, ask.date)
-    ∷ (parameter.User, ask.user) ∷ [])
+    ∷ (parameter.Min, option_map decimal ask.min) ∷ filter_parameters ask.filters)
 
 -- the page's IRI: BASE/autocomplete/MANIFEST?PARAMETERS
 abbrev pub ask_iri : List ℕ → List ℕ → AskRecord → List ℕ

@@ -4,13 +4,14 @@ ghost use Rattle.std.specs.Option.{option_copied};
 ghost use Rattle.an_base.specs.Outcome.{Gives, first_of, unless, when};
 ghost use Rattle.an_search.specs.Dates.{bad_date};
 ghost use Rattle.an_search.specs.Given.{value_of, is_bad_number, number_in};
-ghost use Rattle.an_base.specs.declared.parameter.Parameter.TheVariants as parameter;
+ghost use Rattle.an_code.specs.declared.parameter.Parameter.TheVariants as parameter;
 ghost use Rattle.an_complete.specs.Ask.{has_prefix, is_number_if, ask_refusals, ask_in, ask_of};
 
-use an_base::{List, Parameter, Text, TryCopy};
+use an_base::{List, Text, TryCopy};
+use an_code::Parameter;
 use an_search::{
-    Pair, bad_date, copied_value, is_bad_number, number_in, others_in, query_pairs, twice_in,
-    value_in,
+    Filters, Pair, bad_date, filters_in, is_bad_number, number_in, others_in, query_pairs,
+    twice_in, value_in,
 };
 use an_terms::term_of;
 use std::alloc::{AllocError, Global};
@@ -32,30 +33,25 @@ pub struct Ask {
     pub q: Text,
     /// How often a term occurs at least: from 1 to 999,999,999.
     pub min: Option<u32>,
-    pub motivation: Option<Text>,
-    /// Each of its pieces is two texts of moments, joined by `/`.
-    pub date: Option<Text>,
-    pub user: Option<Text>,
+    pub filters: Filters,
     /// The names of no parameter of a completion, each where it first came.
     pub ignored: List<Text>,
 }
 
 impl Model for Ask {
     ghost use Rattle.std.specs.Prelude.{IsTrue};
-    ghost use Rattle.an_complete.specs.Ask.{AskRecord, is_ask};
+    ghost use Rattle.an_complete.specs.Ask.{AskRecord, is_number_if};
 
     ghost Value = { AskRecord };
 
     ghost view = { λ a. record {
       q = a.q;
       min = a.min;
-      motivation = a.motivation;
-      date = a.date;
-      user = a.user;
+      filters = a.filters;
       ignored = a.ignored;
     } };
 
-    ghost invariant = { λ a. IsTrue (is_ask a.date a.min) };
+    ghost invariant = { λ a. IsTrue (is_number_if a.min) };
 }
 
 /// Why a text is no query of a completion.
@@ -76,7 +72,6 @@ pub enum QueryAskError {
 
 impl Ask {
     ghost use Rattle.an_complete.specs.Ask.{is_number_if};
-    ghost use Rattle.an_search.specs.Dates.{bad_date};
 
     /// What terms begin with once it is folded.
     pub fn q(&self) -> &str
@@ -93,26 +88,11 @@ impl Ask {
         self.min
     }
 
-    /// The motivations that are asked for.
-    pub fn motivation(&self) -> Option<&Text>
-        ensures value { option_copied result ≡ self.now.motivation }
+    /// What is let pass.
+    pub fn filters(&self) -> &Filters
+        ensures value { result.now ≡ self.now.filters }
     {
-        self.motivation.as_ref()
-    }
-
-    /// When annotations were made.
-    pub fn date(&self) -> Option<&Text>
-        ensures value { option_copied result ≡ self.now.date }
-        ensures ranges { bad_date self.now.date ≡ None }
-    {
-        self.date.as_ref()
-    }
-
-    /// Who made them.
-    pub fn user(&self) -> Option<&Text>
-        ensures value { option_copied result ≡ self.now.user }
-    {
-        self.user.as_ref()
+        &self.filters
     }
 
     /// The names of no parameter of a completion.
@@ -201,9 +181,7 @@ fn filled(alloc: Global, pairs: &[Pair]) -> Result<Ask, AllocError>
     Ok(Ask {
         q: prefix_in(alloc, pairs)?,
         min: min_in(pairs),
-        motivation: copied_value(Parameter::Motivation, pairs)?,
-        date: copied_value(Parameter::Date, pairs)?,
-        user: copied_value(Parameter::User, pairs)?,
+        filters: filters_in(pairs)?,
         ignored: others_in(alloc, &ASK_PARAMETERS, pairs)?,
     })
 }

@@ -2,7 +2,7 @@ ghost use Rattle.std.specs.Prelude.{◌≡◌, IfOk};
 ghost use Rattle.serde_json.specs.Written.{compact_text};
 ghost use Rattle.an_base.specs.Outcome.{Gives};
 ghost use Rattle.an_policy.specs.Audience.{identity};
-ghost use Rattle.an_machine.specs.View.{view_of};
+ghost use Rattle.an_state.specs.View.{view_of};
 ghost use Rattle.an_complete.specs.Complete.{ask_iri, asked_terms, complete_of, filters_of};
 ghost use Rattle.an_complete.specs.Complete.{terms_page};
 
@@ -10,9 +10,9 @@ use crate::ask::Ask;
 use crate::page::{ask_iri, terms_text};
 use crate::totals::{asked_totals, first_terms};
 use an_base::{Bytes, Name, Steps, TermTotal};
-use an_machine::{Look, shown_manifest};
 use an_policy::Who;
 use an_search::{Settings, Wanted, wanted_by};
+use an_state::{Look, shown_manifest};
 use an_terms::term_of;
 use std::alloc::{AllocError, Global};
 use std::sync::ledger::Ledger;
@@ -89,5 +89,5 @@ pub fn asked_terms<T: Look, L: Ledger>(
 fn filters_of(alloc: Global, ask: &Ask) -> Result<Wanted, AllocError>
     ensures { IfOk result (λ filters. filters ≡ filters_of ask.now) }
 {
-    wanted_by(alloc, None, ask.motivation(), ask.date(), ask.user())
+    wanted_by(alloc, None, ask.filters())
 }

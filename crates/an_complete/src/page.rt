@@ -10,10 +10,11 @@ ghost use Rattle.an_complete.specs.Complete.{ask_form, ask_iri, term_tree, terms
 
 use crate::ask::Ask;
 use an_base::{
-    Bytes, Name, Parameter, TermTotal, Text, close_members, push_array_member, push_comma,
-    push_number_member, push_text_member,
+    Bytes, Name, TermTotal, Text, close_members, push_array_member, push_comma, push_number_member,
+    push_text_member,
 };
-use an_search::{SEARCH_CONTEXT, append_given, push_ignored};
+use an_code::Parameter;
+use an_search::{SEARCH_CONTEXT, append_filters, append_given, push_ignored};
 use form_urlencoded::Serializer;
 use std::alloc::{AllocError, Global};
 
@@ -40,9 +41,7 @@ fn ask_form(alloc: Global, ask: &Ask) -> Result<String, AllocError>
     let mut form = Serializer::new(String::new(alloc));
     form.append_pair(Parameter::Q.text(), ask.q())?;
     append_given(&mut form, Parameter::Min, min.as_ref())?;
-    append_given(&mut form, Parameter::Motivation, ask.motivation())?;
-    append_given(&mut form, Parameter::Date, ask.date())?;
-    append_given(&mut form, Parameter::User, ask.user())?;
+    append_filters(&mut form, ask.filters())?;
     Ok(form.finish())
 }
 

@@ -1,16 +1,16 @@
 ghost use Rattle.std.specs.Prelude.{◌≡◌, List, [], ◌∷◌, ◌++◌, filter, slice_get, IfOk, OnOk};
 ghost use Rattle.std.specs.List.{filter_map};
 ghost use Rattle.an_policy.specs.Audience.{identity};
-ghost use Rattle.an_machine.specs.State.{KeptNote};
-ghost use Rattle.an_machine.specs.Terms.{totals_in};
-ghost use Rattle.an_machine.specs.View.{view_of};
+ghost use Rattle.an_state.specs.State.{KeptNote};
+ghost use Rattle.an_state.specs.Terms.{totals_in};
+ghost use Rattle.an_state.specs.View.{view_of};
 ghost use Rattle.an_search.specs.Wanted.{matches};
 ghost use Rattle.an_complete.specs.Complete.{asked_notes, first_terms, is_enough};
 
-use an_base::{Name, Steps, TermTotal};
-use an_machine::{Look, NoteRow, TermTotals};
+use an_base::{Name, Steps, TermTotal, TermTotals};
 use an_policy::Who;
 use an_search::{Wanted, matches, wants_nothing};
+use an_state::{Look, NoteRow, add_row};
 use std::alloc::{AllocError, Global};
 use std::sync::ledger::Ledger;
 
@@ -74,7 +74,7 @@ fn try_row(
         → totals.new ≡ totals_in prefix.now (rows ++ filter (matches filters.now) (row.now ∷ []))) }
 {
     if matches(row, filters) {
-        totals.add_row(row, prefix)
+        add_row(totals, row, prefix)
     } else {
         Ok(())
     }

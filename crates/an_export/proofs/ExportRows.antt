@@ -8,8 +8,8 @@ use Rattle.an_base.specs.Moment.{date_time_after, days_of_months, moment_text}
 use Rattle.an_policy.specs.Audience.{anonymous}
 use Rattle.an_policy.specs.declared.group.Group.{Group}
 use Rattle.an_policy.specs.declared.group.Group.TheVariants.{Public, Private, Named}
-use Rattle.an_machine.specs.State.{KeptManifest, KeptNote, LiveNote, State}
-use Rattle.an_machine.specs.View.{View, view_of}
+use Rattle.an_state.specs.State.{KeptManifest, KeptNote, LiveNote, State}
+use Rattle.an_state.specs.View.{View, view_of}
 use Rattle.an_export.specs.Export.{exported}
 
 unfoldable exports_on_literals : Unit {0}

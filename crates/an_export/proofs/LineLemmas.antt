@@ -5,7 +5,7 @@ use Rattle.serde_json.specs.Data.{Data}
 use Rattle.serde_json.specs.Written.{compact_text}
 use Rattle.an_base.specs.Moment.{moment_text}
 use Rattle.an_policy.specs.Group.{group_text}
-use Rattle.an_machine.specs.State.{KeptManifest, KeptNote, LiveManifest, LiveNote}
+use Rattle.an_state.specs.State.{KeptManifest, KeptNote, LiveManifest, LiveNote}
 use Rattle.an_export.specs.Export.{live_manifest_line, live_note_line, manifest_line}
 
 -- ---- the head of a line, and what follows it

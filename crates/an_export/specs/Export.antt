@@ -5,8 +5,8 @@ use Rattle.std.specs.Option.{option_map_or}
 use Rattle.serde_json.specs.Written.{compact_text}
 use Rattle.an_base.specs.Moment.{moment_text}
 use Rattle.an_policy.specs.Group.{group_text}
-use Rattle.an_machine.specs.State.{KeptManifest, KeptNote, LiveManifest, LiveNote}
-use Rattle.an_machine.specs.View.{View}
+use Rattle.an_state.specs.State.{KeptManifest, KeptNote, LiveManifest, LiveNote}
+use Rattle.an_state.specs.View.{View}
 
 -- CREATED - PUT /manifests/NAME?version=1&group=GROUP TREE
 abbrev pub live_manifest_line : KeptManifest → LiveManifest → List ℕ

@@ -1,12 +1,12 @@
 ghost use Rattle.std.specs.Prelude.{◌≡◌, IfOk};
 ghost use Rattle.an_policy.specs.Audience.{identity};
-ghost use Rattle.an_machine.specs.View.{view_of};
+ghost use Rattle.an_state.specs.View.{view_of};
 ghost use Rattle.an_export.specs.Export.{exported};
 
 use crate::shown::{push_manifests, push_notes};
 use an_base::{Bytes, Steps};
-use an_machine::Look;
 use an_policy::Who;
+use an_state::Look;
 use std::alloc::{AllocError, Global};
 use std::sync::ledger::Ledger;
 

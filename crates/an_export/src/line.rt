@@ -1,15 +1,15 @@
 ghost use Rattle.std.specs.Prelude.{◌≡◌, ◌++◌, codes, string_bytes, IfOk};
 ghost use Rattle.an_base.specs.Moment.{moment_text};
 ghost use Rattle.an_policy.specs.Group.{group_text};
-ghost use Rattle.an_machine.specs.Live.{lent_note};
+ghost use Rattle.an_state.specs.Live.{lent_note};
 ghost use Rattle.an_export.specs.Export.{live_manifest_line, live_note_line, manifest_line};
 ghost use Rattle.an_export.specs.Export.{note_line};
 
 use an_base::{Moment, moment_text};
 use an_keyed::Keyed;
-use an_machine::{LiveNote, ManifestRow, NoteRow};
 use an_manifest::KeptSheet;
 use an_policy::group_text;
+use an_state::{LiveNote, ManifestRow, NoteRow};
 use std::alloc::{AllocError, Global};
 
 /// Writes the line of a manifest. Nothing where it was deleted.

@@ -1,13 +1,13 @@
 ghost use Rattle.std.specs.Prelude.{◌≡◌, ◌++◌, [], if◌then◌else◌, filter, IfOk};
 ghost use Rattle.std.specs.List.{flat_map};
 ghost use Rattle.an_policy.specs.Audience.{identity};
-ghost use Rattle.an_machine.specs.View.{shows_manifest, shows_note};
+ghost use Rattle.an_state.specs.View.{shows_manifest, shows_note};
 ghost use Rattle.an_export.specs.Export.{manifest_line, note_line};
 
 use crate::line::{push_manifest, push_note};
 use an_base::Steps;
-use an_machine::{Look, ManifestRow, NoteRow, is_manifest_shown, is_note_shown};
 use an_policy::Who;
+use an_state::{Look, ManifestRow, NoteRow, is_manifest_shown, is_note_shown};
 use std::alloc::AllocError;
 use std::sync::ledger::Ledger;
 

@@ -1,3 +1,4 @@
 pub mod MarkLemmas
 pub mod PlacedLemmas
 mod MarkRows
+pub mod LentLemmas

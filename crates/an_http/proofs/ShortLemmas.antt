@@ -1,13 +1,15 @@
 -- How long the requests are that bytes begin with.
-use Rattle.std.proofs.Common.{◌≡◌, ℕ, ◌+◌, ◌≤◌, List, [], ◌∷◌, length, take, drop, Bool, true, false, not, ◌==◌, nat_lt, nat_le, if◌then◌else◌, Option, Some, None, Result, Ok, Err, MatchBool, bytes_eq, codes, refl, sym, ap, length-drop, length-take, arith}
+use Rattle.std.proofs.Common.{◌≡◌, ℕ, ◌+◌, ◌≤◌, List, [], ◌∷◌, length, take, drop, Bool, true, false, not, ◌==◌, nat_lt, nat_le, if◌then◌else◌, Option, Some, None, Result, Ok, Err, MatchBool, codes, refl, sym, ap, length-drop, length-take, arith}
 use Rattle.std.proofs.lemmas.Bool.Decides.{nat_tests}
 use Rattle.std.specs.Str.Parse.{digits_value}
 use Rattle.an_base.specs.Outcome.{first_of, unless, when}
-use Rattle.an_base.specs.declared.code.Code.{Code}
-use Rattle.an_base.specs.declared.code.Code.TheVariants as code
+use Rattle.an_code.specs.declared.code.Code.{Code}
+use Rattle.an_code.specs.declared.code.Code.TheVariants as code
 use Rattle.an_http.specs.declared.plan.Plan.{Plan}
 use Rattle.an_http.specs.declared.request.Request.{Request}
-use Rattle.an_http.specs.Fields.{body_length, body_limit, is_length, length_in}
+use Rattle.an_http.specs.Fields.{body_length, body_limit, is_length, length_in, no_length}
+use Rattle.an_http.specs.declared.method.Method.{Method}
+use Rattle.an_http.specs.declared.method.Method.TheVariants as method
 use Rattle.an_http.specs.Head.{Head, head_length, head_limit, values_of}
 use Rattle.an_http.specs.Requests.{Begins, BeginsAt, Front, Nothing, Plans, PlansAs, Whole, Wrong, behind, body_of, plan_by, request_of, with_body}
 
@@ -25,18 +27,25 @@ length_short value n = by (not (is_length value)) (nat_lt body_limit v) refl
     by false true at is = absurd (cc)
     by false false at is = let same = same_ok (Ok v) v n refl is in grind (arith, nat_tests)
 
-body_short : (is_put : Bool) (values : List (List ℕ)) (n : ℕ) → body_length is_put values ≡ Ok n → n ≤ body_limit
-body_short true [] n is = absurd (cc)
-body_short false [] n is = let same = same_ok (Ok 0) 0 n refl is in omega arith
-body_short is_put (value ∷ []) n is = length_short value n is
-body_short is_put (a ∷ b ∷ values) n is = absurd (cc)
+unlengthed_short : (method : Option Method) (n : ℕ) → no_length method ≡ Ok n → n ≤ body_limit
+unlengthed_short None n is = let same = same_ok (Ok 0) 0 n refl is in omega arith
+unlengthed_short (Some method.Get) n is = let same = same_ok (Ok 0) 0 n refl is in omega arith
+unlengthed_short (Some method.Head) n is = let same = same_ok (Ok 0) 0 n refl is in omega arith
+unlengthed_short (Some method.Options) n is = let same = same_ok (Ok 0) 0 n refl is in omega arith
+unlengthed_short (Some method.Put) n is = absurd (cc)
+unlengthed_short (Some method.Delete) n is = let same = same_ok (Ok 0) 0 n refl is in omega arith
+
+body_short : (method : Option Method) (values : List (List ℕ)) (n : ℕ) → body_length method values ≡ Ok n → n ≤ body_limit
+body_short method [] n is = unlengthed_short method n is
+body_short method (value ∷ []) n is = length_short value n is
+body_short method (a ∷ b ∷ values) n is = absurd (cc)
 
 body_of-short : (head : Head) (n : ℕ) → body_of head ≡ Ok n → n ≤ body_limit
 body_of-short head n = by (not (length (values_of (codes "Transfer-Encoding") head.fields) == 0))
   where
-    by : (coded : Bool) → (if coded then Err code.Transfer else body_length (bytes_eq head.method (codes "PUT")) (values_of (codes "Content-Length") head.fields)) ≡ Ok n → n ≤ body_limit
+    by : (coded : Bool) → (if coded then Err code.Transfer else body_length head.method (values_of (codes "Content-Length") head.fields)) ≡ Ok n → n ≤ body_limit
     by true is = absurd (cc)
-    by false is = body_short (bytes_eq head.method (codes "PUT")) (values_of (codes "Content-Length") head.fields) n is
+    by false is = body_short head.method (values_of (codes "Content-Length") head.fields) n is
 
 plan_short : (head : Head) (plan : Plan) → plan_by head (body_of head) ≡ Ok plan → plan.length ≤ body_limit
 plan_short head plan = by (body_of head) refl

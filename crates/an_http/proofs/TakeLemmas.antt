@@ -6,7 +6,7 @@ use Rattle.std.proofs.Math.Seq.{take-length}
 use Rattle.an_http.specs.declared.plan.Plan.{Plan}
 use Rattle.an_http.specs.declared.request.Request.{Request}
 use Rattle.an_http.specs.Requests.{Whole, Front, with_body, request_of}
-use Rattle.an_base.specs.declared.code.Code.TheVariants as code
+use Rattle.an_code.specs.declared.code.Code.TheVariants as code
 
 -- the front goes to the end, and is cut off there
 pub rotated : (bytes : List ℕ) (count : ℕ) → count ≤ length bytes → take (length bytes - count) (drop count bytes ++ take count bytes) ≡ drop count bytes

@@ -1,10 +1,18 @@
--- What the replies say that tell a refusal.
+-- The replies that tell a refusal.
 use Rattle.std.specs.Prelude.{ℕ, List, ◌++◌, codes, decimal}
-use Rattle.an_base.specs.Code.{code_text, parameter_text}
-use Rattle.an_base.specs.declared.code.Code.{Code}
-use Rattle.an_base.specs.declared.code.Code.TheVariants as code
+use Rattle.an_code.specs.Code.{code_text, parameter_text}
+use Rattle.an_code.specs.declared.code.Code.{Code}
+use Rattle.an_code.specs.declared.code.Code.TheVariants as code
+use Rattle.an_http.specs.Status.{status_of}
 use Rattle.an_http.specs.declared.errors.Member.{Member}
 use Rattle.an_http.specs.declared.errors.Member.TheVariants as member
+use Rattle.an_http.specs.declared.reply.Allow.{Allow}
+use Rattle.an_http.specs.declared.reply.Extra.{Extra}
+use Rattle.an_http.specs.declared.reply.Extra.TheVariants as extra
+use Rattle.an_http.specs.declared.reply.Media.TheVariants as media
+use Rattle.an_http.specs.declared.reply.Reply.{Reply}
+use Rattle.an_http.specs.declared.status.Status.{Status}
+use Rattle.an_http.specs.declared.status.Status.TheVariants as status
 
 -- what is told beside a code
 abbrev pub member_of : Code → Member
@@ -36,3 +44,18 @@ body_with text (member.Pages pages) =
 -- the body of the reply
 abbrev pub error_body : Code → List ℕ
 error_body refusal = body_with (code_text refusal) (member_of refusal)
+
+-- a token is asked for with 401 (RFC 9110, section 15.5.2)
+abbrev pub challenge : Status → Extra
+challenge status.Unauthorized = extra.Bearer
+challenge _ = extra.Absent
+
+-- the reply that tells a refusal, at a route with these methods
+abbrev pub refusal_reply : Allow → Code → Reply
+refusal_reply methods refusal = record {
+  status = status_of refusal;
+  allow = methods;
+  media = media.Json;
+  extra = challenge (status_of refusal);
+  body = error_body refusal;
+}

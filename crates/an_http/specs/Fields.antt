@@ -8,11 +8,13 @@ use Rattle.std.specs.List.{list_all, starts_with}
 use Rattle.std.specs.Str.Parse.{digits_value}
 use Rattle.an_base.specs.Outcome.{when, first_of, unless, only_if}
 use Rattle.an_base.specs.Token.{is_token}
-use Rattle.an_base.specs.declared.code.Code.{Code}
-use Rattle.an_base.specs.declared.code.Code.TheVariants as code
+use Rattle.an_code.specs.declared.code.Code.{Code}
+use Rattle.an_code.specs.declared.code.Code.TheVariants as code
 use Rattle.an_base.specs.declared.span.Prefer.{Prefer}
 use Rattle.an_http.specs.declared.request.Auth.{Auth}
 use Rattle.an_http.specs.declared.request.Auth.TheVariants.{Absent, Bearer, Other}
+use Rattle.an_http.specs.declared.method.Method.{Method}
+use Rattle.an_http.specs.declared.method.Method.TheVariants.{Put}
 use Rattle.an_http.specs.declared.fields.Case.{Case}
 use Rattle.an_http.specs.declared.fields.Case.TheVariants.{Exact, Any}
 use Rattle.an_http.specs.Head.{is_same_name}
@@ -33,11 +35,16 @@ length_in value = unless (first_of (
     ∷ when (nat_lt body_limit (digits_value 10 value)) code.Large
     ∷ [])) (digits_value 10 value)
 
--- how many bytes the body has, by Content-Length: none without one, which a PUT needs
-abbrev pub body_length : Bool → List (List ℕ) → Result ℕ Code
-body_length is_put [] = if is_put then Err code.LengthRequired else Ok 0
-body_length is_put (value ∷ []) = length_in value
-body_length is_put (_ ∷ _ ∷ _) = Err code.Length
+-- how many bytes the body has without Content-Length, which a PUT needs
+abbrev pub no_length : Option Method → Result ℕ Code
+no_length (Some Put) = Err code.LengthRequired
+no_length _ = Ok 0
+
+-- how many bytes the body has, by Content-Length
+abbrev pub body_length : Option Method → List (List ℕ) → Result ℕ Code
+body_length method [] = no_length method
+body_length method (value ∷ []) = length_in value
+body_length method (_ ∷ _ ∷ _) = Err code.Length
 
 -- the token behind `Bearer` in any case and one space (RFC 6750, section 2.1)
 abbrev pub token_of : List ℕ → Option (List ℕ)

@@ -4,7 +4,7 @@ use Rattle.std.specs.Prelude.{None, Bool, true, false, Result, Ok, Err}
 use Rattle.an_world.specs.Link.{Traffic, IsAtEnd}
 use Rattle.an_world.specs.declared.read.LinkError.{LinkError}
 use Rattle.an_world.specs.declared.read.LinkError.TheVariants.{ReadFault, Memory}
-use Rattle.an_base.specs.declared.code.Code.TheVariants as code
+use Rattle.an_code.specs.declared.code.Code.TheVariants as code
 use Rattle.an_http.specs.declared.fill.HeadFill.{HeadFill}
 use Rattle.an_http.specs.declared.fill.HeadFill.TheVariants.{Found, Long, Ended}
 use Rattle.an_http.specs.Head.{head_limit, head_length}

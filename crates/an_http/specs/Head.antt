@@ -4,11 +4,13 @@ use Rattle.std.specs.Prelude.{if◌then◌else◌, bytes_eq, Option, Some, None,
 use Rattle.std.specs.Char.{to_ascii_lowercase}
 use Rattle.httparse.specs.Grammar.{RequestHead, ReadsRequest}
 use Rattle.httparse.specs.Spans.{name_and_value}
+use Rattle.an_http.specs.Method.{method_of}
+use Rattle.an_http.specs.declared.method.Method.{Method}
 
--- the method, the target, the minor version of HTTP/1, and the fields: each a name, and a value
--- without the white space around it
+-- the method, if some path has it, the target, the minor version of HTTP/1, and the fields: each a
+-- name, and a value without the white space around it
 pub record Head : Type 0 where
-  pub method : List ℕ
+  pub method : Option Method
   pub target : List ℕ
   pub minor : ℕ
   pub fields : List (List ℕ × List ℕ)
@@ -34,7 +36,7 @@ head_length (b ∷ bytes) =
 -- what a head of the grammar says
 abbrev pub head_of : RequestHead → Head
 head_of head = record {
-  method = head.method;
+  method = method_of head.method;
   target = head.target;
   minor = head.minor;
   fields = map name_and_value head.fields;

@@ -1,3 +1,4 @@
+pub mod Method
 pub mod Head
 pub mod Fields
 pub mod Status

@@ -1,11 +1,14 @@
 -- What a call says of the next request, and what it leaves behind.
-use Rattle.std.specs.Prelude.{◌≡◌, ◌==◌, ◌⊎◌, ℕ, List, if◌then◌else◌, Option, Result, Ok, Err}
+use Rattle.std.specs.Prelude.{◌≡◌, ◌==◌, ◌⊎◌, ℕ, ◌+◌, ◌≤◌, max, List, length, if◌then◌else◌, Option}
+use Rattle.std.specs.Prelude.{Result, Ok, Err}
 use Rattle.an_world.specs.Link.{Traffic, ReadsOn, IsAtEnd}
 use Rattle.an_world.specs.declared.read.LinkError.{LinkError}
 use Rattle.an_world.specs.declared.read.LinkError.TheVariants.{ReadFault, Memory}
-use Rattle.an_base.specs.declared.code.Code.TheVariants as code
+use Rattle.an_code.specs.declared.code.Code.TheVariants as code
 use Rattle.an_http.specs.declared.next.Next.{Next}
 use Rattle.an_http.specs.declared.next.Next.TheVariants as next
+use Rattle.an_http.specs.Fields.{body_limit}
+use Rattle.an_http.specs.Head.{head_limit}
 use Rattle.an_http.specs.Requests.{Piece, Whole, Wrong, Front, Nothing, Begins}
 use Rattle.an_http.specs.Status.{status_of}
 
@@ -35,10 +38,12 @@ Says next.End piece told held held' = (piece ≡ Nothing) × IsAtEnd told × (he
 abbrev pub at_end : ℕ → Next
 at_end count = if count == 0 then next.End else next.Bad (status_of code.Head) code.Head
 
--- bytes came behind those that were held, and the piece that all of them begin with was told
+-- bytes came behind those that were held, of all together no more than a head and a body may have,
+-- and the piece that all of them begin with was told
 pub record IsCut (old new : Option Traffic) (held held' : List ℕ) (told : Next) : Type 0 where
   pub all : List ℕ
   pub reads : ReadsOn old new held all
+  pub few : length all ≤ max (length held) (head_limit + body_limit)
   pub piece : Piece
   pub begins : Begins all piece
   pub says : Says told piece new all held'

@@ -1,9 +1,9 @@
 -- How bytes are cut into requests, by the bytes alone (RFC 9112).
-use Rattle.std.specs.Prelude.{◌≡◌, ℕ, List, [], ◌∷◌, length, take, drop, codes, bytes_eq, not, ◌==◌}
+use Rattle.std.specs.Prelude.{◌≡◌, ℕ, List, [], ◌∷◌, length, take, drop, codes, not, ◌==◌}
 use Rattle.std.specs.Prelude.{nat_lt, nat_le, if◌then◌else◌, Option, Some, None, Result, Ok, Err}
 use Rattle.std.specs.Prelude.{MatchBool}
-use Rattle.an_base.specs.declared.code.Code.{Code}
-use Rattle.an_base.specs.declared.code.Code.TheVariants as code
+use Rattle.an_code.specs.declared.code.Code.{Code}
+use Rattle.an_code.specs.declared.code.Code.TheVariants as code
 use Rattle.an_http.specs.declared.request.Request.{Request}
 use Rattle.an_http.specs.declared.plan.Plan.{Plan}
 use Rattle.an_http.specs.Head.{Head, head_limit, head_length, values_of, ReadsHead}
@@ -17,7 +17,7 @@ body_of head =
     let lengths = values_of (codes "Content-Length") head.fields in
     if not (length codings == 0)
     then Err code.Transfer
-    else body_length (bytes_eq head.method (codes "PUT")) lengths
+    else body_length head.method lengths
 
 -- what a head says of a request with so long a body
 abbrev pub plan_with : Head → ℕ → Plan

@@ -1,7 +1,7 @@
 -- The statuses of replies, and the status that each code of a refusal has (RFC 9110, section 15).
 use Rattle.std.specs.Prelude.{ℕ, List, codes}
-use Rattle.an_base.specs.declared.code.Code.{Code}
-use Rattle.an_base.specs.declared.code.Code.TheVariants as code
+use Rattle.an_code.specs.declared.code.Code.{Code}
+use Rattle.an_code.specs.declared.code.Code.TheVariants as code
 use Rattle.an_http.specs.declared.status.Status.{Status}
 use Rattle.an_http.specs.declared.status.Status.TheVariants as status
 

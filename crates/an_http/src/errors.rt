@@ -1,7 +1,10 @@
 ghost use Rattle.std.specs.Prelude.{◌≡◌, ◌++◌, codes, IfOk, string_bytes};
-ghost use Rattle.an_http.specs.Errors.{member_of, body_with, error_body};
+ghost use Rattle.an_http.specs.Errors.{member_of, body_with, error_body, challenge, refusal_reply};
 
-use an_base::{Bytes, Code, Parameter};
+use crate::reply::{Allow, Extra, Media, Reply};
+use crate::status::{Status, status_of};
+use an_base::Bytes;
+use an_code::{Code, Parameter};
 use std::alloc::{AllocError, Global};
 
 /// What the body of a refusal tells beside its code.
@@ -16,6 +19,31 @@ pub(crate) enum Member {
     Name(Parameter),
     /// How many pages there are.
     Pages(usize),
+}
+
+/// The reply that tells a refusal, at a route with these methods.
+pub fn refusal_reply(alloc: Global, allow: Allow, refusal: Code) -> Result<Reply, AllocError>
+    ensures reply { IfOk result (λ reply. reply ≡ refusal_reply allow refusal) }
+{
+    let status = status_of(refusal);
+    let body = error_body(alloc, refusal)?;
+    Ok(Reply {
+        status,
+        allow,
+        media: Media::Json,
+        extra: challenge(status),
+        body,
+    })
+}
+
+/// A token is asked for with 401.
+fn challenge(status: Status) -> Extra
+    ensures { result ≡ challenge status }
+{
+    match status {
+        Status::Unauthorized => Extra::Bearer,
+        _ => Extra::Absent,
+    }
 }
 
 fn member_of(code: Code) -> Member

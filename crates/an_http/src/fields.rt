@@ -4,13 +4,15 @@ ghost use Rattle.std.specs.Prelude.{◌≡◌, ◌≤◌, map, length, IsTrue, I
 ghost use Rattle.std.specs.Char.{is_ascii_digit};
 ghost use Rattle.std.specs.List.{list_all};
 ghost use Rattle.std.specs.Str.Parse.{digits_value};
-ghost use Rattle.an_http.specs.Fields.{body_limit, is_length, length_in, body_length, token_of};
-ghost use Rattle.an_http.specs.Fields.{signed_by, auth_of, begins, says, any_says, prefer_of};
-ghost use Rattle.an_http.specs.Fields.{closes};
+ghost use Rattle.an_http.specs.Fields.{body_limit, is_length, length_in, no_length, body_length};
+ghost use Rattle.an_http.specs.Fields.{token_of, signed_by, auth_of, begins, says, any_says};
+ghost use Rattle.an_http.specs.Fields.{prefer_of, closes};
 
 use crate::head::{is_same_name, text_of};
+use crate::method::Method;
 use crate::request::Auth;
-use an_base::{Code, Prefer, Text, is_token};
+use an_base::{Prefer, Text, is_token};
+use an_code::Code;
 use std::alloc::{AllocError, Global};
 
 /// How many bytes a body may have.
@@ -24,18 +26,24 @@ pub(crate) enum Case {
 }
 
 /// How many bytes the body has, or the refusal by Content-Length.
-pub(crate) fn body_length(is_put: bool, values: &[&[u8]]) -> Result<usize, Code>
-    ensures body { result ≡ body_length is_put (map (λ value. value.now) values.now) }
+pub(crate) fn body_length(method: Option<Method>, values: &[&[u8]]) -> Result<usize, Code>
+    ensures body { result ≡ body_length method (map (λ value. value.now) values.now) }
     ensures within { IfOk result (λ length. length ≤ body_limit) }
 {
     match values {
-        [] => if is_put {
-            Err(Code::LengthRequired)
-        } else {
-            Ok(0)
-        },
+        [] => no_length(method),
         [value] => length_in(value),
         [_, _, ..] => Err(Code::Length),
+    }
+}
+
+fn no_length(method: Option<Method>) -> Result<usize, Code>
+    ensures body { result ≡ no_length method }
+    ensures within { IfOk result (λ length. length ≤ body_limit) }
+{
+    match method {
+        Some(Method::Put) => Err(Code::LengthRequired),
+        _ => Ok(0),
     }
 }
 

@@ -5,6 +5,7 @@ ghost use Rattle.httparse.specs.Spans.{IsHeaderWithin, header_bytes};
 ghost use Rattle.an_http.specs.Head.{begins_with_end, head_length, is_same_name, values_of};
 ghost use Rattle.an_http.specs.Head.{ReadsHead};
 
+use crate::method::{Method, method_of};
 use httparse::Status;
 use httparse::spans::{EMPTY_HEADER_SPAN, HeaderSpan, RequestSpans, parse_request};
 use std::alloc::{AllocError, Global};
@@ -26,11 +27,12 @@ impl<'a> Model for ParsedHead<'a> {
     ghost use Rattle.std.specs.Str.{is_utf8};
     ghost use Rattle.httparse.specs.Spans.{IsRequestWithin, span_bytes, header_bytes};
     ghost use Rattle.an_http.specs.Head.{Head};
+    ghost use Rattle.an_http.specs.Method.{method_of};
 
     ghost Value = { Head };
 
     ghost view = { λ h. record {
-      method = span_bytes h.text.now h.found.method;
+      method = method_of (span_bytes h.text.now h.found.method);
       target = span_bytes h.text.now h.found.path;
       minor = h.found.version;
       fields = map (header_bytes h.text.now) (take h.found.headers h.fields);
@@ -64,10 +66,10 @@ pub(crate) fn read_head(text: &[u8]) -> Option<ParsedHead<'_>>
 }
 
 impl<'a> ParsedHead<'a> {
-    pub(crate) fn method(&self) -> &'a str
-        ensures method { result.now ≡ self.now.method }
+    pub(crate) fn method(&self) -> Option<Method>
+        ensures method { result ≡ self.now.method }
     {
-        text_of(self.found.method.of(self.text))
+        method_of(text_of(self.found.method.of(self.text)))
     }
 
     pub(crate) fn target(&self) -> &'a str

@@ -3,8 +3,9 @@
 
 pub use an_world::LinkError;
 pub use buffer::Buffer;
-pub use errors::error_body;
+pub use errors::{error_body, refusal_reply};
 pub use laws::{cuts_are_unique, cuts_go_on, requests_are_short};
+pub use method::{Method, method_of};
 pub use next::{Next, next_request};
 pub use put::{PutError, put_memory_reply, put_reply};
 pub use reply::{Allow, Extra, Media, Reply};
@@ -17,6 +18,7 @@ mod fields;
 mod fill;
 mod head;
 mod laws;
+mod method;
 mod next;
 mod plan;
 mod put;

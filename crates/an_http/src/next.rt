@@ -13,7 +13,7 @@ use crate::fill::{HeadFill, fill_head, fill_to};
 use crate::plan::{Plan, read_plan};
 use crate::request::Request;
 use crate::status::{Status, status_of};
-use an_base::Code;
+use an_code::Code;
 use an_world::{Link, LinkError};
 use std::alloc::{AllocError, Global};
 

@@ -5,15 +5,17 @@ ghost use Rattle.an_http.specs.Requests.{Plans, body_of, plan_with, plan_of, req
 
 use crate::fields::{auth_of, body_length, closes, prefer_of};
 use crate::head::{ParsedHead, read_head};
+use crate::method::Method;
 use crate::request::{Auth, Request};
-use an_base::{Bytes, Code, Prefer, Text};
+use an_base::{Bytes, Prefer, Text};
+use an_code::Code;
 use std::alloc::{AllocError, Global};
 
 /// What a head says of its request, the body aside. It is kept while the body comes, since the head
 /// borrows the bytes that are held.
 #[derive(Debug, Drop)]
 pub(crate) struct Plan {
-    pub(crate) method: Text,
+    pub(crate) method: Option<Method>,
     pub(crate) target: Text,
     pub(crate) auth: Auth,
     pub(crate) prefer: Prefer,
@@ -54,7 +56,7 @@ fn body_of(alloc: Global, head: &ParsedHead<'_>) -> Result<Result<usize, Code>, 
         return Ok(Err(Code::Transfer));
     }
     let lengths = head.values_of(alloc, b"Content-Length")?;
-    Ok(body_length(head.method() == "PUT", lengths.as_slice()))
+    Ok(body_length(head.method(), lengths.as_slice()))
 }
 
 /// What a head says of a request with so long a body.
@@ -62,7 +64,7 @@ fn plan_with(alloc: Global, head: &ParsedHead<'_>, length: usize) -> Result<Plan
     ensures plan { IfOk result (λ plan. plan ≡ plan_with head.now length) }
 {
     Ok(Plan {
-        method: Text::new(alloc, head.method())?,
+        method: head.method(),
         target: Text::new(alloc, head.target())?,
         auth: auth_by(alloc, head)?,
         prefer: prefer_by(alloc, head)?,

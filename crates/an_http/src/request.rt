@@ -1,3 +1,4 @@
+use crate::method::Method;
 use an_base::{Bytes, Prefer, Text};
 
 /// Who signs a request, by its Authorization fields.
@@ -14,7 +15,8 @@ pub enum Auth {
 /// A whole request.
 #[derive(Debug, Drop, PartialEq, Eq)]
 pub struct Request {
-    pub method: Text,
+    /// There is none where no path has the method that was sent.
+    pub method: Option<Method>,
     /// The target as it was sent, percent-encoded.
     pub target: Text,
     pub auth: Auth,

@@ -1,7 +1,7 @@
 ghost use Rattle.std.specs.Prelude.{◌≡◌};
 ghost use Rattle.an_http.specs.Status.{status_of, number_of, phrase_of};
 
-use an_base::Code;
+use an_code::Code;
 
 /// The status of a reply (RFC 9110, section 15).
 #[derive(Clone, Copy, Debug, PartialEq, Eq)]

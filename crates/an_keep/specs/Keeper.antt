@@ -20,3 +20,9 @@ Stays = Turns (λ cells. cells)
 abbrev pub StaysOrBegins : Told → Told → Type 0
 StaysOrBegins None new = Unit {0}
 StaysOrBegins (Some old) new = Stays (Some old) new
+
+-- this holds where a keeper tells before some calls and tells still behind them
+abbrev pub WhileTold : Told → Told → Type 0 → Type 0
+WhileTold old None holds = Unit {0}
+WhileTold None (Some new) holds = Unit {0}
+WhileTold (Some old) (Some new) holds = holds

@@ -27,8 +27,9 @@ impl From<AllocError> for KeepError {
 /// What keeps cells, each under a table and a key.
 ///
 /// A keeper may tell its cells or not. One that doesn't begins to tell them in a call of `first`
-/// alone. A call answers `Failed` only where the count of faults rises, and the count never falls.
-/// It stands still at `u64::MAX`.
+/// alone, whatever that answers, as one that has to open a file does. It may stop telling them in
+/// any call. A call answers `Failed` only where the count of faults rises, and the count never
+/// falls. It stands still at `u64::MAX`.
 pub trait Keeper: Drop {
     ghost use Rattle.std.specs.Prelude.{Bool, ℕ};
     ghost use Rattle.an_keep.specs.Keeper.{Told};
@@ -58,8 +59,7 @@ pub trait Keeper: Drop {
         ensures ascend { IfSome (told self.new) Ascend }
 
         // No call of it changes a cell.
-        ensures stays { OnOk result (StaysOrBegins (told self.old) (told self.new)) }
-        ensures still { OnErr result (Stays (told self.old) (told self.new)) }
+        ensures stays { StaysOrBegins (told self.old) (told self.new) }
         ensures counted { result ≡ Err KeepError.Failed
             → Rises (faults self.old) (faults self.new) }
         ensures faults_kept { faults self.old ≤ faults self.new };

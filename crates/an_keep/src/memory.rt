@@ -115,8 +115,7 @@ impl Keeper for MemKeeper {
         // What each keeper ensures.
         ensures cell { IfOk result (λ cell. cell ≡ first_of self.new.cells) }
         ensures ascend { Ascend self.new.cells }
-        ensures stays { OnOk result (self.new.cells ≡ self.old.cells) }
-        ensures still { OnErr result (self.new.cells ≡ self.old.cells) }
+        ensures stays { self.new.cells ≡ self.old.cells }
         ensures counted { result ≡ Err KeepError.Failed → Rises self.old.faults self.new.faults }
         ensures faults_kept { self.old.faults ≤ self.new.faults }
     {

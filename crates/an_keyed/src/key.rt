@@ -3,7 +3,7 @@ ghost use Rattle.std.specs.Option.{option_copied};
 ghost use Rattle.an_keyed.specs.Key.{Key, same_key, same_owner};
 ghost use Rattle.an_keyed.specs.KeyHash.{key_hash};
 
-use an_base::Name;
+use an_base::{Name, Shared};
 use std::hash::{DefaultHasher, Hash, Hasher};
 
 /// What is kept under a key: an owner, where it has one, and a name.
@@ -15,6 +15,18 @@ pub trait Keyed {
 
     fn name(&self) -> &Name
         ensures name { result.now ≡ (key self.now).name };
+}
+
+impl<R: Keyed + Drop> Keyed for Shared<R> {
+    ghost key = { R.key };
+
+    fn owner(&self) -> Option<&Name> {
+        self.get().owner()
+    }
+
+    fn name(&self) -> &Name {
+        self.get().name()
+    }
 }
 
 /// Whether the row stands under this key.

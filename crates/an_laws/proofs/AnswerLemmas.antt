@@ -8,26 +8,27 @@ use Rattle.an_keyed.specs.Key.{same_key}
 use Rattle.an_policy.specs.Audience.{Identity, anonymous, operator, signed, is_named}
 use Rattle.an_policy.specs.declared.who.Caller.{Caller}
 use Rattle.an_machine.specs.Accepted.{decided as decided_by, effect_of, moment_of_write, reply_to}
-use Rattle.an_machine.specs.Asked.{asked_of, manifest_under, object_asked, object_of}
+use Rattle.an_machine.specs.Asked.{asked_of, manifest_under, object_asked}
+use Rattle.an_state.specs.Commands.{object_of}
 use Rattle.an_machine.specs.Refusals.{is_anothers, is_hidden, is_outside, may_write, refusals_before, refusals_behind, signed_by, signer_of}
 use Rattle.an_machine.specs.Asked.{group_within}
-use Rattle.an_machine.specs.State.{State, KeptNote, note_key, manifest_row, note_row, who_of, manifests_are_distinct}
+use Rattle.an_state.specs.State.{State, KeptNote, note_key, manifest_row, note_row, who_of, manifests_are_distinct}
 use Rattle.an_machine.specs.Step.{step, step_by, step_if_signed, refused_or, and_then, judged}
 use Rattle.an_machine.specs.Versions.{is_next}
-use Rattle.an_machine.specs.View.{view_of, view_for, shows_manifest, manifest_in}
+use Rattle.an_state.specs.View.{view_of, view_for, shows_manifest, manifest_in}
 use Rattle.an_machine.specs.declared.asked.Asked.{Asked}
 use Rattle.an_machine.specs.declared.asked.Asked.TheVariants.{Deletion}
 use Rattle.an_machine.specs.declared.asked.Asked.TheVariants as put
 use Rattle.an_machine.specs.declared.asked.NotePut.{NotePut}
-use Rattle.an_machine.specs.declared.command.Command.{Command}
+use Rattle.an_state.specs.declared.command.Command.{Command}
 use Rattle.an_machine.specs.declared.command.Decided.{Decided}
-use Rattle.an_machine.specs.declared.command.Object.{Object}
-use Rattle.an_machine.specs.declared.command.Object.TheVariants as object
+use Rattle.an_state.specs.declared.command.Object.{Object}
+use Rattle.an_state.specs.declared.command.Object.TheVariants as object
 use Rattle.an_machine.specs.declared.command.Refused.{Refused}
 use Rattle.an_machine.specs.declared.command.Refused.TheVariants.{NotWriter, NotOwn, NoManifest, NotMember}
 use Rattle.an_machine.specs.declared.command.WriteReply.{WriteReply}
 use Rattle.an_machine.specs.declared.effect.Effect.{Effect}
-use Rattle.an_machine.proofs.ViewLemmas.{manifest_in-distinct, same_key-equal}
+use Rattle.an_state.proofs.ViewLemmas.{manifest_in-distinct, same_key-equal}
 use Rattle.an_laws.specs.Isolation.{LookAlike, answer_of, is_note, own_notes}
 use Rattle.an_laws.proofs.LeadLemmas.{key_at}
 use Rattle.an_laws.proofs.RefusalLemmas.{asked-agrees, none-of, none-when}

@@ -6,10 +6,10 @@ use Rattle.std.proofs.lemmas.List.Elements.{All-nil, All-cons, All-head}
 use Rattle.std.proofs.lemmas.Option.{same_Some}
 use Rattle.an_keyed.specs.Key.{Key, same_key}
 use Rattle.an_policy.specs.declared.group.Audience.{Audience}
-use Rattle.an_machine.specs.Accepted.{audience_of_manifest, audience_of_note}
-use Rattle.an_machine.specs.State.{State, KeptManifest, KeptNote, manifest_key, note_key, manifest_row, note_row, is_distinct}
-use Rattle.an_machine.specs.declared.activity.Activity.{Activity}
-use Rattle.an_machine.proofs.DistinctLemmas.{manifests-distinct, notes-distinct}
+use Rattle.an_state.specs.View.{audience_of_manifest, audience_of_note}
+use Rattle.an_state.specs.State.{State, KeptManifest, KeptNote, manifest_key, note_key, manifest_row, note_row, is_distinct}
+use Rattle.an_state.specs.declared.activity.Activity.{Activity}
+use Rattle.an_state.proofs.DistinctLemmas.{manifests-distinct, notes-distinct}
 use Rattle.an_laws.specs.Coherent.{activities_of, audiences_of, has_row, Chain, has_any, Coherent}
 use Rattle.an_laws.proofs.RowLemmas.{one_of, row_of-find}
 

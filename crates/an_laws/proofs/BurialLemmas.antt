@@ -8,13 +8,13 @@ use Rattle.an_base.specs.Outcome.{only_if}
 use Rattle.an_keyed.specs.Key.{Key, same_key}
 use Rattle.an_keyed.specs.Rows.{row_of, put_row}
 use Rattle.an_machine.specs.Accepted.{buried, notes_on}
-use Rattle.an_machine.specs.Entries.{with_row, with_rows}
-use Rattle.an_machine.specs.State.{State, KeptNote, note_key, note_row, keys_are_distinct, is_distinct}
-use Rattle.an_machine.specs.View.{is_on}
-use Rattle.an_machine.specs.declared.entry.Row.{Row}
-use Rattle.an_machine.specs.declared.entry.Row.TheVariants as kept
-use Rattle.an_machine.proofs.DistinctLemmas.{notes-distinct}
-use Rattle.an_machine.proofs.ViewLemmas.{one_shown}
+use Rattle.an_state.specs.Entries.{with_row, with_rows}
+use Rattle.an_state.specs.State.{State, KeptNote, note_key, note_row, keys_are_distinct, is_distinct}
+use Rattle.an_state.specs.View.{is_on}
+use Rattle.an_state.specs.declared.entry.Row.{Row}
+use Rattle.an_state.specs.declared.entry.Row.TheVariants as kept
+use Rattle.an_state.proofs.DistinctLemmas.{notes-distinct}
+use Rattle.an_state.proofs.ViewLemmas.{one_shown}
 use Rattle.an_laws.proofs.RowLemmas.{distinct-filter, none-behind, row_of-find, row_of-put_row}
 
 -- ---- rows that are put one after another

@@ -11,15 +11,15 @@ use Rattle.an_policy.specs.declared.reader.Reader.{Reader}
 use Rattle.an_policy.specs.declared.who.Caller.{Caller}
 use Rattle.an_policy.specs.declared.who.Caller.TheVariants.{Anonymous, Operator, Token, Named}
 use Rattle.an_machine.specs.Accepted.{effect_of, moment_of_write, reader_tombstone}
-use Rattle.an_machine.specs.Entries.{after, with_row, with_rows}
+use Rattle.an_state.specs.Entries.{after, with_row, with_rows}
 use Rattle.an_machine.specs.Legal.{Write, Accepts}
-use Rattle.an_machine.specs.State.{State, KeptReader, reader_key, reader_row, who_of}
+use Rattle.an_state.specs.State.{State, KeptReader, reader_key, reader_row, who_of}
 use Rattle.an_machine.specs.declared.asked.Asked.{Asked}
 use Rattle.an_machine.specs.declared.asked.Asked.TheVariants.{Deletion}
 use Rattle.an_machine.specs.declared.asked.Asked.TheVariants as put
-use Rattle.an_machine.specs.declared.command.Object.TheVariants as object
-use Rattle.an_machine.specs.declared.entry.Row.TheVariants as kept
-use Rattle.an_machine.proofs.DistinctLemmas.{set_or_push, put_at-position}
+use Rattle.an_state.specs.declared.command.Object.TheVariants as object
+use Rattle.an_state.specs.declared.entry.Row.TheVariants as kept
+use Rattle.an_state.proofs.DistinctLemmas.{set_or_push, put_at-position}
 use Rattle.an_laws.specs.Isolation.{is_row_of, is_anothers_row, leaves_caller}
 use Rattle.an_laws.proofs.DropLemmas.{with_rows-dropped}
 use Rattle.an_laws.proofs.LeadLemmas.{key_at}

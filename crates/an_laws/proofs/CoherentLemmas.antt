@@ -7,20 +7,22 @@ use Rattle.std.proofs.lemmas.List.Elements.{All-nil}
 use Rattle.an_base.specs.Outcome.{first_of, passes}
 use Rattle.an_keyed.specs.Key.{Key}
 use Rattle.an_policy.specs.Audience.{Identity}
-use Rattle.an_machine.specs.Accepted.{audience_of_manifest, audience_of_note, effect_of, manifest_tombstone, moment_of_write, note_tombstone, put_manifest, put_note}
-use Rattle.an_machine.specs.Entries.{after, with_row, with_rows}
+use Rattle.an_machine.specs.Accepted.{effect_of, manifest_tombstone, moment_of_write, note_tombstone, put_manifest, put_note}
+use Rattle.an_state.specs.View.{audience_of_manifest, audience_of_note}
+use Rattle.an_state.specs.Entries.{after, with_row, with_rows}
 use Rattle.an_machine.specs.Refusals.{refusals_behind}
-use Rattle.an_machine.specs.Sound.{is_sound, stands_on_live}
-use Rattle.an_machine.specs.State.{State, KeptReader, KeptManifest, empty, manifest_row, note_row, is_distinct}
-use Rattle.an_machine.specs.Versions.{is_next, same_group}
-use Rattle.an_machine.specs.declared.activity.Activity.{Activity}
+use Rattle.an_state.specs.Sound.{is_sound, stands_on_live}
+use Rattle.an_state.specs.State.{State, KeptReader, KeptManifest, empty, manifest_row, note_row, is_distinct}
+use Rattle.an_machine.specs.Versions.{is_next}
+use Rattle.an_policy.specs.Group.{same_group}
+use Rattle.an_state.specs.declared.activity.Activity.{Activity}
 use Rattle.an_machine.specs.declared.asked.Asked.{Asked}
 use Rattle.an_machine.specs.declared.asked.Asked.TheVariants.{Deletion}
 use Rattle.an_machine.specs.declared.asked.Asked.TheVariants as put
 use Rattle.an_machine.specs.declared.asked.ManifestPut.{ManifestPut}
 use Rattle.an_machine.specs.declared.asked.NotePut.{NotePut}
-use Rattle.an_machine.specs.declared.command.Object.TheVariants as object
-use Rattle.an_machine.specs.declared.entry.Row.TheVariants as kept
+use Rattle.an_state.specs.declared.command.Object.TheVariants as object
+use Rattle.an_state.specs.declared.entry.Row.TheVariants as kept
 use Rattle.an_laws.specs.Coherent.{Chain, Coherent, activities_of, audiences_of, has_any, has_row}
 use Rattle.an_machine.specs.Legal.{Write, Accepts, Legal, state_of}
 use Rattle.an_laws.proofs.AudienceLemmas.{CoherentFirst, coherent-first, all-audiences}

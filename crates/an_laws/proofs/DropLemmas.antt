@@ -3,9 +3,9 @@ use Rattle.std.proofs.Common.{◌≡◌, ℕ, ℤ, List, Option, Some, None, opt
 use Rattle.an_keyed.specs.Rows.{put_row}
 use Rattle.an_policy.specs.Audience.{Identity}
 use Rattle.an_machine.specs.Accepted.{manifest_deletion, manifest_tombstone, notes_on}
-use Rattle.an_machine.specs.Entries.{with_row, with_rows}
-use Rattle.an_machine.specs.State.{State, KeptManifest, manifest_key, manifest_row}
-use Rattle.an_machine.specs.declared.entry.Row.TheVariants as kept
+use Rattle.an_state.specs.Entries.{with_row, with_rows}
+use Rattle.an_state.specs.State.{State, KeptManifest, manifest_key, manifest_row}
+use Rattle.an_state.specs.declared.entry.Row.TheVariants as kept
 use Rattle.an_laws.proofs.BurialLemmas.{left_state, with_rows-notes}
 
 -- the row is put, where there is one

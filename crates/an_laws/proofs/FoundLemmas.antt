@@ -7,9 +7,9 @@ use Rattle.std.proofs.lemmas.Option.{same_Some}
 use Rattle.an_base.specs.Outcome.{passes}
 use Rattle.an_keyed.specs.Key.{Key, same_key}
 use Rattle.an_keyed.specs.Rows.{row_of, put_row}
-use Rattle.an_machine.specs.State.{keys_are_distinct}
-use Rattle.an_machine.proofs.DistinctLemmas.{set_or_push, put_at-position, same_key-self}
-use Rattle.an_machine.proofs.ViewLemmas.{same_key-equal}
+use Rattle.an_state.specs.State.{keys_are_distinct}
+use Rattle.an_state.proofs.DistinctLemmas.{set_or_push, put_at-position, same_key-self}
+use Rattle.an_state.proofs.ViewLemmas.{same_key-equal}
 use Rattle.an_laws.proofs.RowLemmas.{row_of-find}
 
 -- what all pass, all pass by a weaker test

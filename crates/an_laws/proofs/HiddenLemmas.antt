@@ -6,8 +6,8 @@ use Rattle.std.proofs.lemmas.Bool.{cases_Bool, and_parts, not-true, cond-true, c
 use Rattle.an_base.specs.Outcome.{passes}
 use Rattle.an_keyed.specs.Key.{Key, same_key}
 use Rattle.an_keyed.specs.Rows.{row_of, put_row}
-use Rattle.an_machine.specs.State.{keys_are_distinct}
-use Rattle.an_machine.proofs.DistinctLemmas.{set_or_push, put_at-position}
+use Rattle.an_state.specs.State.{keys_are_distinct}
+use Rattle.an_state.proofs.DistinctLemmas.{set_or_push, put_at-position}
 use Rattle.an_laws.proofs.BurialLemmas.{put_all}
 use Rattle.an_laws.proofs.FoundLemmas.{all-weaker, all-from_found, found-passes}
 use Rattle.an_laws.proofs.RowLemmas.{row_of-find, row_of-put_row}

@@ -6,14 +6,15 @@ use Rattle.std.proofs.lemmas.List.Elements.{filter-append}
 use Rattle.an_keyed.specs.Key.{Key, same_key}
 use Rattle.an_policy.specs.Audience.{Identity}
 use Rattle.an_policy.specs.declared.group.Audience.{Audience}
-use Rattle.an_machine.specs.Accepted.{audience_of_manifest, audience_of_note, manifest_activity, note_activity}
-use Rattle.an_machine.specs.Entries.{with_row}
-use Rattle.an_machine.specs.State.{State, KeptManifest, KeptNote, manifest_key, note_key, manifest_row, note_row}
-use Rattle.an_machine.specs.declared.activity.Activity.{Activity}
-use Rattle.an_machine.specs.declared.entry.Row.TheVariants as kept
-use Rattle.an_machine.proofs.DistinctLemmas.{same_key-self}
-use Rattle.an_machine.proofs.ViewLemmas.{same_key-equal}
-use Rattle.an_machine.specs.View.{activity_key}
+use Rattle.an_machine.specs.Accepted.{manifest_activity, note_activity}
+use Rattle.an_state.specs.View.{audience_of_manifest, audience_of_note}
+use Rattle.an_state.specs.Entries.{with_row}
+use Rattle.an_state.specs.State.{State, KeptManifest, KeptNote, manifest_key, note_key, manifest_row, note_row}
+use Rattle.an_state.specs.declared.activity.Activity.{Activity}
+use Rattle.an_state.specs.declared.entry.Row.TheVariants as kept
+use Rattle.an_state.proofs.DistinctLemmas.{same_key-self}
+use Rattle.an_state.proofs.ViewLemmas.{same_key-equal}
+use Rattle.an_state.specs.View.{activity_key}
 use Rattle.an_laws.specs.Coherent.{activities_of, has_row, Chain, has_any}
 pub use Rattle.an_laws.proofs.AudienceLemmas.{key_at}
 use Rattle.an_laws.proofs.AudienceLemmas.{audience_of, CoherentFirst}

@@ -6,12 +6,13 @@ use Rattle.std.proofs.lemmas.Bool.{cases_Bool}
 use Rattle.an_base.specs.Outcome.{only_if}
 use Rattle.an_keyed.specs.Key.{Key, same_key}
 use Rattle.an_policy.specs.Audience.{Identity}
-use Rattle.an_machine.specs.Accepted.{audience_of_note, burial, notes_on}
-use Rattle.an_machine.specs.State.{State, KeptNote, note_key, note_row, keys_are_distinct, is_distinct}
-use Rattle.an_machine.specs.View.{is_on}
-use Rattle.an_machine.specs.declared.activity.Activity.{Activity}
-use Rattle.an_machine.proofs.DistinctLemmas.{notes-distinct}
-use Rattle.an_machine.proofs.ViewLemmas.{one_shown}
+use Rattle.an_machine.specs.Accepted.{burial, notes_on}
+use Rattle.an_state.specs.View.{audience_of_note}
+use Rattle.an_state.specs.State.{State, KeptNote, note_key, note_row, keys_are_distinct, is_distinct}
+use Rattle.an_state.specs.View.{is_on}
+use Rattle.an_state.specs.declared.activity.Activity.{Activity}
+use Rattle.an_state.proofs.DistinctLemmas.{notes-distinct}
+use Rattle.an_state.proofs.ViewLemmas.{one_shown}
 use Rattle.an_laws.specs.Coherent.{activities_of, Chain, has_any}
 use Rattle.an_laws.proofs.RowLemmas.{distinct-filter, one_of, row_of-find}
 use Rattle.an_laws.proofs.BurialLemmas.{as_left, left_state, note_row-left}

@@ -5,9 +5,10 @@ use Rattle.std.specs.Prelude.{unwrap_or}
 use Rattle.std.proofs.lemmas.Bool.{and_parts, and_from, cond_both, not_from_false}
 use Rattle.std.proofs.lemmas.Int.{ints}
 use Rattle.std.proofs.lemmas.List.Folds.{list_all-append}
-use Rattle.an_machine.specs.Accepted.{later, last_moment}
-use Rattle.an_machine.specs.declared.activity.Activity.{Activity}
-use Rattle.an_machine.specs.Sound.{moments_never_fall}
+use Rattle.an_machine.specs.Accepted.{later}
+use Rattle.an_state.specs.View.{last_moment}
+use Rattle.an_state.specs.declared.activity.Activity.{Activity}
+use Rattle.an_state.specs.Sound.{moments_never_fall}
 use Rattle.an_laws.proofs.FoundLemmas.{all-weaker}
 
 -- ---- moments

@@ -5,20 +5,21 @@ use Rattle.an_base.specs.Outcome.{first_of}
 use Rattle.an_policy.specs.Audience.{Identity}
 use Rattle.an_policy.specs.declared.who.Caller.{Caller}
 use Rattle.an_machine.specs.Accepted.{decided, effect_of, moment_of_write}
-use Rattle.an_machine.specs.Asked.{asked_of, object_of, version_of}
-use Rattle.an_machine.specs.Entries.{after}
+use Rattle.an_machine.specs.Asked.{asked_of}
+use Rattle.an_state.specs.Commands.{object_of, version_of}
+use Rattle.an_state.specs.Entries.{after}
 use Rattle.an_machine.specs.Refusals.{signer_of, refusals_before, refusals_behind}
-use Rattle.an_machine.specs.Sound.{is_sound}
-use Rattle.an_machine.specs.State.{State, is_distinct}
+use Rattle.an_state.specs.Sound.{is_sound}
+use Rattle.an_state.specs.State.{State, is_distinct}
 use Rattle.an_machine.specs.Step.{step, step_if_signed, refused_or, and_then, judged}
 use Rattle.an_machine.specs.Versions.{number_of, is_next}
 use Rattle.an_machine.specs.declared.asked.Asked.{Asked}
-use Rattle.an_machine.specs.declared.command.Command.{Command}
+use Rattle.an_state.specs.declared.command.Command.{Command}
 use Rattle.an_machine.specs.declared.command.Decided.{Decided}
-use Rattle.an_machine.specs.declared.command.Object.{Object}
+use Rattle.an_state.specs.declared.command.Object.{Object}
 use Rattle.an_machine.specs.declared.command.Refused.{Refused}
 use Rattle.an_machine.specs.declared.effect.Effect.{Effect}
-use Rattle.an_machine.proofs.DistinctLemmas.{distinct-after}
+use Rattle.an_state.proofs.DistinctLemmas.{distinct-after}
 use Rattle.an_machine.specs.Legal.{Write, Accepts, Legal, state_of}
 use Rattle.an_laws.specs.Numbers.{AddsNothing}
 use Rattle.an_laws.proofs.RefusalLemmas.{asked-agrees}

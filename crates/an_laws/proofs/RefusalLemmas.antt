@@ -6,7 +6,7 @@ use Rattle.std.proofs.lemmas.Bool.{and_parts, not-false}
 use Rattle.std.proofs.lemmas.Slice.Eq.{bytes_eq-Decides}
 use Rattle.serde_json.specs.Data.{Data}
 use Rattle.an_base.specs.Outcome.{when, first_of, passes, or_refuse}
-use Rattle.an_base.specs.declared.code.Code.TheVariants as code
+use Rattle.an_code.specs.declared.code.Code.TheVariants as code
 use Rattle.an_manifest.specs.Manifest.{manifest_of}
 use Rattle.an_model.specs.Note.{note_of}
 use Rattle.an_policy.specs.Audience.{Identity}
@@ -17,19 +17,20 @@ use Rattle.an_policy.specs.declared.reader.Reader.{Reader}
 use Rattle.an_policy.specs.declared.reader.ReaderError.{ReaderError}
 use Rattle.an_policy.specs.declared.reader.ReaderError.TheVariants as error
 use Rattle.an_policy.specs.declared.reader.Role.{Role}
-use Rattle.an_machine.specs.Asked.{asked_of, asked_manifest, asked_note, is_private, manifest_asked, manifest_under, no_manifest, no_note, no_reader, object_asked, object_of, version_asked, version_of}
+use Rattle.an_machine.specs.Asked.{asked_of, asked_manifest, asked_note, manifest_asked, manifest_under, no_manifest, no_note, no_reader, object_asked, version_asked}
+use Rattle.an_policy.specs.Group.{is_private, same_group}
+use Rattle.an_state.specs.Commands.{object_of, version_of}
 use Rattle.an_machine.specs.Refusals.{has_other_group, is_hidden, is_token_taken, refusals_before, refusals_behind, takes_token}
-use Rattle.an_machine.specs.Sound.{is_live_manifest}
-use Rattle.an_machine.specs.State.{State, KeptManifest, manifest_row}
-use Rattle.an_machine.specs.Versions.{same_group}
-use Rattle.an_machine.specs.View.{shows_manifest}
+use Rattle.an_state.specs.Sound.{is_live_manifest}
+use Rattle.an_state.specs.State.{State, KeptManifest, manifest_row}
+use Rattle.an_state.specs.View.{shows_manifest}
 use Rattle.an_machine.specs.declared.asked.Asked.{Asked}
 use Rattle.an_machine.specs.declared.asked.Asked.TheVariants.{Deletion}
 use Rattle.an_machine.specs.declared.asked.Asked.TheVariants as put
 use Rattle.an_machine.specs.declared.asked.ManifestPut.{ManifestPut}
-use Rattle.an_machine.specs.declared.command.Command.{Command}
-use Rattle.an_machine.specs.declared.command.Command.TheVariants.{PutReader, DropReader, PutManifest, DropManifest, PutNote, DropNote}
-use Rattle.an_machine.specs.declared.command.Object.TheVariants as object
+use Rattle.an_state.specs.declared.command.Command.{Command}
+use Rattle.an_state.specs.declared.command.Command.TheVariants.{PutReader, DropReader, PutManifest, DropManifest, PutNote, DropNote}
+use Rattle.an_state.specs.declared.command.Object.TheVariants as object
 use Rattle.an_machine.specs.declared.command.Refused.{Refused}
 use Rattle.an_machine.specs.declared.command.Refused.TheVariants.{NoManifest, TokenTaken, GroupFixed, Shape}
 

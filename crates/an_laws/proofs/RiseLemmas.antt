@@ -6,20 +6,21 @@ use Rattle.an_keyed.specs.Key.{Key, same_key}
 use Rattle.an_keyed.specs.Rows.{row_of, put_row}
 use Rattle.an_policy.specs.Audience.{Identity}
 use Rattle.an_machine.specs.Accepted.{effect_of, deletion, moment_of_write, number_behind, buried, manifest_tombstone}
-use Rattle.an_machine.specs.Asked.{object_of, version_of, object_asked, version_asked, is_put}
-use Rattle.an_machine.specs.Entries.{with_row, with_rows, after}
-use Rattle.an_machine.specs.State.{State, KeptReader, KeptManifest, KeptNote, reader_key, manifest_key, note_key, manifest_row, note_row, is_distinct}
+use Rattle.an_machine.specs.Asked.{object_asked, version_asked, is_put}
+use Rattle.an_state.specs.Commands.{object_of, version_of}
+use Rattle.an_state.specs.Entries.{with_row, with_rows, after}
+use Rattle.an_state.specs.State.{State, KeptReader, KeptManifest, KeptNote, reader_key, manifest_key, note_key, manifest_row, note_row, is_distinct}
 use Rattle.an_machine.specs.Versions.{current, standing, note_standing, number_of, is_next}
-use Rattle.an_machine.specs.View.{is_on}
-use Rattle.an_machine.specs.declared.activity.Activity.{Activity}
+use Rattle.an_state.specs.View.{is_on}
+use Rattle.an_state.specs.declared.activity.Activity.{Activity}
 use Rattle.an_machine.specs.declared.asked.Asked.{Asked}
 use Rattle.an_machine.specs.declared.asked.Asked.TheVariants.{Deletion}
 use Rattle.an_machine.specs.declared.asked.Asked.TheVariants as put
-use Rattle.an_machine.specs.declared.command.Object.{Object}
-use Rattle.an_machine.specs.declared.command.Object.TheVariants.{Reader, Manifest, Note}
-use Rattle.an_machine.specs.declared.entry.Row.TheVariants as kept
-use Rattle.an_machine.proofs.DistinctLemmas.{same_key-self}
-use Rattle.an_machine.proofs.ViewLemmas.{same_key-equal}
+use Rattle.an_state.specs.declared.command.Object.{Object}
+use Rattle.an_state.specs.declared.command.Object.TheVariants.{Reader, Manifest, Note}
+use Rattle.an_state.specs.declared.entry.Row.TheVariants as kept
+use Rattle.an_state.proofs.DistinctLemmas.{same_key-self}
+use Rattle.an_state.proofs.ViewLemmas.{same_key-equal}
 use Rattle.an_machine.specs.Legal.{Write, Accepts}
 use Rattle.an_laws.proofs.BurialLemmas.{as_left, left_state, note_row-left}
 use Rattle.an_laws.proofs.DropLemmas.{with_rows-tombstone}

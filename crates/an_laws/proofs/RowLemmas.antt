@@ -5,9 +5,9 @@ use Rattle.std.specs.List.{list_any}
 use Rattle.std.proofs.lemmas.Bool.{cases_Bool, both_ways, and_parts, and_from, or_parts, or_from, not-true, not_from_false, cond-false, cond_both}
 use Rattle.an_keyed.specs.Key.{Key, same_key}
 use Rattle.an_keyed.specs.Rows.{row_of, put_row}
-use Rattle.an_machine.specs.State.{keys_are_distinct}
-use Rattle.an_machine.proofs.DistinctLemmas.{set_or_push, put_at-position}
-use Rattle.an_machine.proofs.ViewLemmas.{row_found, same_key-equal}
+use Rattle.an_state.specs.State.{keys_are_distinct}
+use Rattle.an_state.proofs.DistinctLemmas.{set_or_push, put_at-position}
+use Rattle.an_state.proofs.ViewLemmas.{row_found, same_key-equal}
 
 module _ {R : Type 0} (key : R → Key) where
   pub row_of-find : (wanted : Key) (rows : List R) → row_of key wanted rows ≡ find (λ row. same_key (key row) wanted) rows

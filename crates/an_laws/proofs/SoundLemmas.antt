@@ -6,18 +6,19 @@ use Rattle.std.proofs.lemmas.Slice.Eq.{bytes_eq-Decides}
 use Rattle.an_base.specs.Outcome.{first_of}
 use Rattle.an_policy.specs.Audience.{Identity}
 use Rattle.an_policy.specs.declared.reader.Reader.{Reader}
-use Rattle.an_machine.specs.Accepted.{audience_of_manifest, burial, effect_of, manifest_activity, moment_of_write, note_tombstone, notes_on, put_manifest, put_note, reader_tombstone}
+use Rattle.an_machine.specs.Accepted.{burial, effect_of, manifest_activity, moment_of_write, note_tombstone, notes_on, put_manifest, put_note, reader_tombstone}
+use Rattle.an_state.specs.View.{audience_of_manifest}
 use Rattle.an_machine.specs.Asked.{manifest_asked}
-use Rattle.an_machine.specs.Entries.{after, with_rows}
+use Rattle.an_state.specs.Entries.{after, with_rows}
 use Rattle.an_machine.specs.Refusals.{refusals_behind}
-use Rattle.an_machine.specs.Sound.{is_sound, agrees, tokens_are_distinct, is_live_manifest, stands_on_live, moments_never_fall}
-use Rattle.an_machine.specs.State.{State, KeptNote, empty, reader_key, note_key, manifest_row, note_row, live_readers, keys_are_distinct, is_distinct}
-use Rattle.an_machine.specs.declared.activity.Activity.{Activity}
+use Rattle.an_state.specs.Sound.{is_sound, agrees, tokens_are_distinct, is_live_manifest, stands_on_live, moments_never_fall}
+use Rattle.an_state.specs.State.{State, KeptNote, empty, reader_key, note_key, manifest_row, note_row, live_readers, keys_are_distinct, is_distinct}
+use Rattle.an_state.specs.declared.activity.Activity.{Activity}
 use Rattle.an_machine.specs.declared.asked.Asked.{Asked}
 use Rattle.an_machine.specs.declared.asked.Asked.TheVariants.{Deletion}
 use Rattle.an_machine.specs.declared.asked.Asked.TheVariants as put
-use Rattle.an_machine.specs.declared.command.Object.TheVariants as object
-use Rattle.an_machine.proofs.DistinctLemmas.{distinct-put_row, distinct-with_rows, notes-distinct}
+use Rattle.an_state.specs.declared.command.Object.TheVariants as object
+use Rattle.an_state.proofs.DistinctLemmas.{distinct-put_row, distinct-with_rows, notes-distinct}
 use Rattle.an_machine.specs.Legal.{Write, Accepts, Legal, state_of}
 use Rattle.an_laws.proofs.DropLemmas.{dropped, with_rows-dropped}
 use Rattle.an_laws.proofs.FoundLemmas.{all-put_row}

@@ -2,8 +2,8 @@
 use Rattle.std.proofs.Common.{◌≡◌, true}
 use Rattle.std.specs.List.{list_all}
 use Rattle.std.proofs.lemmas.Bool.{and_parts, and_from}
-use Rattle.an_machine.specs.State.{State, reader_key, live_readers, keys_are_distinct, is_distinct}
-use Rattle.an_machine.specs.Sound.{is_sound, agrees, tokens_are_distinct, stands_on_live, moments_never_fall}
+use Rattle.an_state.specs.State.{State, reader_key, live_readers, keys_are_distinct, is_distinct}
+use Rattle.an_state.specs.Sound.{is_sound, agrees, tokens_are_distinct, stands_on_live, moments_never_fall}
 
 pub record Sound (s : State) : Type 0 where
   pub readers : keys_are_distinct reader_key s.readers ≡ true

@@ -7,10 +7,10 @@ use Rattle.an_base.specs.Outcome.{passes}
 use Rattle.an_keyed.specs.Key.{Key, same_key}
 use Rattle.an_keyed.specs.Rows.{row_of, put_row}
 use Rattle.an_machine.specs.Accepted.{buried, manifest_tombstone}
-use Rattle.an_machine.specs.State.{State, KeptManifest, KeptNote, manifest_key, note_key, manifest_row, keys_are_distinct}
-use Rattle.an_machine.specs.View.{is_on}
-use Rattle.an_machine.proofs.DistinctLemmas.{other-key}
-use Rattle.an_machine.specs.Sound.{is_live_manifest, stands_on_live}
+use Rattle.an_state.specs.State.{State, KeptManifest, KeptNote, manifest_key, note_key, manifest_row, keys_are_distinct}
+use Rattle.an_state.specs.View.{is_on}
+use Rattle.an_state.proofs.DistinctLemmas.{other-key}
+use Rattle.an_state.specs.Sound.{is_live_manifest, stands_on_live}
 use Rattle.an_laws.proofs.BurialLemmas.{as_left, row_of-left}
 use Rattle.an_laws.proofs.DropLemmas.{put_found, dropped}
 use Rattle.an_laws.proofs.FoundLemmas.{all-weaker, found-passes, all-from_found}

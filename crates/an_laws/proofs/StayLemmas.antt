@@ -5,11 +5,11 @@ use Rattle.std.specs.List.{list_all}
 use Rattle.std.proofs.lemmas.Bool.{cases_Bool, cond-true, cond-false, both_ways}
 use Rattle.an_keyed.specs.Key.{same_key}
 use Rattle.an_policy.specs.declared.group.Group.{Group}
-use Rattle.an_machine.specs.Accepted.{audience_of_note}
-use Rattle.an_machine.specs.State.{State, KeptManifest, KeptNote, LiveNote, manifest_key, note_key, manifest_row, note_row}
-use Rattle.an_machine.specs.View.{note_audience}
-use Rattle.an_machine.proofs.ViewLemmas.{same_key-equal}
-use Rattle.an_machine.specs.Sound.{is_live_manifest, stands_on_live}
+use Rattle.an_state.specs.View.{audience_of_note}
+use Rattle.an_state.specs.State.{State, KeptManifest, KeptNote, LiveNote, manifest_key, note_key, manifest_row, note_row}
+use Rattle.an_state.specs.View.{note_audience}
+use Rattle.an_state.proofs.ViewLemmas.{same_key-equal}
+use Rattle.an_state.specs.Sound.{is_live_manifest, stands_on_live}
 use Rattle.an_laws.proofs.FoundLemmas.{found-passes, passes-some}
 use Rattle.an_laws.proofs.LeadLemmas.{key_at, with_manifest, manifest_found, NotesStay}
 

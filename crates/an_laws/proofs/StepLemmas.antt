@@ -7,15 +7,15 @@ use Rattle.an_policy.specs.declared.who.Caller.{Caller}
 use Rattle.an_machine.specs.Accepted.{decided as decided_by, effect_of, entry_of, moment_of_write}
 use Rattle.an_machine.specs.Asked.{asked_of}
 use Rattle.an_machine.specs.Refusals.{signer_of, refusals_before, refusals_behind}
-use Rattle.an_machine.specs.State.{State}
+use Rattle.an_state.specs.State.{State}
 use Rattle.an_machine.specs.Step.{step, step_if_signed, refused_or, and_then, judged}
 use Rattle.an_machine.specs.Versions.{is_next}
 use Rattle.an_machine.specs.declared.asked.Asked.{Asked}
-use Rattle.an_machine.specs.declared.command.Command.{Command}
+use Rattle.an_state.specs.declared.command.Command.{Command}
 use Rattle.an_machine.specs.declared.command.Decided.{Decided}
 use Rattle.an_machine.specs.declared.command.Refused.{Refused}
 use Rattle.an_machine.specs.declared.effect.Effect.{Effect}
-use Rattle.an_machine.specs.declared.entry.Entry.{Entry}
+use Rattle.an_state.specs.declared.entry.Entry.{Entry}
 use Rattle.an_machine.specs.Legal.{Write, Accepts}
 
 -- the entry of a write that is the next of its object

@@ -8,10 +8,10 @@ use Rattle.an_keyed.specs.Key.{same_key}
 use Rattle.an_keyed.specs.Rows.{put_row}
 use Rattle.an_policy.specs.declared.reader.Reader.{Reader}
 use Rattle.an_machine.specs.Refusals.{is_taken_from}
-use Rattle.an_machine.specs.Rows.{reader_agrees}
-use Rattle.an_machine.specs.State.{KeptReader, reader_key, keys_are_distinct}
-use Rattle.an_machine.proofs.DistinctLemmas.{set_or_push, put_at-position}
-use Rattle.an_machine.specs.Sound.{agrees, tokens_are_distinct}
+use Rattle.an_state.specs.Rows.{reader_agrees}
+use Rattle.an_state.specs.State.{KeptReader, reader_key, keys_are_distinct}
+use Rattle.an_state.proofs.DistinctLemmas.{set_or_push, put_at-position}
+use Rattle.an_state.specs.Sound.{agrees, tokens_are_distinct}
 use Rattle.an_laws.proofs.RowLemmas.{none-behind}
 
 -- ---- tests of what there may be

@@ -12,13 +12,13 @@ use Rattle.an_policy.specs.Audience.{Identity, may}
 use Rattle.an_policy.specs.Seen.{reads, as_seen, is_deletion}
 use Rattle.an_policy.specs.declared.group.Audience.{Audience}
 use Rattle.an_policy.specs.declared.kind.Kind.TheVariants.{Create, Update, Delete}
-use Rattle.an_machine.specs.Accepted.{audience_of_manifest, audience_of_note}
-use Rattle.an_machine.specs.Sound.{is_sound}
-use Rattle.an_machine.specs.State.{State, KeptManifest, KeptNote, LiveManifest, LiveNote, manifest_key, note_key, manifest_row, note_row}
-use Rattle.an_machine.specs.View.{view_of, manifest_audience, note_audience, shows_manifest, shows_note, activity_key, seen_by, is_change_of}
-use Rattle.an_machine.specs.declared.activity.Activity.{Activity}
-use Rattle.an_machine.specs.declared.activity.Seen.{Seen}
-use Rattle.an_machine.proofs.ChangeLemmas.{change, own_change, other_change}
+use Rattle.an_state.specs.View.{audience_of_manifest, audience_of_note}
+use Rattle.an_state.specs.Sound.{is_sound}
+use Rattle.an_state.specs.State.{State, KeptManifest, KeptNote, LiveManifest, LiveNote, manifest_key, note_key, manifest_row, note_row}
+use Rattle.an_state.specs.View.{view_of, manifest_audience, note_audience, shows_manifest, shows_note, activity_key, seen_by, is_change_of}
+use Rattle.an_state.specs.declared.activity.Activity.{Activity}
+use Rattle.an_state.specs.declared.activity.Seen.{Seen}
+use Rattle.an_state.proofs.ChangeLemmas.{change, own_change, other_change}
 use Rattle.an_laws.specs.Coherent.{activities_of, Chain, Coherent, is_in_view, is_told}
 use Rattle.an_machine.specs.Legal.{Write, Legal, state_of}
 use Rattle.an_laws.proofs.AudienceLemmas.{key_at, audience_of, coherent-first}

@@ -13,28 +13,30 @@ use Rattle.an_policy.specs.Seen.{reads, as_seen}
 use Rattle.an_policy.specs.declared.who.Caller.{Caller}
 use Rattle.an_policy.specs.declared.group.Group.{Group}
 use Rattle.an_policy.specs.declared.kind.Kind.TheVariants.{Create, Update, Delete}
-use Rattle.an_machine.specs.Accepted.{audience_of_manifest, audience_of_note, buried, burial, effect_of, manifest_activity, manifest_tombstone, moment_of_write, note_activity, note_tombstone, notes_on, put_manifest, put_note}
-use Rattle.an_machine.specs.Entries.{after, with_row, with_rows}
+use Rattle.an_machine.specs.Accepted.{buried, burial, effect_of, manifest_activity, manifest_tombstone, moment_of_write, note_activity, note_tombstone, notes_on, put_manifest, put_note}
+use Rattle.an_state.specs.View.{audience_of_manifest, audience_of_note}
+use Rattle.an_state.specs.Entries.{after, with_row, with_rows}
 use Rattle.an_machine.specs.Legal.{Write, Accepts, Legal, state_of}
 use Rattle.an_machine.specs.Refusals.{refusals_behind}
-use Rattle.an_machine.specs.State.{State, KeptReader, KeptManifest, KeptNote, LiveNote, manifest_key, note_key, manifest_row, note_row, who_of, notes_are_distinct}
-use Rattle.an_machine.specs.Versions.{is_next, same_group}
-use Rattle.an_machine.specs.View.{View, view_of, view_for, is_on, note_audience, shows_manifest, shows_note, seen_as, seen_by}
-use Rattle.an_machine.specs.declared.activity.Activity.{Activity}
+use Rattle.an_state.specs.State.{State, KeptReader, KeptManifest, KeptNote, LiveNote, manifest_key, note_key, manifest_row, note_row, who_of, notes_are_distinct}
+use Rattle.an_machine.specs.Versions.{is_next}
+use Rattle.an_policy.specs.Group.{same_group}
+use Rattle.an_state.specs.View.{View, view_of, view_for, is_on, note_audience, shows_manifest, shows_note, seen_as, seen_by}
+use Rattle.an_state.specs.declared.activity.Activity.{Activity}
 use Rattle.an_machine.specs.declared.asked.Asked.{Asked}
 use Rattle.an_machine.specs.declared.asked.Asked.TheVariants.{Deletion}
 use Rattle.an_machine.specs.declared.asked.Asked.TheVariants as put
 use Rattle.an_machine.specs.declared.asked.ManifestPut.{ManifestPut}
 use Rattle.an_machine.specs.declared.asked.NotePut.{NotePut}
-use Rattle.an_machine.specs.declared.command.Object.TheVariants as object
-use Rattle.an_machine.specs.declared.entry.Entry.{Entry}
-use Rattle.an_machine.specs.declared.entry.Entry.TheVariants.{Restored, Done}
-use Rattle.an_machine.specs.declared.entry.Row.{Row}
-use Rattle.an_machine.specs.declared.entry.Row.TheVariants as kept
-use Rattle.an_machine.proofs.DistinctLemmas.{distinct-put_row}
-use Rattle.an_machine.proofs.ViewLemmas.{same_key-equal}
+use Rattle.an_state.specs.declared.command.Object.TheVariants as object
+use Rattle.an_state.specs.declared.entry.Entry.{Entry}
+use Rattle.an_state.specs.declared.entry.Entry.TheVariants.{Restored, Done}
+use Rattle.an_state.specs.declared.entry.Row.{Row}
+use Rattle.an_state.specs.declared.entry.Row.TheVariants as kept
+use Rattle.an_state.proofs.DistinctLemmas.{distinct-put_row}
+use Rattle.an_state.proofs.ViewLemmas.{same_key-equal}
 use Rattle.an_laws.specs.Isolation.{reads_as, activities_in, IsUnseen, AreUnseen}
-use Rattle.an_machine.specs.View.{view_by}
+use Rattle.an_state.specs.View.{view_by}
 use Rattle.an_laws.proofs.BurialLemmas.{left_state}
 use Rattle.an_laws.proofs.CallerLemmas.{caller-after}
 use Rattle.an_laws.proofs.DropLemmas.{with_rows-tombstone}

@@ -17,16 +17,17 @@ use Rattle.an_policy.specs.declared.group.Group.TheVariants.{Public}
 use Rattle.an_policy.specs.declared.reader.Reader.{Reader}
 use Rattle.an_policy.specs.declared.who.Caller.{Caller}
 use Rattle.an_policy.specs.declared.who.Caller.TheVariants.{Anonymous, Operator, Token, Named}
-use Rattle.an_machine.specs.Accepted.{later, last_moment, moment_of_write, by_whom, audience_of_manifest, audience_of_note, manifest_activity, note_activity}
-use Rattle.an_machine.specs.Commands.{is_number}
-use Rattle.an_machine.specs.Entries.{with_row, with_rows}
+use Rattle.an_machine.specs.Accepted.{later, moment_of_write, by_whom, manifest_activity, note_activity}
+use Rattle.an_state.specs.View.{last_moment, audience_of_manifest, audience_of_note}
+use Rattle.an_state.specs.Commands.{is_number}
+use Rattle.an_state.specs.Entries.{with_row, with_rows}
 use Rattle.an_machine.specs.Refusals.{signed_by, signer_of}
-use Rattle.an_machine.specs.Rows.{reader_agrees}
-use Rattle.an_machine.specs.Sound.{agrees}
-use Rattle.an_machine.specs.State.{State, KeptReader, KeptManifest, LiveManifest, KeptNote, LiveNote, reader_key, manifest_key, note_key, reader_row, manifest_row, live_readers, reader_with_token}
-use Rattle.an_machine.specs.declared.activity.Activity.{Activity}
-use Rattle.an_machine.specs.declared.entry.Row.{Row}
-use Rattle.an_machine.specs.declared.entry.Row.TheVariants as kept
+use Rattle.an_state.specs.Rows.{reader_agrees}
+use Rattle.an_state.specs.Sound.{agrees}
+use Rattle.an_state.specs.State.{State, KeptReader, KeptManifest, LiveManifest, KeptNote, LiveNote, reader_key, manifest_key, note_key, reader_row, manifest_row, live_readers, reader_with_token}
+use Rattle.an_state.specs.declared.activity.Activity.{Activity}
+use Rattle.an_state.specs.declared.entry.Row.{Row}
+use Rattle.an_state.specs.declared.entry.Row.TheVariants as kept
 use Rattle.an_laws.proofs.FoundLemmas.{all-put_row, found-passes}
 use Rattle.an_rows.specs.Valid.{if_any, is_iri, is_valid_reader, is_valid_reader_row, is_manifest_group, is_valid_manifest_row, is_valid_live_note, is_valid_note_row, is_valid_audience, is_valid_activity, is_valid_row}
 use Rattle.an_rows.proofs.OpenedLemmas.{AllValid}

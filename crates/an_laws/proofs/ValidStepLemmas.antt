@@ -10,7 +10,7 @@ use Rattle.an_base.specs.Moment.{is_moment}
 use Rattle.an_base.specs.Name.{is_name}
 use Rattle.an_base.specs.Outcome.{passes, first_of}
 use Rattle.an_base.specs.Tree.{is_tree, is_whole}
-use Rattle.an_base.specs.declared.code.Code.TheVariants as code
+use Rattle.an_code.specs.declared.code.Code.TheVariants as code
 use Rattle.an_manifest.specs.Manifest.{manifest_of}
 use Rattle.an_model.specs.Note.{note_of}
 use Rattle.serde_json.specs.Data.{Data}
@@ -21,27 +21,29 @@ use Rattle.an_policy.specs.Audience.{Identity, anonymous, operator, signed, is_n
 use Rattle.an_policy.specs.Group.{is_valid_group}
 use Rattle.an_policy.specs.declared.group.Audience.{Audience}
 use Rattle.an_policy.specs.declared.reader.Reader.{Reader}
-use Rattle.an_machine.specs.Accepted.{audience_of_manifest, audience_of_note, manifest_activity, manifest_made, changed, put_manifest, live_in, creator_of, note_made, put_note, manifest_tombstone, number_behind, buried, notes_on, burial, user_of, effect_of, moment_of_write}
-use Rattle.an_machine.specs.Asked.{asked_of, asked_manifest, asked_note, is_private, no_manifest, no_note, no_reader}
-use Rattle.an_machine.specs.Commands.{is_number, is_command, is_write}
-use Rattle.an_machine.specs.Entries.{after, with_rows}
+use Rattle.an_machine.specs.Accepted.{manifest_activity, manifest_made, changed, put_manifest, live_in, creator_of, note_made, put_note, manifest_tombstone, number_behind, buried, notes_on, burial, user_of, effect_of, moment_of_write}
+use Rattle.an_state.specs.View.{audience_of_manifest, audience_of_note}
+use Rattle.an_machine.specs.Asked.{asked_of, asked_manifest, asked_note, no_manifest, no_note, no_reader}
+use Rattle.an_policy.specs.Group.{is_private}
+use Rattle.an_state.specs.Commands.{is_number, is_command, is_write}
+use Rattle.an_state.specs.Entries.{after, with_rows}
 use Rattle.an_machine.specs.Refusals.{is_anothers, refusals_before}
 use Rattle.an_machine.specs.Versions.{is_next}
-use Rattle.an_machine.specs.Sound.{is_sound, is_live_manifest, stands_on_live}
-use Rattle.an_machine.specs.State.{State, KeptManifest, LiveManifest, KeptNote, LiveNote, manifest_key, note_key, manifest_row, note_row}
-use Rattle.an_machine.specs.View.{is_on, manifest_audience}
+use Rattle.an_state.specs.Sound.{is_sound, is_live_manifest, stands_on_live}
+use Rattle.an_state.specs.State.{State, KeptManifest, LiveManifest, KeptNote, LiveNote, manifest_key, note_key, manifest_row, note_row}
+use Rattle.an_state.specs.View.{is_on, manifest_audience}
 use Rattle.an_machine.specs.declared.asked.Asked.{Asked}
 use Rattle.an_machine.specs.declared.asked.Asked.TheVariants.{Deletion}
 use Rattle.an_machine.specs.declared.asked.Asked.TheVariants as put
 use Rattle.an_machine.specs.declared.asked.ManifestPut.{ManifestPut}
 use Rattle.an_machine.specs.declared.asked.NotePut.{NotePut}
-use Rattle.an_machine.specs.declared.command.Command.{Command}
-use Rattle.an_machine.specs.declared.command.Command.TheVariants.{PutReader, DropReader, PutManifest, DropManifest, PutNote, DropNote}
-use Rattle.an_machine.specs.declared.command.Object.TheVariants as object
+use Rattle.an_state.specs.declared.command.Command.{Command}
+use Rattle.an_state.specs.declared.command.Command.TheVariants.{PutReader, DropReader, PutManifest, DropManifest, PutNote, DropNote}
+use Rattle.an_state.specs.declared.command.Object.TheVariants as object
 use Rattle.an_machine.specs.declared.command.Refused.{Refused}
 use Rattle.an_machine.specs.declared.command.Refused.TheVariants.{NotOwn, Shape}
 use Rattle.an_machine.specs.declared.effect.Effect.{Effect}
-use Rattle.an_machine.specs.declared.entry.Row.TheVariants as kept
+use Rattle.an_state.specs.declared.entry.Row.TheVariants as kept
 use Rattle.an_policy.specs.Reader.{reader_of}
 use Rattle.an_machine.specs.Legal.{Write, Accepts, Legal, AreWrites, state_of}
 use Rattle.an_laws.proofs.RefusalLemmas.{none-of, none-when, note-based}

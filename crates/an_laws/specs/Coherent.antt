@@ -6,11 +6,11 @@ use Rattle.an_base.specs.Outcome.{passes}
 use Rattle.an_keyed.specs.Key.{Key, same_key}
 use Rattle.an_policy.specs.declared.group.Audience.{Audience}
 use Rattle.an_policy.specs.Seen.{is_deletion}
-use Rattle.an_machine.specs.State.{State, manifest_key, note_key, manifest_row, note_row}
-use Rattle.an_machine.specs.View.{View, activity_key, manifest_in, note_in, last_change}
-use Rattle.an_machine.specs.Accepted.{audience_of_manifest, audience_of_note}
-use Rattle.an_machine.specs.declared.activity.Activity.{Activity}
-use Rattle.an_machine.specs.declared.activity.Seen.{Seen}
+use Rattle.an_state.specs.State.{State, manifest_key, note_key, manifest_row, note_row}
+use Rattle.an_state.specs.View.{View, activity_key, manifest_in, note_in, last_change}
+use Rattle.an_state.specs.View.{audience_of_manifest, audience_of_note}
+use Rattle.an_state.specs.declared.activity.Activity.{Activity}
+use Rattle.an_state.specs.declared.activity.Seen.{Seen}
 
 -- the activities of one object, in order
 abbrev pub activities_of : Key → List Activity → List Activity

@@ -7,20 +7,20 @@ use Rattle.an_base.specs.Outcome.{passes}
 use Rattle.an_policy.specs.Audience.{Identity, anonymous, is_named}
 use Rattle.an_policy.specs.declared.who.Caller.{Caller}
 use Rattle.an_policy.specs.declared.who.Caller.TheVariants.{Anonymous, Operator, Token, Named}
-use Rattle.an_machine.specs.Entries.{after}
+use Rattle.an_state.specs.Entries.{after}
 use Rattle.an_machine.specs.Legal.{Write}
-use Rattle.an_machine.specs.State.{State, KeptReader, KeptNote, reader_row, who_of}
-use Rattle.an_machine.specs.View.{seen_by, view_by}
-use Rattle.an_machine.specs.declared.activity.Activity.{Activity}
+use Rattle.an_state.specs.State.{State, KeptReader, KeptNote, reader_row, who_of}
+use Rattle.an_state.specs.View.{seen_by, view_by}
+use Rattle.an_state.specs.declared.activity.Activity.{Activity}
 use Rattle.an_machine.specs.declared.command.Decided.{Decided}
-use Rattle.an_machine.specs.declared.command.Object.{Object}
-use Rattle.an_machine.specs.declared.command.Object.TheVariants as object
+use Rattle.an_state.specs.declared.command.Object.{Object}
+use Rattle.an_state.specs.declared.command.Object.TheVariants as object
 use Rattle.an_machine.specs.declared.command.Refused.{Refused}
 use Rattle.an_machine.specs.declared.command.WriteReply.{WriteReply}
-use Rattle.an_machine.specs.declared.entry.Entry.{Entry}
-use Rattle.an_machine.specs.declared.entry.Entry.TheVariants.{Restored, Done}
-use Rattle.an_machine.specs.declared.entry.Row.{Row}
-use Rattle.an_machine.specs.declared.entry.Row.TheVariants as kept
+use Rattle.an_state.specs.declared.entry.Entry.{Entry}
+use Rattle.an_state.specs.declared.entry.Entry.TheVariants.{Restored, Done}
+use Rattle.an_state.specs.declared.entry.Row.{Row}
+use Rattle.an_state.specs.declared.entry.Row.TheVariants as kept
 
 -- ---- what an entry adds
 

@@ -1,9 +1,9 @@
 ghost use Rattle.std.specs.Prelude.{◌≡◌, IsTrue, List};
 ghost use Rattle.an_keyed.specs.Key.{Key};
-ghost use Rattle.an_machine.specs.Entries.{after};
-ghost use Rattle.an_machine.specs.Sound.{is_sound};
-ghost use Rattle.an_machine.specs.State.{State, empty};
-ghost use Rattle.an_machine.specs.View.{view_of};
+ghost use Rattle.an_state.specs.Entries.{after};
+ghost use Rattle.an_state.specs.Sound.{is_sound};
+ghost use Rattle.an_state.specs.State.{State, empty};
+ghost use Rattle.an_state.specs.View.{view_of};
 ghost use Rattle.an_policy.specs.Audience.{Identity};
 ghost use Rattle.an_laws.specs.Coherent.{Coherent, is_in_view, is_told};
 ghost use Rattle.an_machine.specs.Legal.{Accepts, Legal, Write, state_of};

@@ -2,14 +2,14 @@ ghost use Rattle.std.specs.Prelude.{◌≡◌, ℤ, IsTrue, List};
 ghost use Rattle.an_policy.specs.declared.who.Caller.{Caller};
 ghost use Rattle.an_laws.specs.Isolation.{IsUnseen, AreUnseen, LookAlike};
 ghost use Rattle.an_laws.specs.Isolation.{answer_of, is_note, leaves_caller};
-ghost use Rattle.an_machine.specs.View.{view_by};
-ghost use Rattle.an_machine.specs.Asked.{object_of};
-ghost use Rattle.an_machine.specs.Entries.{after};
+ghost use Rattle.an_state.specs.View.{view_by};
+ghost use Rattle.an_state.specs.Commands.{object_of};
+ghost use Rattle.an_state.specs.Entries.{after};
 ghost use Rattle.an_machine.specs.Legal.{Accepts, Legal, Write, state_of};
-ghost use Rattle.an_machine.specs.State.{State, manifests_are_distinct, notes_are_distinct};
-ghost use Rattle.an_machine.specs.State.{who_of};
+ghost use Rattle.an_state.specs.State.{State, manifests_are_distinct, notes_are_distinct};
+ghost use Rattle.an_state.specs.State.{who_of};
 ghost use Rattle.an_machine.specs.Step.{step};
-ghost use Rattle.an_machine.specs.declared.command.Command.{Command};
+ghost use Rattle.an_state.specs.declared.command.Command.{Command};
 
 /// A law: an accepted write of whose activities (IIIF Change Discovery API 1.0) a caller sees none,
 /// and that changes no reader's row that is the caller's, leaves the caller's whole view as it was,

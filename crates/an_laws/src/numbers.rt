@@ -1,8 +1,8 @@
 ghost use Rattle.std.specs.Prelude.{◌≡◌, ℤ, ◌<◌, IsTrue, List, ◌∷◌, ◌++◌};
 ghost use Rattle.an_policy.specs.declared.who.Caller.{Caller};
-ghost use Rattle.an_machine.specs.Asked.{object_of, version_of};
-ghost use Rattle.an_machine.specs.Sound.{is_sound};
-ghost use Rattle.an_machine.specs.State.{State};
+ghost use Rattle.an_state.specs.Commands.{object_of, version_of};
+ghost use Rattle.an_state.specs.Sound.{is_sound};
+ghost use Rattle.an_state.specs.State.{State};
 ghost use Rattle.an_machine.specs.Step.{step};
 ghost use Rattle.an_machine.specs.Legal.{Legal, Write, state_of};
 ghost use Rattle.an_laws.specs.Numbers.{AddsNothing};

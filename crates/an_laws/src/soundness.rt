@@ -1,7 +1,7 @@
 ghost use Rattle.std.specs.Prelude.{IsTrue, List};
-ghost use Rattle.an_machine.specs.Entries.{after};
-ghost use Rattle.an_machine.specs.Sound.{is_sound};
-ghost use Rattle.an_machine.specs.State.{State, empty};
+ghost use Rattle.an_state.specs.Entries.{after};
+ghost use Rattle.an_state.specs.Sound.{is_sound};
+ghost use Rattle.an_state.specs.State.{State, empty};
 ghost use Rattle.an_machine.specs.Legal.{Accepts, Legal, Write, state_of};
 
 /// A law: the empty state is sound, each accepted write leads from a sound state to a sound one,

@@ -1,8 +1,8 @@
 ghost use Rattle.std.specs.Prelude.{◌≡◌, List, Ok, IsTrue};
-ghost use Rattle.an_machine.specs.Commands.{is_write};
-ghost use Rattle.an_machine.specs.Entries.{after};
-ghost use Rattle.an_machine.specs.Sound.{is_sound};
-ghost use Rattle.an_machine.specs.State.{State};
+ghost use Rattle.an_state.specs.Commands.{is_write};
+ghost use Rattle.an_state.specs.Entries.{after};
+ghost use Rattle.an_state.specs.Sound.{is_sound};
+ghost use Rattle.an_state.specs.State.{State};
 ghost use Rattle.an_rows.specs.Cells as rows;
 ghost use Rattle.an_rows.specs.Valid.{is_valid};
 ghost use Rattle.an_machine.specs.Legal.{Accepts, AreWrites, Legal, Write, state_of};

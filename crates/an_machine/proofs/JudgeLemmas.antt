@@ -4,7 +4,7 @@ use Rattle.std.specs.Prelude.{if◌then◌else◌}
 use Rattle.an_base.specs.Outcome.{when, first_of, Gives}
 use Rattle.an_machine.specs.Asked.{object_asked}
 use Rattle.an_machine.specs.Refusals.{has_other_group, takes_token}
-use Rattle.an_machine.specs.State.{State}
+use Rattle.an_state.specs.State.{State}
 use Rattle.an_machine.specs.Step.{judged, refused_or}
 use Rattle.an_machine.specs.Versions.{number_of, is_next, is_repeat}
 use Rattle.an_machine.specs.declared.asked.Asked.{Asked}

@@ -1,6 +1,5 @@
--- The live reader with a token, among the rows and among the readers, and whether another reader has it.
-use Rattle.std.proofs.Common.{◌≡◌, ℕ, ◌+◌, ◌<◌, ◌≤◌, suc, arith, List, [], ◌∷◌, length, drop, get_or, Bool, true, false, ◌||◌, nat_lt, bytes_eq, Option, Some, None, option_map, option_and_then, inl, inr, refl, sym, ap, ◌∙◌}
-use Rattle.std.specs.Prelude.{find}
+-- Whether another reader has a token.
+use Rattle.std.proofs.Common.{◌≡◌, ℕ, ◌+◌, ◌<◌, ◌≤◌, suc, arith, List, [], ◌∷◌, length, drop, get_or, Bool, true, false, ◌||◌, nat_lt, bytes_eq, Option, Some, None, option_map, inl, inr, refl, sym, ap, ◌∙◌}
 use Rattle.std.specs.List.{filter_map, list_any, position, position_or_len}
 use Rattle.std.proofs.Math.Bool.{cond}
 use Rattle.std.proofs.lemmas.Bool.{cases_Bool, ltb-false}
@@ -8,33 +7,9 @@ use Rattle.std.proofs.lemmas.List.{at_drop_more, drop-drop, drop_all}
 use Rattle.std.proofs.lemmas.Option.{cond_some, none-some, same_Some}
 use Rattle.an_base.specs.Outcome.{passes}
 use Rattle.an_policy.specs.declared.reader.Reader.{Reader}
-use Rattle.an_keyed.specs.Marks.{is_mark, marked_place, marked_row}
-use Rattle.an_machine.specs.State.{State, KeptReader, reader_token, reader_with_token}
+use Rattle.an_keyed.specs.Marks.{is_mark, marked_place}
+use Rattle.an_state.specs.State.{KeptReader, reader_token}
 use Rattle.an_machine.specs.Refusals.{is_taken_from}
-
--- ---- rows
-
-abbrev has : List ℕ → Reader → Bool
-has token reader = bytes_eq reader.token token
-
-found_at : (token : List ℕ) (live : Option Reader) (row : KeptReader) (rows : List KeptReader) → row.live ≡ live
-    → option_and_then (λ r. r.live) (marked_row reader_token token rows) ≡ find (has token) (filter_map (λ r. r.live) rows)
-    → option_and_then (λ r. r.live) (marked_row reader_token token (row ∷ rows)) ≡ find (has token) (filter_map (λ r. r.live) (row ∷ rows))
-found_at token None row rows e later = rw e later
-found_at token (Some reader) row rows e later = elim (cases_Bool (has token reader)) [
-  | inl is ↦ rw (e, is) refl
-  | inr isnt ↦ rw (e, isnt) later
-]
-
--- the first row with the token lends the first live reader with it
-found : (token : List ℕ) (rows : List KeptReader) → option_and_then (λ r. r.live) (marked_row reader_token token rows) ≡ find (has token) (filter_map (λ r. r.live) rows)
-found token [] = refl
-found token (row ∷ rows) = found_at token row.live row rows refl (found token rows)
-
-pub reader_with_token-marked : (s : State) (token : List ℕ) → option_and_then (λ r. r.live) (marked_row reader_token token s.readers) ≡ reader_with_token s token
-reader_with_token-marked s token = found token s.readers
-
--- ---- who else has a token
 
 cond_none : {A : Type 0} (b : Bool) (x : A) → cond b (Some x) None ≡ None → b ≡ false
 cond_none true x e = absurd (none-some x (sym e))

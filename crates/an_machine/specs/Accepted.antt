@@ -5,36 +5,31 @@ use Rattle.std.specs.Prelude.{Some, None, option_map, option_and_then, option_to
 use Rattle.an_policy.specs.declared.group.Audience.{Audience}
 use Rattle.an_policy.specs.declared.reader.Reader.{Reader}
 use Rattle.an_policy.specs.Audience.{Identity, anonymous, operator, signed}
-use Rattle.an_machine.specs.Asked.{object_of, version_of}
-use Rattle.an_machine.specs.State.{State, KeptReader, KeptManifest, KeptNote, LiveNote}
-use Rattle.an_machine.specs.State.{reader_row, manifest_row, note_row}
+use Rattle.an_state.specs.Commands.{object_of, version_of}
+use Rattle.an_state.specs.State.{State, KeptReader, KeptManifest, KeptNote, LiveNote}
+use Rattle.an_state.specs.State.{reader_row, manifest_row, note_row}
 use Rattle.an_machine.specs.Versions.{reader_standing, manifest_standing, note_standing}
-use Rattle.an_machine.specs.View.{is_on, manifest_audience, note_audience}
-use Rattle.an_machine.specs.declared.activity.Activity.{Activity}
+use Rattle.an_state.specs.View.{audience_of_manifest, audience_of_note, is_on, last_moment}
+use Rattle.an_state.specs.declared.activity.Activity.{Activity}
 use Rattle.an_machine.specs.declared.asked.Asked.{Asked}
 use Rattle.an_machine.specs.declared.asked.Asked.TheVariants.{Deletion}
 use Rattle.an_machine.specs.declared.asked.Asked.TheVariants as put
 use Rattle.an_machine.specs.declared.asked.ManifestPut.{ManifestPut}
 use Rattle.an_machine.specs.declared.asked.NotePut.{NotePut}
-use Rattle.an_machine.specs.declared.command.Command.{Command}
+use Rattle.an_state.specs.declared.command.Command.{Command}
 use Rattle.an_machine.specs.declared.command.Decided.{Decided}
-use Rattle.an_machine.specs.declared.command.Object.{Object}
-use Rattle.an_machine.specs.declared.command.Object.TheVariants as object
+use Rattle.an_state.specs.declared.command.Object.{Object}
+use Rattle.an_state.specs.declared.command.Object.TheVariants as object
 use Rattle.an_machine.specs.declared.command.WriteReply.{WriteReply}
 use Rattle.an_machine.specs.declared.effect.Effect.{Effect}
-use Rattle.an_machine.specs.declared.entry.Entry.{Entry}
-use Rattle.an_machine.specs.declared.entry.Entry.TheVariants.{Done}
-use Rattle.an_machine.specs.declared.entry.Row.TheVariants as kept
+use Rattle.an_state.specs.declared.entry.Entry.{Entry}
+use Rattle.an_state.specs.declared.entry.Entry.TheVariants.{Done}
+use Rattle.an_state.specs.declared.entry.Row.TheVariants as kept
 
 -- ---- when, and by whom
 
 abbrev pub later : ℤ → ℤ → ℤ
 later a b = if int_lt a b then b else a
-
--- the moment of the last activity, or this one where there is none
-abbrev pub last_moment : ℤ → List Activity → ℤ
-last_moment moment activities =
-    unwrap_or (option_map (λ last. last.at) (slice_get activities (length activities - 1))) moment
 
 -- a write has the given moment, but is no earlier than the last activity
 abbrev pub moment_of_write : State → ℤ → ℤ
@@ -53,16 +48,6 @@ user_of operator = []
 user_of (signed reader) = reader.user
 
 -- ---- activities (IIIF Change Discovery API 1.0): who could read the object, and who can
-
--- the audience of a manifest that is live
-abbrev pub audience_of_manifest : KeptManifest → Option Audience
-audience_of_manifest row = option_map (λ live. manifest_audience row) row.live
-
--- the audience of an annotation that is live, whose manifest has a row
-abbrev pub audience_of_note : State → KeptNote → Option Audience
-audience_of_note s row = option_and_then (λ live.
-    option_map (λ manifest. note_audience manifest row live)
-    (manifest_row s live.manifest)) row.live
 
 abbrev pub manifest_activity : Identity → ℤ → List ℕ → Option Audience → Option Audience → Activity
 manifest_activity who at name before after =

@@ -3,49 +3,31 @@ use Rattle.std.specs.Prelude.{ℕ, List, Bool, true, false, if◌then◌else◌,
 use Rattle.std.specs.Prelude.{Ok, Err}
 use Rattle.std.specs.Result.{result_map_both}
 use Rattle.serde_json.specs.Data.{Data}
-use Rattle.an_base.specs.declared.code.Code.TheVariants as code
+use Rattle.an_code.specs.declared.code.Code.TheVariants as code
 use Rattle.an_manifest.specs.Manifest.{manifest_of}
 use Rattle.an_manifest.specs.declared.sheet.SheetError.{SheetError}
 use Rattle.an_manifest.specs.declared.sheet.SheetError.TheVariants as sheet
 use Rattle.an_model.specs.Note.{note_of}
 use Rattle.an_model.specs.declared.refusal.NoteError.{NoteError}
 use Rattle.an_model.specs.declared.refusal.NoteError.TheVariants as note
+use Rattle.an_policy.specs.Group.{is_private}
 use Rattle.an_policy.specs.declared.group.Group.{Group}
-use Rattle.an_policy.specs.declared.group.Group.TheVariants.{Public, Private, Named}
 use Rattle.an_policy.specs.declared.reader.ReaderError.{ReaderError}
 use Rattle.an_policy.specs.declared.reader.ReaderError.TheVariants as error
 use Rattle.an_policy.specs.Reader.{reader_of}
 use Rattle.an_machine.specs.declared.asked.Asked.{Asked}
 use Rattle.an_machine.specs.declared.asked.Asked.TheVariants.{Deletion}
 use Rattle.an_machine.specs.declared.asked.Asked.TheVariants as put
-use Rattle.an_machine.specs.declared.command.Command.{Command}
-use Rattle.an_machine.specs.declared.command.Command.TheVariants.{PutReader, DropReader}
-use Rattle.an_machine.specs.declared.command.Command.TheVariants.{PutManifest, DropManifest}
-use Rattle.an_machine.specs.declared.command.Command.TheVariants.{PutNote, DropNote}
-use Rattle.an_machine.specs.declared.command.Object.{Object}
-use Rattle.an_machine.specs.declared.command.Object.TheVariants as object
+use Rattle.an_state.specs.declared.command.Command.{Command}
+use Rattle.an_state.specs.declared.command.Command.TheVariants.{PutReader, DropReader}
+use Rattle.an_state.specs.declared.command.Command.TheVariants.{PutManifest, DropManifest}
+use Rattle.an_state.specs.declared.command.Command.TheVariants.{PutNote, DropNote}
+use Rattle.an_state.specs.declared.command.Object.{Object}
+use Rattle.an_state.specs.declared.command.Object.TheVariants as object
 use Rattle.an_machine.specs.declared.command.Refused.{Refused}
 use Rattle.an_machine.specs.declared.command.Refused.TheVariants.{Shape, Memory}
 
 -- ---- a command
-
--- what it writes
-abbrev pub object_of : Command → Object
-object_of (PutReader name version tree) = object.Reader name
-object_of (DropReader name version) = object.Reader name
-object_of (PutManifest name version group tree) = object.Manifest name
-object_of (DropManifest name version) = object.Manifest name
-object_of (PutNote owner name version manifest group tree) = object.Note owner name
-object_of (DropNote owner name version) = object.Note owner name
-
--- the number of the write on its object
-abbrev pub version_of : Command → ℕ
-version_of (PutReader name version tree) = version
-version_of (DropReader name version) = version
-version_of (PutManifest name version group tree) = version
-version_of (DropManifest name version) = version
-version_of (PutNote owner name version manifest group tree) = version
-version_of (DropNote owner name version) = version
 
 -- the manifest that an annotation is put on
 abbrev pub manifest_under : Command → Option (List ℕ)
@@ -84,11 +66,6 @@ no_note (note.Selector at) = Shape (code.NoteSelector at)
 no_note (note.Body at) = Shape (code.NoteBody at)
 no_note (note.Motivation at) = Shape (code.NoteMotivation at)
 no_note note.Memory = Memory
-
-abbrev pub is_private : Group → Bool
-is_private Public = false
-is_private Private = true
-is_private (Named name) = false
 
 abbrev pub asked_manifest : List ℕ → ℕ → Group → Data → Asked
 asked_manifest name version group sheet =

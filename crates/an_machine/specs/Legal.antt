@@ -2,13 +2,13 @@
 -- lead to. They begin in any state.
 use Rattle.std.specs.Prelude.{◌≡◌, ℤ, List, [], ◌∷◌, Some, Ok, IsTrue, ⊤}
 use Rattle.an_policy.specs.declared.who.Caller.{Caller}
-use Rattle.an_machine.specs.Commands.{is_write}
-use Rattle.an_machine.specs.Entries.{after}
-use Rattle.an_machine.specs.State.{State}
+use Rattle.an_state.specs.Commands.{is_write}
+use Rattle.an_state.specs.Entries.{after}
+use Rattle.an_state.specs.State.{State}
 use Rattle.an_machine.specs.Step.{step}
-use Rattle.an_machine.specs.declared.command.Command.{Command}
+use Rattle.an_state.specs.declared.command.Command.{Command}
 use Rattle.an_machine.specs.declared.command.Decided.{Decided}
-use Rattle.an_machine.specs.declared.entry.Entry.{Entry}
+use Rattle.an_state.specs.declared.entry.Entry.{Entry}
 
 -- a command that was accepted, and the entry that it came to
 pub record Write : Type 0 where

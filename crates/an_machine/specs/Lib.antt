@@ -1,17 +1,6 @@
-pub mod State
-pub mod Rows
-pub mod View
 pub mod Asked
 pub mod Versions
 pub mod Refusals
 pub mod Accepted
 pub mod Step
-pub mod Entries
-pub mod Sound
-pub mod Book
-pub mod Commands
-pub mod Live
-pub mod Tables
 pub mod Legal
-pub mod Terms
-pub mod Totals

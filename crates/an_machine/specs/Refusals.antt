@@ -11,15 +11,17 @@ use Rattle.an_policy.specs.declared.reader.Role.TheVariants as role
 use Rattle.an_policy.specs.declared.who.Caller.{Caller}
 use Rattle.an_policy.specs.Audience.{Identity, anonymous, operator, signed}
 use Rattle.an_policy.specs.Audience.{is_among, is_named, groups_of}
-use Rattle.an_machine.specs.Asked.{object_of, manifest_under, group_within, object_asked}
-use Rattle.an_machine.specs.State.{State, manifest_row, live_readers, who_of}
-use Rattle.an_machine.specs.Versions.{same_group, number_of, is_next, is_repeat}
-use Rattle.an_machine.specs.View.{shows_manifest}
+use Rattle.an_machine.specs.Asked.{manifest_under, group_within, object_asked}
+use Rattle.an_state.specs.Commands.{object_of}
+use Rattle.an_state.specs.State.{State, manifest_row, live_readers, who_of}
+use Rattle.an_policy.specs.Group.{same_group}
+use Rattle.an_machine.specs.Versions.{number_of, is_next, is_repeat}
+use Rattle.an_state.specs.View.{shows_manifest}
 use Rattle.an_machine.specs.declared.asked.Asked.{Asked}
 use Rattle.an_machine.specs.declared.asked.Asked.TheVariants as put
-use Rattle.an_machine.specs.declared.command.Command.{Command}
-use Rattle.an_machine.specs.declared.command.Object.{Object}
-use Rattle.an_machine.specs.declared.command.Object.TheVariants as object
+use Rattle.an_state.specs.declared.command.Command.{Command}
+use Rattle.an_state.specs.declared.command.Object.{Object}
+use Rattle.an_state.specs.declared.command.Object.TheVariants as object
 use Rattle.an_machine.specs.declared.command.Refused.{Refused}
 use Rattle.an_machine.specs.declared.command.Refused.TheVariants.{NotWriter, NotOwn, NoManifest}
 use Rattle.an_machine.specs.declared.command.Refused.TheVariants.{NotMember, GroupFixed}

@@ -6,10 +6,10 @@ use Rattle.an_policy.specs.Audience.{Identity}
 use Rattle.an_machine.specs.Accepted.{moment_of_write, effect_of, decided}
 use Rattle.an_machine.specs.Asked.{asked_of}
 use Rattle.an_machine.specs.Refusals.{signer_of, refusals_before, refusals_behind}
-use Rattle.an_machine.specs.State.{State}
+use Rattle.an_state.specs.State.{State}
 use Rattle.an_machine.specs.Versions.{is_next}
 use Rattle.an_machine.specs.declared.asked.Asked.{Asked}
-use Rattle.an_machine.specs.declared.command.Command.{Command}
+use Rattle.an_state.specs.declared.command.Command.{Command}
 use Rattle.an_machine.specs.declared.command.Decided.{Decided}
 use Rattle.an_machine.specs.declared.command.Refused.{Refused}
 use Rattle.an_machine.specs.declared.command.Refused.TheVariants.{NotSigned}

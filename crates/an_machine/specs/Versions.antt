@@ -4,21 +4,20 @@ use Rattle.std.specs.Prelude.{Option, option_map, unwrap_or}
 use Rattle.std.specs.Cmp.Lexicographic.{pointwise}
 use Rattle.an_base.specs.Outcome.{passes}
 use Rattle.an_base.specs.Tree.{same_text}
-use Rattle.an_policy.specs.declared.group.Group.{Group}
-use Rattle.an_policy.specs.declared.group.Group.TheVariants.{Public, Private, Named}
+use Rattle.an_policy.specs.Group.{same_group}
 use Rattle.an_policy.specs.declared.reader.Reader.{Reader}
 use Rattle.an_policy.specs.declared.reader.Role.{Role}
 use Rattle.an_policy.specs.declared.reader.Role.TheVariants as role
 use Rattle.an_machine.specs.Asked.{object_asked, version_asked, is_put}
-use Rattle.an_machine.specs.State.{State, KeptReader, KeptManifest, KeptNote}
-use Rattle.an_machine.specs.State.{reader_row, manifest_row, note_row}
+use Rattle.an_state.specs.State.{State, KeptReader, KeptManifest, KeptNote}
+use Rattle.an_state.specs.State.{reader_row, manifest_row, note_row}
 use Rattle.an_machine.specs.declared.asked.Asked.{Asked}
 use Rattle.an_machine.specs.declared.asked.Asked.TheVariants.{Deletion}
 use Rattle.an_machine.specs.declared.asked.Asked.TheVariants as put
 use Rattle.an_machine.specs.declared.asked.ManifestPut.{ManifestPut}
 use Rattle.an_machine.specs.declared.asked.NotePut.{NotePut}
-use Rattle.an_machine.specs.declared.command.Object.{Object}
-use Rattle.an_machine.specs.declared.command.Object.TheVariants as object
+use Rattle.an_state.specs.declared.command.Object.{Object}
+use Rattle.an_state.specs.declared.command.Object.TheVariants as object
 use Rattle.an_machine.specs.declared.versions.Standing.{Standing}
 
 -- ---- how an object stands
@@ -59,17 +58,6 @@ abbrev pub number_of : State → Object → ℕ
 number_of s object = current (standing s object)
 
 -- ---- equal content
-
-abbrev pub same_group : Group → Group → Bool
-same_group Public Public = true
-same_group Private Private = true
-same_group (Named a) (Named b) = bytes_eq a b
-same_group Public Private = false
-same_group Public (Named b) = false
-same_group Private Public = false
-same_group Private (Named b) = false
-same_group (Named a) Public = false
-same_group (Named a) Private = false
 
 abbrev pub same_role : Role → Role → Bool
 same_role role.Reader other =

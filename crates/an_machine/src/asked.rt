@@ -5,16 +5,19 @@ ghost use Rattle.an_base.specs.Outcome.{Gives};
 ghost use Rattle.an_manifest.specs.Manifest.{manifest_of};
 ghost use Rattle.an_model.specs.Note.{note_of};
 ghost use Rattle.an_policy.specs.Reader.{reader_of};
-ghost use Rattle.an_machine.specs.Asked.{asked_of, asked_manifest, asked_note, is_private};
+ghost use Rattle.an_machine.specs.Asked.{asked_of, asked_manifest, asked_note};
+ghost use Rattle.an_policy.specs.Group.{is_private};
 ghost use Rattle.an_machine.specs.Asked.{manifest_asked, manifest_under, no_manifest, no_note};
-ghost use Rattle.an_machine.specs.Asked.{no_reader, object_of};
+ghost use Rattle.an_machine.specs.Asked.{no_reader};
+ghost use Rattle.an_state.specs.Commands.{object_of};
 
-use crate::command::{Command, Object, Refused, object_of};
-use crate::copies::copy_both;
-use an_base::{Code, Name, Tree, TryCopy};
+use crate::command::Refused;
+use an_base::{Name, Tree, TryCopy, copy_both};
+use an_code::Code;
 use an_manifest::{KeptSheet, SheetError, read_manifest};
 use an_model::{KeptNote, NoteError, read_note};
 use an_policy::{Group, Reader, ReaderError, read_reader};
+use an_state::{Command, Object, object_of};
 use std::alloc::{AllocError, Global};
 
 /// A manifest to put, and what is kept of its tree.
@@ -57,7 +60,7 @@ pub(crate) fn asked_of(alloc: Global, command: &Command) -> Result<Asked, Refuse
             name,
             version,
             tree,
-        } => reader_to_put(alloc, name, *version, tree),
+        } => reader_to_put(alloc, name, *version, tree.get()),
         Command::PutManifest {
             name,
             version,
@@ -66,7 +69,7 @@ pub(crate) fn asked_of(alloc: Global, command: &Command) -> Result<Asked, Refuse
         } => if is_private(group) {
             Err(Refused::Shape(Code::Group))
         } else {
-            manifest_to_put(alloc, name, *version, group, tree)
+            manifest_to_put(alloc, name, *version, group, tree.get())
         },
         Command::PutNote {
             owner,
@@ -75,7 +78,7 @@ pub(crate) fn asked_of(alloc: Global, command: &Command) -> Result<Asked, Refuse
             manifest,
             group,
             tree,
-        } => note_to_put(alloc, owner, name, *version, manifest, group, tree),
+        } => note_to_put(alloc, owner, name, *version, manifest, group, tree.get()),
         Command::DropReader { version, .. } => deletion(command, *version),
         Command::DropManifest { version, .. } => deletion(command, *version),
         Command::DropNote { version, .. } => deletion(command, *version),

@@ -2,16 +2,14 @@
 ghost use Rattle.std.specs.Prelude.{◌≡◌, IfOk, Some, option_and_then, option_map};
 ghost use Rattle.std.specs.Option.{option_copied};
 ghost use Rattle.an_policy.specs.Audience.{identity};
-ghost use Rattle.an_machine.specs.Accepted.{audience_of_manifest, audience_of_note, by_whom};
+ghost use Rattle.an_machine.specs.Accepted.{by_whom};
+ghost use Rattle.an_state.specs.View.{audience_of_manifest, audience_of_note};
 ghost use Rattle.an_machine.specs.Accepted.{manifest_activity, note_activity};
 
-use crate::activity::Activity;
-use crate::book::Book;
-use crate::copies::copy_both;
-use crate::row::{ManifestRow, NoteRow};
-use an_base::{Moment, Name, TryCopy};
+use an_base::{Moment, Name, Shared, TryCopy, copy_both};
 use an_policy::{Audience, Group, Who};
-use std::alloc::AllocError;
+use an_state::{Activity, Book, ManifestRow, NoteRow};
+use std::alloc::{AllocError, Global};
 
 /// The name of who writes. The operator has none.
 pub(crate) fn by_whom(who: &Who<'_>) -> Result<Option<Name>, AllocError>
@@ -25,45 +23,56 @@ pub(crate) fn by_whom(who: &Who<'_>) -> Result<Option<Name>, AllocError>
 }
 
 pub(crate) fn manifest_activity(
+    alloc: Global,
     who: &Who<'_>,
     at: Moment,
     name: &Name,
     before: Option<Audience>,
     after: Option<Audience>,
-) -> Result<Activity, AllocError>
+) -> Result<Shared<Activity>, AllocError>
     ensures { IfOk result (λ activity. activity
         ≡ manifest_activity (identity who.now) at name.now before after) }
 {
-    Ok(Activity {
-        at,
-        by: by_whom(who)?,
-        owner: None,
-        name: name.copy()?,
-        before,
-        after,
-    })
+    let by = by_whom(who)?;
+    let name = name.copy()?;
+    Shared::new(
+        alloc,
+        Activity {
+            at,
+            by,
+            owner: None,
+            name,
+            before,
+            after,
+        },
+    )
 }
 
 pub(crate) fn note_activity(
+    alloc: Global,
     who: &Who<'_>,
     at: Moment,
     owner: &Name,
     name: &Name,
     before: Option<Audience>,
     after: Option<Audience>,
-) -> Result<Activity, AllocError>
+) -> Result<Shared<Activity>, AllocError>
     ensures { IfOk result (λ activity. activity
         ≡ note_activity (identity who.now) at owner.now name.now before after) }
 {
     let (owner, name) = copy_both(owner, name)?;
-    Ok(Activity {
-        at,
-        by: by_whom(who)?,
-        owner: Some(owner),
-        name,
-        before,
-        after,
-    })
+    let by = by_whom(who)?;
+    Shared::new(
+        alloc,
+        Activity {
+            at,
+            by,
+            owner: Some(owner),
+            name,
+            before,
+            after,
+        },
+    )
 }
 
 /// Who may read the manifest, while it is live.

@@ -4,30 +4,27 @@ ghost use Rattle.std.specs.Prelude.{option_map, option_to_list};
 ghost use Rattle.std.specs.Option.{option_copied};
 ghost use Rattle.an_base.specs.Outcome.{Gives};
 ghost use Rattle.an_policy.specs.Audience.{identity};
-ghost use Rattle.an_machine.specs.State.{manifest_row, note_row};
-ghost use Rattle.an_machine.specs.Accepted.{audience_of_manifest, buried, burial, deletion};
+ghost use Rattle.an_state.specs.State.{manifest_row, note_row};
+ghost use Rattle.an_machine.specs.Accepted.{buried, burial, deletion};
+ghost use Rattle.an_state.specs.View.{audience_of_manifest};
 ghost use Rattle.an_machine.specs.Accepted.{manifest_activity, manifest_deletion};
 ghost use Rattle.an_machine.specs.Accepted.{manifest_tombstone, note_deletion, note_tombstone};
 ghost use Rattle.an_machine.specs.Accepted.{notes_on, number_behind, reader_tombstone};
 ghost use Rattle.an_machine.specs.Step.{judged};
 
-use crate::activity::Activity;
 use crate::asked::Asked;
-use crate::book::Book;
 use crate::changes::{
     audience_of_note, could_read_manifest, could_read_note, manifest_activity, note_activity,
 };
-use crate::command::{Object, Refused};
+use crate::command::Refused;
 use crate::effect::{Effect, change, reader_change};
-use crate::entry::Row;
-use crate::readable::is_on;
-use crate::row::{ManifestRow, NoteRow, ReaderRow};
 use crate::versions::{
     is_next_deletion, is_tombstone, manifest_standing, note_standing, reader_standing, unless_done,
 };
-use an_base::{List, Moment, Name, TryCopy};
+use an_base::{List, Moment, Name, Shared, TryCopy, copy_both};
 use an_keyed::Keyed;
 use an_policy::Who;
+use an_state::{Activity, Book, ManifestRow, NoteRow, Object, ReaderRow, Row, is_on};
 use std::alloc::{AllocError, Global};
 
 /// What a deletion changes; nothing where it was done already.
@@ -140,7 +137,7 @@ fn buried_rows(
 {
     let mut rows = buried_notes(alloc, book, name)?;
     if let Some(row) = row {
-        rows.push(Row::Manifest(manifest_tombstone(name, version, row)?))?;
+        rows.push(Row::Manifest(manifest_tombstone(alloc, name, version, row)?))?;
     }
     Ok(List::from_vec(rows))
 }
@@ -151,18 +148,23 @@ fn buried_notes(alloc: Global, book: &Book, manifest: &Name) -> Result<Vec<Row>,
 {
     let mut rows = Vec::new(alloc);
     for row in book.notes() {
-        if is_on(row, manifest) {
-            rows.push(Row::Note(buried(row)?))?;
+        if is_on(row.get(), manifest) {
+            rows.push(Row::Note(buried(alloc, row.get())?))?;
         }
     }
     Ok(rows)
 }
 
 /// The tombstone that an annotation leaves when its manifest is deleted.
-fn buried(row: &NoteRow) -> Result<NoteRow, AllocError>
+fn buried(alloc: Global, row: &NoteRow) -> Result<Shared<NoteRow>, AllocError>
     ensures { IfOk result (λ r. r ≡ buried row.now) }
 {
-    note_tombstone(row.owned_by(), row.name(), number_behind(row.version()))
+    note_tombstone(
+        alloc,
+        row.owned_by(),
+        row.name(),
+        number_behind(row.version()),
+    )
 }
 
 fn number_behind(version: u32) -> u32
@@ -173,21 +175,26 @@ fn number_behind(version: u32) -> u32
 
 /// The tombstone of a manifest keeps its group.
 fn manifest_tombstone(
+    alloc: Global,
     name: &Name,
     version: u32,
     row: &ManifestRow,
-) -> Result<ManifestRow, AllocError>
+) -> Result<Shared<ManifestRow>, AllocError>
     ensures { IfOk result (λ r. r ≡ manifest_tombstone name.now version row.now) }
 {
-    Ok(ManifestRow {
-        name: name.copy()?,
-        version,
-        live: false,
-        group: row.group().copy()?,
-        created: None,
-        modified: None,
-        tree: None,
-    })
+    let (name, group) = copy_both(name, row.group())?;
+    Shared::new(
+        alloc,
+        ManifestRow {
+            name,
+            version,
+            live: false,
+            group,
+            created: None,
+            modified: None,
+            tree: None,
+        },
+    )
 }
 
 /// The deletions of the annotations on a manifest, and then its own.
@@ -198,7 +205,7 @@ fn burials(
     at: Moment,
     row: Option<&ManifestRow>,
     name: &Name,
-) -> Result<List<Activity>, AllocError>
+) -> Result<List<Shared<Activity>>, AllocError>
     ensures { IfOk result (λ activities. activities
         ≡ map (burial book.now.state (identity who.now) at) (notes_on book.now.state name.now)
         ++ manifest_activity (identity who.now) at name.now
@@ -206,7 +213,7 @@ fn burials(
 {
     let mut activities = note_burials(alloc, book, who, at, name)?;
     let could = could_read_manifest(row)?;
-    activities.push(manifest_activity(who, at, name, could, None)?)?;
+    activities.push(manifest_activity(alloc, who, at, name, could, None)?)?;
     Ok(List::from_vec(activities))
 }
 
@@ -216,27 +223,33 @@ fn note_burials(
     who: &Who<'_>,
     at: Moment,
     manifest: &Name,
-) -> Result<Vec<Activity>, AllocError>
+) -> Result<Vec<Shared<Activity>>, AllocError>
     ensures { IfOk result (λ activities. activities.items
         ≡ map (burial book.now.state (identity who.now) at)
         (notes_on book.now.state manifest.now)) }
 {
     let mut activities = Vec::new(alloc);
     for row in book.notes() {
-        if is_on(row, manifest) {
-            activities.push(burial(book, who, at, row)?)?;
+        if is_on(row.get(), manifest) {
+            activities.push(burial(alloc, book, who, at, row.get())?)?;
         }
     }
     Ok(activities)
 }
 
 /// The deletion of an annotation with its manifest.
-fn burial(book: &Book, who: &Who<'_>, at: Moment, row: &NoteRow) -> Result<Activity, AllocError>
+fn burial(
+    alloc: Global,
+    book: &Book,
+    who: &Who<'_>,
+    at: Moment,
+    row: &NoteRow,
+) -> Result<Shared<Activity>, AllocError>
     ensures { IfOk result
         (λ activity. activity ≡ burial book.now.state (identity who.now) at row.now) }
 {
     let before = audience_of_note(book, row)?;
-    note_activity(who, at, row.owned_by(), row.name(), before, None)
+    note_activity(alloc, who, at, row.owned_by(), row.name(), before, None)
 }
 
 // ---- annotations
@@ -277,25 +290,34 @@ fn note_deletion(
         (option_copied row.entry) owner.now name.now version) }
 {
     let could = could_read_note(book, row)?;
-    let activity = note_activity(who, at, owner, name, could, None)?;
-    let tombstone = note_tombstone(owner, name, version)?;
+    let activity = note_activity(alloc, who, at, owner, name, could, None)?;
+    let tombstone = note_tombstone(alloc, owner, name, version)?;
     change(alloc, false, Row::Note(tombstone), activity)
 }
 
 /// The tombstone of an annotation.
-fn note_tombstone(owner: &Name, name: &Name, version: u32) -> Result<NoteRow, AllocError>
+fn note_tombstone(
+    alloc: Global,
+    owner: &Name,
+    name: &Name,
+    version: u32,
+) -> Result<Shared<NoteRow>, AllocError>
     ensures { IfOk result (λ row. row ≡ note_tombstone owner.now name.now version) }
 {
-    Ok(NoteRow {
-        owner: owner.copy()?,
-        name: name.copy()?,
-        version,
-        live: false,
-        manifest: None,
-        group: None,
-        creator: None,
-        created: None,
-        modified: None,
-        tree: None,
-    })
+    let (owner, name) = copy_both(owner, name)?;
+    Shared::new(
+        alloc,
+        NoteRow {
+            owner,
+            name,
+            version,
+            live: false,
+            manifest: None,
+            group: None,
+            creator: None,
+            created: None,
+            modified: None,
+            tree: None,
+        },
+    )
 }

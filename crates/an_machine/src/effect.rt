@@ -2,10 +2,8 @@
 ghost use Rattle.std.specs.Prelude.{◌≡◌, [], ◌∷◌, IfOk, unwrap_or};
 ghost use Rattle.an_machine.specs.Accepted.{changed};
 
-use crate::activity::Activity;
-use crate::entry::Row;
-use crate::row::ReaderRow;
-use an_base::{List, Moment};
+use an_base::{List, Moment, Shared};
+use an_state::{Activity, ReaderRow, Row};
 use std::alloc::{AllocError, Global};
 
 /// What the next write of an object changes.
@@ -16,7 +14,7 @@ pub struct Effect {
     /// The new rows, in the order in which they change.
     pub rows: List<Row>,
     /// The activities that are added.
-    pub activities: List<Activity>,
+    pub activities: List<Shared<Activity>>,
 }
 
 /// What a write changes that puts one row and adds one activity.
@@ -24,7 +22,7 @@ pub(crate) fn change(
     alloc: Global,
     made: bool,
     row: Row,
-    activity: Activity,
+    activity: Shared<Activity>,
 ) -> Result<Effect, AllocError>
     ensures { IfOk result (λ effect. effect
         ≡ record { made = made; rows = row ∷ []; activities = activity ∷ [] }) }

@@ -1,32 +1,21 @@
-//! The small machine: what the server knows, which writes are accepted, and what readers see of it.
+//! The small machine: which writes are accepted, and what they come to.
 #![tactic(auto)]
 
-pub use activity::{Activity, Seen};
-pub use book::Book;
-pub use command::{Command, Decided, Object, Refused, WriteReply};
-pub use entry::{Entry, Row};
-pub use look::Look;
-pub use row::{LiveNote, ManifestRow, NoteRow, ReaderRow};
-pub use shown::{is_manifest_shown, is_note_shown, shown_manifest, shown_note};
-pub use totals::TermTotals;
+pub use an_state::{
+    Activity, Book, Command, Entry, LiveNote, Look, ManifestRow, NoteRow, Object, ReaderRow, Row,
+    Seen,
+};
+pub use command::{Decided, Refused, WriteReply};
+pub use judging::decide;
 
-mod activity;
 mod asked;
-mod book;
 mod changes;
 mod command;
-mod copies;
-mod decide;
 mod deletion;
 mod effect;
-mod entry;
-mod look;
+mod judging;
 mod put_manifest;
 mod put_note;
 mod put_reader;
-mod readable;
 mod refusal;
-mod row;
-mod shown;
-mod totals;
 mod versions;

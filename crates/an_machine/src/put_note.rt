@@ -3,24 +3,22 @@ ghost use Rattle.std.specs.Prelude.{◌≡◌, IfOk, Some, option_and_then, opti
 ghost use Rattle.std.specs.Option.{option_copied};
 ghost use Rattle.an_base.specs.Outcome.{Gives, passes};
 ghost use Rattle.an_policy.specs.Audience.{identity};
-ghost use Rattle.an_machine.specs.State.{manifest_row, note_row};
-ghost use Rattle.an_machine.specs.Accepted.{audience_of_note, creator_of, live_in, note_effect};
+ghost use Rattle.an_state.specs.State.{manifest_row, note_row};
+ghost use Rattle.an_machine.specs.Accepted.{creator_of, live_in, note_effect};
+ghost use Rattle.an_state.specs.View.{audience_of_note};
 ghost use Rattle.an_machine.specs.Accepted.{note_activity, note_made, put_note, user_of};
 ghost use Rattle.an_machine.specs.Step.{judged};
 ghost use Rattle.an_machine.specs.Versions.{holds_note};
 
-use crate::activity::Activity;
 use crate::asked::{Asked, NotePut};
-use crate::book::Book;
 use crate::changes::{audience_below, note_activity};
 use crate::command::Refused;
 use crate::effect::{Effect, change, moments};
-use crate::entry::Row;
-use crate::row::{LiveNote, ManifestRow, NoteRow};
-use crate::versions::{is_behind, is_same_group, note_standing, unless_done};
-use an_base::{Moment, Name, Text, TryCopy};
+use crate::versions::{is_behind, note_standing, unless_done};
+use an_base::{Moment, Name, Shared, Text, TryCopy};
 use an_keyed::Keyed;
-use an_policy::{Audience, Who};
+use an_policy::{Audience, Who, is_same_group};
+use an_state::{Activity, Book, LiveNote, ManifestRow, NoteRow, Row};
 use std::alloc::{AllocError, Global};
 
 /// What a put of an annotation on this manifest changes; nothing where it was done already.
@@ -55,7 +53,7 @@ fn is_held(row: Option<&NoteRow>, put: &NotePut) -> bool
             Some(live) => {
                 live.manifest == &put.manifest
                     && is_same_group(live.group, &put.group)
-                    && *live.tree == put.note
+                    && live.tree.text() == put.note.text()
             }
             None => false,
         },
@@ -76,20 +74,21 @@ fn note_effect(
     ensures { IfOk result (λ effect. effect
         ≡ note_effect book.now.state (identity who.now) at (option_copied before.entry) put) }
 {
-    let activity = put_activity(book, who, at, before, manifest, &put)?;
+    let activity = put_activity(alloc, book, who, at, before, manifest, &put)?;
     let row = new_row(alloc, who, at, before, put)?;
     change(alloc, !note_standing(before).live, Row::Note(row), activity)
 }
 
 /// The change that a put of an annotation on this manifest is.
 fn put_activity(
+    alloc: Global,
     book: &Book,
     who: &Who<'_>,
     at: Moment,
     before: Option<&NoteRow>,
     manifest: Option<&ManifestRow>,
     put: &NotePut,
-) -> Result<Activity, AllocError>
+) -> Result<Shared<Activity>, AllocError>
     requires manifest { option_copied manifest ≡ manifest_row book.now.state put.now.manifest }
     ensures { IfOk result (λ activity. activity
         ≡ note_activity (identity who.now) at put.now.owner put.now.name
@@ -100,7 +99,7 @@ fn put_activity(
 {
     let could = could_read(book, before, manifest, &put.manifest)?;
     let can = audience_below(manifest, &put.owner, &put.group)?;
-    note_activity(who, at, &put.owner, &put.name, could, can)
+    note_activity(alloc, who, at, &put.owner, &put.name, could, can)
 }
 
 /// Who could read the annotation before it was put on this manifest.
@@ -149,24 +148,27 @@ fn new_row(
     at: Moment,
     before: Option<&NoteRow>,
     put: NotePut,
-) -> Result<NoteRow, AllocError>
+) -> Result<Shared<NoteRow>, AllocError>
     ensures { IfOk result
         (λ row. row ≡ put_note (identity who.now) at (option_copied before.entry) put) }
 {
     let creator = creator_of(alloc, who, before)?;
     let (created, modified) = moments(at, made_before(before));
-    Ok(NoteRow {
-        owner: put.owner,
-        name: put.name,
-        version: put.version,
-        live: true,
-        manifest: Some(put.manifest),
-        group: Some(put.group),
-        creator: Some(creator),
-        created: Some(created),
-        modified,
-        tree: Some(put.note),
-    })
+    Shared::new(
+        alloc,
+        NoteRow {
+            owner: put.owner,
+            name: put.name,
+            version: put.version,
+            live: true,
+            manifest: Some(put.manifest),
+            group: Some(put.group),
+            creator: Some(creator),
+            created: Some(created),
+            modified,
+            tree: Some(put.note),
+        },
+    )
 }
 
 /// A live annotation keeps its creator.

@@ -2,20 +2,19 @@
 ghost use Rattle.std.specs.Prelude.{◌≡◌, IfOk};
 ghost use Rattle.std.specs.Option.{option_copied};
 ghost use Rattle.an_base.specs.Outcome.{Gives, passes};
-ghost use Rattle.an_machine.specs.State.{reader_row};
+ghost use Rattle.an_state.specs.State.{reader_row};
 ghost use Rattle.an_machine.specs.Accepted.{reader_effect};
 ghost use Rattle.an_machine.specs.Refusals.{is_taken_from, is_token_taken};
 ghost use Rattle.an_machine.specs.Step.{judged};
 ghost use Rattle.an_machine.specs.Versions.{holds_reader, same_reader, same_role};
 
 use crate::asked::Asked;
-use crate::book::Book;
 use crate::command::Refused;
 use crate::effect::{Effect, reader_change};
-use crate::row::ReaderRow;
 use crate::versions::{is_behind, reader_standing, unless_done};
 use an_base::{Name, Text, TryCopy};
 use an_policy::{Reader, Role};
+use an_state::{Book, ReaderRow};
 use std::alloc::{AllocError, Global};
 
 /// What a put of a reader changes; nothing where it was done already.

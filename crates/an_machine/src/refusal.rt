@@ -4,18 +4,17 @@ ghost use Rattle.std.specs.Option.{option_copied};
 ghost use Rattle.std.specs.Result.{result_err};
 ghost use Rattle.an_base.specs.Outcome.{first_of, passes, when};
 ghost use Rattle.an_policy.specs.Audience.{identity};
-ghost use Rattle.an_machine.specs.Asked.{manifest_under, object_of};
-ghost use Rattle.an_machine.specs.State.{manifest_row};
+ghost use Rattle.an_machine.specs.Asked.{manifest_under};
+ghost use Rattle.an_state.specs.Commands.{object_of};
+ghost use Rattle.an_state.specs.State.{manifest_row};
 ghost use Rattle.an_machine.specs.Refusals.{is_anothers, is_outside, may_manage, may_write};
 ghost use Rattle.an_machine.specs.Refusals.{is_hidden, only_reads, refusals_before};
-ghost use Rattle.an_machine.specs.View.{shows_manifest};
+ghost use Rattle.an_state.specs.View.{shows_manifest};
 
-use crate::book::Book;
-use crate::command::{Command, Object, Refused};
-use crate::row::ManifestRow;
-use crate::shown::is_manifest_shown;
+use crate::command::Refused;
 use an_base::Name;
 use an_policy::{Group, Role, Who, is_member, is_named};
+use an_state::{Book, Command, ManifestRow, Object, is_manifest_shown};
 
 /// The first refusal before the tree of a command is read. Without one, the row of the manifest
 /// that an annotation is put on.

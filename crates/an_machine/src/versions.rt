@@ -3,12 +3,11 @@ ghost use Rattle.std.specs.Prelude.{◌≡◌, ◌+◌, ◌==◌, ◌&&◌};
 ghost use Rattle.std.specs.Prelude.{if◌then◌else◌, None, Ok, Err};
 ghost use Rattle.std.specs.Option.{option_copied};
 ghost use Rattle.an_machine.specs.Versions.{current, is_tombstone, manifest_standing};
-ghost use Rattle.an_machine.specs.Versions.{note_standing, reader_standing, same_group};
+ghost use Rattle.an_machine.specs.Versions.{note_standing, reader_standing};
 
 use crate::command::Refused;
 use crate::effect::Effect;
-use crate::row::{ManifestRow, NoteRow, ReaderRow};
-use an_policy::Group;
+use an_state::{ManifestRow, NoteRow, ReaderRow};
 
 /// How an object stands: the number of its row, where it has one, and whether that row is live.
 #[derive(Clone, Copy, Debug, PartialEq, Eq)]
@@ -105,19 +104,5 @@ pub(crate) fn unless_done(
         Ok(None)
     } else {
         Err(Refused::Version { current })
-    }
-}
-
-pub(crate) fn is_same_group(one: &Group, other: &Group) -> bool
-    ensures { result ≡ same_group one.now other.now }
-{
-    match one {
-        Group::Public => matches!(other, Group::Public),
-        Group::Private => matches!(other, Group::Private),
-        Group::Named(name) => match other {
-            Group::Public => false,
-            Group::Private => false,
-            Group::Named(other) => name == other,
-        },
     }
 }

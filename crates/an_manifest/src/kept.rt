@@ -114,25 +114,3 @@ impl TryCopy for KeptSheet {
         })
     }
 }
-
-impl PartialEq for KeptSheet {
-    ghost use Rattle.serde_json.specs.Written.{compact_text};
-    ghost use Rattle.std.specs.Cmp.Lexicographic.{on_texts_equal};
-    ghost use Rattle.std.specs.Cmp as Cmp;
-    ghost use Rattle.an_base.specs.Tree.{same_text};
-
-    ghost eq = { same_text };
-
-    ghost laws = { Cmp.partial_equiv_from_equiv (on_texts_equal compact_text) };
-
-    fn eq(&self, other: &KeptSheet) -> bool {
-        self.tree == other.tree
-    }
-}
-
-impl Eq for KeptSheet {
-    ghost use Rattle.serde_json.specs.Written.{compact_text};
-    ghost use Rattle.std.specs.Cmp.Lexicographic.{on_texts_equal};
-
-    ghost laws = { on_texts_equal compact_text };
-}

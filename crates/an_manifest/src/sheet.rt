@@ -88,28 +88,6 @@ impl TryCopy for Sheet {
     }
 }
 
-impl PartialEq for Sheet {
-    ghost use Rattle.serde_json.specs.Written.{compact_text};
-    ghost use Rattle.std.specs.Cmp.Lexicographic.{on_texts_equal};
-    ghost use Rattle.std.specs.Cmp as Cmp;
-    ghost use Rattle.an_base.specs.Tree.{same_text};
-
-    ghost eq = { same_text };
-
-    ghost laws = { Cmp.partial_equiv_from_equiv (on_texts_equal compact_text) };
-
-    fn eq(&self, other: &Sheet) -> bool {
-        self.tree == other.tree
-    }
-}
-
-impl Eq for Sheet {
-    ghost use Rattle.serde_json.specs.Written.{compact_text};
-    ghost use Rattle.std.specs.Cmp.Lexicographic.{on_texts_equal};
-
-    ghost laws = { on_texts_equal compact_text };
-}
-
 /// The manifest that a tree is (IIIF Presentation API 3.0, section 5.2), or the first of the
 /// refusals: `Version2`, `WrongType`, `Label`, `Items`, `Canvas`. Its members `@context` and `id`
 /// aren't kept; members that aren't named here are.

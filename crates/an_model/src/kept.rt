@@ -2,7 +2,8 @@ ghost use Rattle.std.specs.Prelude.{◌≡◌, map, IfOk, IsTrue, None, true};
 ghost use Rattle.serde_json.specs.View.{view};
 ghost use Rattle.serde_json.specs.Written.{compact_text};
 ghost use Rattle.an_base.specs.Cut.{members_in};
-ghost use Rattle.an_base.specs.TextSet.{distinct, has_text};
+ghost use Rattle.an_base.specs.TextSet.{ascending, has_text};
+ghost use Rattle.an_base.specs.Totals.{totals_of};
 ghost use Rattle.an_base.specs.Tree.{is_tree};
 ghost use Rattle.an_model.specs.Bodies.{iris_of, note_terms};
 ghost use Rattle.an_model.specs.Note.{is_bare, motivations_of, note_refusal};
@@ -13,7 +14,7 @@ use crate::cuts::{CutText, Cuts, cut_text};
 use crate::note::{Note, note_over};
 use crate::occurrence::NoteOccurrence;
 use crate::target::Target;
-use an_base::{KeptTree, List, Text, TextSet, Tree, TryCopy};
+use an_base::{KeptTree, List, TermList, TermTotals, Text, TextSet, Tree, TryCopy};
 use an_selectors::Xywh;
 use serde_json::Value;
 use std::alloc::{AllocError, Global};
@@ -41,7 +42,7 @@ pub struct KeptTarget {
 #[derive(Debug, Drop)]
 pub(crate) struct NoteParts {
     pub(crate) cuts: Cuts,
-    pub(crate) terms: TextSet,
+    pub(crate) terms: TermList,
     pub(crate) motivations: TextSet,
     pub(crate) iris: TextSet,
     pub(crate) targets: List<KeptTarget>,
@@ -99,6 +100,13 @@ impl KeptNote {
         self.tree.text()
     }
 
+    /// The terms of its words, each once, ascending by their bytes, and how often each occurs.
+    pub fn terms(&self) -> &TermList
+        ensures terms { result.now ≡ totals_of (note_terms self.now) }
+    {
+        &self.parts.terms
+    }
+
     /// Whether a word of its texts has this term.
     pub fn has_term(&self, term: &str) -> bool
         ensures found { result ≡ has_text term.now (note_terms self.now) }
@@ -152,36 +160,14 @@ impl TryCopy for KeptNote {
     }
 }
 
-impl PartialEq for KeptNote {
-    ghost use Rattle.serde_json.specs.Written.{compact_text};
-    ghost use Rattle.std.specs.Cmp.Lexicographic.{on_texts_equal};
-    ghost use Rattle.std.specs.Cmp as Cmp;
-    ghost use Rattle.an_base.specs.Tree.{same_text};
-
-    ghost eq = { same_text };
-
-    ghost laws = { Cmp.partial_equiv_from_equiv (on_texts_equal compact_text) };
-
-    fn eq(&self, other: &KeptNote) -> bool {
-        self.tree == other.tree
-    }
-}
-
-impl Eq for KeptNote {
-    ghost use Rattle.serde_json.specs.Written.{compact_text};
-    ghost use Rattle.std.specs.Cmp.Lexicographic.{on_texts_equal};
-
-    ghost laws = { on_texts_equal compact_text };
-}
-
 fn note_parts(alloc: Global, note: &Note, cuts: Cuts) -> Result<NoteParts, AllocError>
     ensures cuts { IfOk result (λ p. p.cuts ≡ cuts) }
-    ensures terms { IfOk result (λ p. p.terms ≡ distinct (note_terms note.now)) }
-    ensures motivations { IfOk result (λ p. p.motivations ≡ distinct (motivations_of note.now)) }
-    ensures iris { IfOk result (λ p. p.iris ≡ distinct (iris_of note.now)) }
+    ensures terms { IfOk result (λ p. p.terms ≡ totals_of (note_terms note.now)) }
+    ensures motivations { IfOk result (λ p. p.motivations ≡ ascending (motivations_of note.now)) }
+    ensures iris { IfOk result (λ p. p.iris ≡ ascending (iris_of note.now)) }
     ensures targets { IfOk result (λ p. p.targets ≡ map kept_target (targets_of note.now)) }
 {
-    let terms = terms_among(alloc, note.occurrences())?;
+    let terms = counted_terms(alloc, note.occurrences())?;
     let motivations = TextSet::of(alloc, note.motivations())?;
     let iris = TextSet::of(alloc, note.iris())?;
     let targets = kept_targets(alloc, note.targets())?;
@@ -194,14 +180,14 @@ fn note_parts(alloc: Global, note: &Note, cuts: Cuts) -> Result<NoteParts, Alloc
     })
 }
 
-fn terms_among(alloc: Global, occurrences: &[NoteOccurrence]) -> Result<TextSet, AllocError>
-    ensures { IfOk result (λ terms. terms ≡ distinct (map (λ o. o.term) occurrences.now)) }
+fn counted_terms(alloc: Global, occurrences: &[NoteOccurrence]) -> Result<TermList, AllocError>
+    ensures { IfOk result (λ terms. terms ≡ totals_of (map (λ o. o.term) occurrences.now)) }
 {
-    let mut terms = TextSet::new(alloc);
+    let mut totals = TermTotals::new(alloc);
     for occurrence in occurrences {
-        terms = terms.with(occurrence.term.as_str())?;
+        totals.add(occurrence.term.as_str())?;
     }
-    Ok(terms.shrunk())
+    totals.into_list()
 }
 
 fn kept_targets(alloc: Global, targets: &[Target]) -> Result<List<KeptTarget>, AllocError>

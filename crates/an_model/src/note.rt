@@ -105,28 +105,6 @@ impl TryCopy for Note {
     }
 }
 
-impl PartialEq for Note {
-    ghost use Rattle.serde_json.specs.Written.{compact_text};
-    ghost use Rattle.std.specs.Cmp.Lexicographic.{on_texts_equal};
-    ghost use Rattle.std.specs.Cmp as Cmp;
-    ghost use Rattle.an_base.specs.Tree.{same_text};
-
-    ghost eq = { same_text };
-
-    ghost laws = { Cmp.partial_equiv_from_equiv (on_texts_equal compact_text) };
-
-    fn eq(&self, other: &Note) -> bool {
-        self.tree == other.tree
-    }
-}
-
-impl Eq for Note {
-    ghost use Rattle.serde_json.specs.Written.{compact_text};
-    ghost use Rattle.std.specs.Cmp.Lexicographic.{on_texts_equal};
-
-    ghost laws = { on_texts_equal compact_text };
-}
-
 /// The annotation that a tree is, or the first of the refusals in their order (Web Annotation Data
 /// Model, sections 3 and 4). Members that aren't named there are kept.
 #[tactic(auto, unfolding(crate::specs::Note::note_of))]

@@ -8,20 +8,21 @@ use Rattle.serde_json.specs.Written.{compact_text}
 use Rattle.an_base.specs.Object.{with_member, with_member_if}
 use Rattle.an_base.specs.Write.{member_text, commas, item_commas}
 use Rattle.an_policy.specs.Audience.{Identity}
-use Rattle.an_machine.specs.State.{State, KeptNote}
-use Rattle.an_machine.specs.View.{view_of, is_on, shows_note, places_from, readable_places}
+use Rattle.an_state.specs.State.{State, KeptNote}
+use Rattle.an_state.specs.View.{view_of, is_on, shows_note, places_from, readable_places}
 use Rattle.an_base.specs.declared.span.Prefer.{Prefer}
 use Rattle.an_search.proofs.FoundLemmas.{stand-found}
 use Rattle.an_search.proofs.ViewLemmas.{filter_both}
 use Rattle.an_search.proofs.WrittenLemmas.{commas-member_if}
 use Rattle.an_search.specs.Found.{StandAt}
-use Rattle.an_search.specs.Page.{page_count, page_iri, page_of, start_of}
+use Rattle.an_search.specs.Page.{page_count, page_iri, page_of, start_of, lacks_page, link_after, link_before}
 use Rattle.an_search.specs.PageText.{member_if, text_if}
 use Rattle.an_search.specs.Site.{Site}
+use Rattle.an_search.specs.declared.page.PageForm.TheVariants as form
 use Rattle.an_search.specs.declared.page.Whole.{Whole}
 use Rattle.an_pages.proofs.NoteLemmas.{count_is}
 use Rattle.an_pages.specs.Bodies.{note_context}
-use Rattle.an_pages.specs.Container.{container_contexts, container_link, container_tree, container_body, container_types, first_page, held_page, iri_after, iri_before, iri_item, items_on, notes_on, own_page, own_text}
+use Rattle.an_pages.specs.Container.{container_contexts, container_link, container_tree, container_body, container_types, first_page, held_page, iri_item, items_on, notes_on, own_page, own_text}
 use Rattle.an_pages.specs.ContainerText.{content_text, end_text, part_text, whole_text}
 use Rattle.an_pages.specs.declared.error.PageError.TheVariants.{NoPage}
 
@@ -62,11 +63,11 @@ iris_on base iris notes places rows is stand =
 -- ---- which page
 
 module _ (site : Site) (whole : Whole) (iris : Bool) (rows : List KeptNote) (total size page pages : ℕ) (total_is : total ≡ length rows) (size_is : size ≡ site.size) (pages_are : pages ≡ page_count total size) where
-  pub no_own_page : (nat_lt page 1 || nat_lt pages page) ≡ true → own_text site whole iris page rows ≡ Err (NoPage pages)
+  pub no_own_page : lacks_page pages page ≡ true → own_text site whole iris page rows ≡ Err (NoPage pages)
   unfolding own_text
   no_own_page off = let count = count_is rows site.size total size pages total_is size_is pages_are in rw (count, off) refl
 
-  pub found_own_page : (base text : List ℕ) → base ≡ site.base → (nat_lt page 1 || nat_lt pages page) ≡ false
+  pub found_own_page : (base text : List ℕ) → base ≡ site.base → lacks_page pages page ≡ false
       → text ≡ compact_text (own_page whole page size total (items_on base iris (page_of page size rows)))
       → own_text site whole iris page rows ≡ Ok text
   unfolding own_text
@@ -82,10 +83,10 @@ end_members page size = member (codes "startIndex") (number (unsigned (start_of 
 
 abbrev content_members : Whole → ℕ → ℕ → ℕ → Items → Members → Members
 content_members whole page size total items others =
-    member (codes "id") (string (page_iri whole page)) (member (codes "items") (array items) (member_if (codes "next") (iri_after whole (page_count total size) page) others))
+    member (codes "id") (string (page_iri whole page)) (member (codes "items") (array items) (member_if (codes "next") (link_after form.Iri whole (page_count total size) page) others))
 
 abbrev part_members : Whole → ℕ → ℕ → Members → Members
-part_members whole page total others = member (codes "partOf") (container_link whole total) (member_if (codes "prev") (iri_before whole page) others)
+part_members whole page total others = member (codes "partOf") (container_link whole total) (member_if (codes "prev") (link_before form.Iri whole page) others)
 
 abbrev pub held_members : Whole → ℕ → ℕ → ℕ → Items → Members
 held_members whole page size total items = content_members whole page size total items (end_members page size)
@@ -103,7 +104,7 @@ content_then : (whole : Whole) (page size total : ℕ) (items : Items) (others :
 content_then whole page size total items others =
     let id = member_text (codes "id") (string (page_iri whole page)) in
     let list = member_text (codes "items") (array items) in
-    let after = iri_after whole (page_count total size) page in
+    let after = link_after form.Iri whole (page_count total size) page in
     append_assoc id (list ++ text_if (codes "next") after) (commas others)
     ∙ ap (λ all. id ++ all) (append_assoc list (text_if (codes "next") after) (commas others)
     ∙ ap (λ all. list ++ all) (sym (commas-member_if (codes "next") after others)))
@@ -111,7 +112,7 @@ content_then whole page size total items others =
 part_then : (whole : Whole) (page total : ℕ) (others : Members) → part_text whole page total ++ commas others ≡ commas (part_members whole page total others)
 part_then whole page total others =
     let part = member_text (codes "partOf") (container_link whole total) in
-    let before = iri_before whole page in
+    let before = link_before form.Iri whole page in
     append_assoc part (text_if (codes "prev") before) (commas others)
     ∙ ap (λ all. part ++ all) (sym (commas-member_if (codes "prev") before others))
 
@@ -150,12 +151,12 @@ with_links (Some after) (Some before) context id items part start type = refl
 pub held_is : (whole : Whole) (page size total : ℕ) (items : Items) → object (held_members whole page size total items) ≡ held_page whole page size total items
 unfolding held_page
 held_is whole page size total items =
-    with_after (iri_after whole (page_count total size) page) (string (page_iri whole page)) (array items) (number (unsigned (start_of page size))) (string (codes "AnnotationPage"))
+    with_after (link_after form.Iri whole (page_count total size) page) (string (page_iri whole page)) (array items) (number (unsigned (start_of page size))) (string (codes "AnnotationPage"))
 
 pub own_is : (whole : Whole) (page size total : ℕ) (items : Items) → object (own_members whole page size total items) ≡ own_page whole page size total items
 unfolding own_page held_page
 own_is whole page size total items =
-    with_links (iri_after whole (page_count total size) page) (iri_before whole page) (string note_context) (string (page_iri whole page)) (array items)
+    with_links (link_after form.Iri whole (page_count total size) page) (link_before form.Iri whole page) (string note_context) (string (page_iri whole page)) (array items)
     (container_link whole total) (number (unsigned (start_of page size))) (string (codes "AnnotationPage"))
 
 -- ---- the container

@@ -11,12 +11,12 @@ use Rattle.an_selectors.specs.declared.region.Xywh.{Xywh}
 use Rattle.an_model.specs.Targets.{kept_target}
 use Rattle.an_model.specs.declared.target.Target.{Target}
 use Rattle.an_policy.specs.Audience.{Identity}
-use Rattle.an_machine.specs.State.{State, KeptNote}
-use Rattle.an_machine.specs.View.{view_of, readable_places}
+use Rattle.an_state.specs.State.{State, KeptNote}
+use Rattle.an_state.specs.View.{view_of, readable_places}
 use Rattle.an_search.proofs.ViewLemmas.{readable_rows}
 use Rattle.an_search.specs.Found.{StandAt}
 use Rattle.an_search.specs.Listed.{listed_note}
-use Rattle.an_search.specs.Page.{list_page, page_count, page_of}
+use Rattle.an_search.specs.Page.{list_page, page_count, lacks_page, page_of}
 use Rattle.an_search.specs.Site.{Site}
 use Rattle.an_search.specs.declared.page.Whole.{Whole}
 use Rattle.an_pages.specs.Canvas.{is_kept_in, is_row_about, is_target_in, notes_about, notes_text, passes_at, presentation_context}
@@ -59,31 +59,15 @@ about_stand s who manifest canvas region =
 
 -- ---- which page
 
-lt_true : (a b : ℕ) → a < b → nat_lt a b ≡ true
-lt_true a b h = grind (arith, nat_tests)
-
-lt_false : (a b : ℕ) → b ≤ a → nat_lt a b ≡ false
-lt_false a b h = grind (arith, nat_tests)
-
 pub count_is : (rows : List KeptNote) (own total size pages : ℕ) → total ≡ length rows → size ≡ own → pages ≡ page_count total size → page_count (length rows) own ≡ pages
 count_is rows own total size pages total_is size_is is = sym (is ∙ ap (λ n. page_count n size) total_is ∙ ap (page_count (length rows)) size_is)
 
--- there is no page 0, and none past the last
-pub is_off : (page pages : ℕ) → page < 1 → (nat_lt page 1 || nat_lt pages page) ≡ true
-is_off page pages below = ap (λ b. b || nat_lt pages page) (lt_true page 1 below)
-
-pub is_past : (page pages : ℕ) → 1 ≤ page → pages < page → (nat_lt page 1 || nat_lt pages page) ≡ true
-is_past page pages some past = ap (λ b. b || nat_lt pages page) (lt_false page 1 some) ∙ lt_true pages page past
-
-pub is_there : (page pages : ℕ) → 1 ≤ page → page ≤ pages → (nat_lt page 1 || nat_lt pages page) ≡ false
-is_there page pages some within = ap (λ b. b || nat_lt pages page) (lt_false page 1 some) ∙ lt_false pages page within
-
 module _ (site : Site) (whole : Whole) (rows : List KeptNote) (total size page pages : ℕ) (total_is : total ≡ length rows) (size_is : size ≡ site.size) (pages_are : pages ≡ page_count total size) where
-  pub no_page : (nat_lt page 1 || nat_lt pages page) ≡ true → notes_text site whole page rows ≡ Err (NoPage pages)
+  pub no_page : lacks_page pages page ≡ true → notes_text site whole page rows ≡ Err (NoPage pages)
   unfolding notes_text
   no_page off = let count = count_is rows site.size total size pages total_is size_is pages_are in rw (count, off) refl
 
-  pub found_page : (base text : List ℕ) → base ≡ site.base → (nat_lt page 1 || nat_lt pages page) ≡ false
+  pub found_page : (base text : List ℕ) → base ≡ site.base → lacks_page pages page ≡ false
       → text ≡ compact_text (list_page presentation_context whole page size total (items_of (filter_map (listed_note base) (page_of page size rows))) no_items [])
       → notes_text site whole page rows ≡ Ok text
   unfolding notes_text

@@ -7,8 +7,8 @@ use Rattle.an_manifest.specs.Dress.{dressed}
 use Rattle.an_base.specs.Object.{with_member}
 use Rattle.an_base.specs.Outcome.{passes}
 use Rattle.an_policy.specs.Seen.{is_deletion}
-use Rattle.an_machine.specs.State.{KeptManifest, KeptNote, LiveManifest, LiveNote}
-use Rattle.an_machine.specs.View.{View, manifest_in, note_in, last_kind}
+use Rattle.an_state.specs.State.{KeptManifest, KeptNote, LiveManifest, LiveNote}
+use Rattle.an_state.specs.View.{View, manifest_in, note_in, last_kind}
 use Rattle.an_search.specs.Listed.{listed_live}
 use Rattle.an_search.specs.Site.{Site}
 use Rattle.an_pages.specs.declared.error.PageError.{PageError}

@@ -13,10 +13,10 @@ use Rattle.an_model.specs.Targets.{targets_of}
 use Rattle.an_model.specs.declared.kept.KeptTarget.{KeptTarget}
 use Rattle.an_model.specs.declared.target.Target.{Target}
 use Rattle.an_manifest.specs.Manifest.{canvases_of}
-use Rattle.an_machine.specs.State.{KeptManifest, KeptNote}
-use Rattle.an_machine.specs.View.{View, is_on, manifest_in}
+use Rattle.an_state.specs.State.{KeptManifest, KeptNote}
+use Rattle.an_state.specs.View.{View, is_on, manifest_in}
 use Rattle.an_search.specs.Listed.{listed_note}
-use Rattle.an_search.specs.Page.{list_page, page_count, page_of}
+use Rattle.an_search.specs.Page.{list_page, page_count, page_of, lacks_page}
 use Rattle.an_search.specs.Site.{Site}
 use Rattle.an_search.specs.declared.page.Whole.{Whole}
 use Rattle.an_pages.specs.declared.error.PageError.{PageError}
@@ -102,7 +102,7 @@ notes_page site whole page notes =
 unfoldable pub notes_text : Site → Whole → ℕ → List KeptNote → Result (List ℕ) PageError
 notes_text site whole page notes =
     let pages = page_count (length notes) site.size in
-    if nat_lt page 1 || nat_lt pages page then Err (NoPage pages)
+    if lacks_page pages page then Err (NoPage pages)
     else Ok (compact_text (notes_page site whole page notes))
 
 -- the answer, from the caller's view alone

@@ -1,8 +1,7 @@
 -- The container of the annotations on a manifest, and its pages (Web Annotation Protocol, section
 -- 4; Web Annotation Data Model, section 5).
-use Rattle.std.specs.Prelude.{ℕ, ◌+◌, ◌-◌, List, [], ◌++◌, length, map, filter, codes, nat_lt}
-use Rattle.std.specs.Prelude.{Bool, ◌||◌, if◌then◌else◌, is_some, Option, None, Some}
-use Rattle.std.specs.Prelude.{Result, Ok, Err}
+use Rattle.std.specs.Prelude.{ℕ, List, [], ◌++◌, length, map, filter, codes, Bool}
+use Rattle.std.specs.Prelude.{if◌then◌else◌, is_some, Result, Ok, Err}
 use Rattle.std.specs.List.{filter_map}
 use Rattle.serde_json.specs.Data.{Data, number, unsigned, string, array, object, Items, no_items}
 use Rattle.serde_json.specs.Data.{item, member, no_members}
@@ -10,11 +9,13 @@ use Rattle.serde_json.specs.View.{items_of}
 use Rattle.serde_json.specs.Written.{compact_text}
 use Rattle.an_base.specs.Object.{with_member, with_member_if}
 use Rattle.an_base.specs.declared.span.Prefer.{Prefer}
-use Rattle.an_machine.specs.State.{KeptNote}
-use Rattle.an_machine.specs.View.{View, is_on, manifest_in}
+use Rattle.an_state.specs.State.{KeptNote}
+use Rattle.an_state.specs.View.{View, is_on, manifest_in}
 use Rattle.an_search.specs.Listed.{listed_note, note_iri}
-use Rattle.an_search.specs.Page.{page_count, page_iri, page_of, start_of}
+use Rattle.an_search.specs.Page.{page_count, page_iri, page_of, start_of, lacks_page}
+use Rattle.an_search.specs.Page.{link_after, link_before}
 use Rattle.an_search.specs.Site.{Site}
+use Rattle.an_search.specs.declared.page.PageForm.TheVariants as form
 use Rattle.an_search.specs.declared.page.Whole.{Whole}
 use Rattle.an_pages.specs.Bodies.{note_context}
 use Rattle.an_pages.specs.declared.error.PageError.{PageError}
@@ -64,21 +65,12 @@ container_link whole total =
     (member (codes "total") (number (unsigned total))
     (member (codes "type") container_types no_members)))
 
--- the IRIs of the page after this one, of so many, and of the one before it, where there is one
-abbrev pub iri_after : Whole → ℕ → ℕ → Option Data
-iri_after whole pages page =
-    if nat_lt page pages then Some (string (page_iri whole (page + 1))) else None
-
-abbrev pub iri_before : Whole → ℕ → Option Data
-iri_before whole page =
-    if nat_lt 1 page then Some (string (page_iri whole (page - 1))) else None
-
 -- ---- pages
 
 -- a page as the container holds it (Web Annotation Protocol, section 4.2.2)
 unfoldable pub held_page : Whole → ℕ → ℕ → ℕ → Items → Data
 held_page whole page size total items =
-    with_member_if (codes "next") (iri_after whole (page_count total size) page)
+    with_member_if (codes "next") (link_after form.Iri whole (page_count total size) page)
     (object (member (codes "id") (string (page_iri whole page))
     (member (codes "items") (array items)
     (member (codes "startIndex") (number (unsigned (start_of page size)))
@@ -89,7 +81,7 @@ unfoldable pub own_page : Whole → ℕ → ℕ → ℕ → Items → Data
 own_page whole page size total items =
     with_member (codes "@context") (string note_context)
     (with_member (codes "partOf") (container_link whole total)
-    (with_member_if (codes "prev") (iri_before whole page)
+    (with_member_if (codes "prev") (link_before form.Iri whole page)
     (held_page whole page size total items)))
 
 -- ---- the container
@@ -135,7 +127,7 @@ container_of site view name prefer =
 unfoldable pub own_text : Site → Whole → Bool → ℕ → List KeptNote → Result (List ℕ) PageError
 own_text site whole iris page notes =
     let pages = page_count (length notes) site.size in
-    if nat_lt page 1 || nat_lt pages page then Err (NoPage pages)
+    if lacks_page pages page then Err (NoPage pages)
     else Ok (compact_text (own_page whole page site.size (length notes)
     (items_on site.base iris (page_of page site.size notes))))
 

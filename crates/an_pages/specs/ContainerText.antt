@@ -2,23 +2,24 @@
 use Rattle.std.specs.Prelude.{ℕ, List, ◌++◌, codes}
 use Rattle.serde_json.specs.Data.{number, unsigned, string, array, Items}
 use Rattle.an_base.specs.Write.{member_text}
-use Rattle.an_search.specs.Page.{page_count, page_iri, start_of}
+use Rattle.an_search.specs.Page.{page_count, page_iri, start_of, link_after, link_before}
 use Rattle.an_search.specs.PageText.{text_if}
+use Rattle.an_search.specs.declared.page.PageForm.TheVariants as form
 use Rattle.an_search.specs.declared.page.Whole.{Whole}
-use Rattle.an_pages.specs.Container.{container_link, container_types, iri_after, iri_before}
+use Rattle.an_pages.specs.Container.{container_link, container_types}
 
 -- the text of the members from its IRI to the page after it
 abbrev pub content_text : Whole → ℕ → ℕ → ℕ → Items → List ℕ
 content_text whole page size total items =
     member_text (codes "id") (string (page_iri whole page))
     ++ (member_text (codes "items") (array items)
-    ++ text_if (codes "next") (iri_after whole (page_count total size) page))
+    ++ text_if (codes "next") (link_after form.Iri whole (page_count total size) page))
 
 -- that of what it is part of, and of the page before it
 abbrev pub part_text : Whole → ℕ → ℕ → List ℕ
 part_text whole page total =
     member_text (codes "partOf") (container_link whole total)
-    ++ text_if (codes "prev") (iri_before whole page)
+    ++ text_if (codes "prev") (link_before form.Iri whole page)
 
 -- that of the members behind these
 abbrev pub end_text : ℕ → ℕ → List ℕ

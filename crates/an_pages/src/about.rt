@@ -1,14 +1,14 @@
 ghost use Rattle.std.specs.Prelude.{◌≡◌, filter, IfOk};
 ghost use Rattle.an_policy.specs.Audience.{identity};
-ghost use Rattle.an_machine.specs.View.{readable_places};
+ghost use Rattle.an_state.specs.View.{readable_places};
 ghost use Rattle.an_pages.specs.Canvas.{is_about, is_row_about, passes_at};
 
 use crate::region::has_target_in;
 use an_base::{Name, Steps};
-use an_machine::{Look, NoteRow};
 use an_model::KeptNote;
 use an_policy::Who;
 use an_selectors::Xywh;
+use an_state::{Look, NoteRow};
 use std::alloc::{AllocError, Global};
 use std::sync::ledger::Ledger;
 

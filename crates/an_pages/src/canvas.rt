@@ -6,8 +6,8 @@ ghost use Rattle.serde_json.specs.View.{items_of};
 ghost use Rattle.serde_json.specs.Written.{compact_text};
 ghost use Rattle.an_base.specs.Outcome.{Gives};
 ghost use Rattle.an_policy.specs.Audience.{identity};
-ghost use Rattle.an_machine.specs.State.{KeptNote};
-ghost use Rattle.an_machine.specs.View.{view_of};
+ghost use Rattle.an_state.specs.State.{KeptNote};
+ghost use Rattle.an_state.specs.View.{view_of};
 ghost use Rattle.an_manifest.specs.Manifest.{canvases_of};
 ghost use Rattle.an_search.specs.Found.{StandAt};
 ghost use Rattle.an_search.specs.Listed.{listed_note};
@@ -19,11 +19,11 @@ ghost use Rattle.an_pages.specs.Canvas.{notes_text, canvas_page_of};
 use crate::about::places_about;
 use crate::error::PageError;
 use an_base::{Bytes, Name, Steps, Text};
-use an_machine::{Look, ManifestRow, shown_manifest};
 use an_manifest::KeptSheet;
 use an_policy::Who;
 use an_search::{Paging, Settings, Whole, list_items, page_of, page_text};
 use an_selectors::Xywh;
+use an_state::{Look, ManifestRow, shown_manifest};
 use std::alloc::{AllocError, Global};
 use std::sync::ledger::Ledger;
 
@@ -143,11 +143,8 @@ fn page_at<T: Look, L: Ledger>(
         size: settings.size(),
         total: places.len(),
     };
-    let pages = paging.pages();
-    if page < 1 {
-        return Err(PageError::NoPage { pages });
-    }
-    if pages < page as usize {
+    if paging.is_past() {
+        let pages = paging.pages();
         return Err(PageError::NoPage { pages });
     }
     let shown = page_of(places, paging);

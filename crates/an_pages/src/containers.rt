@@ -3,8 +3,8 @@ ghost use Rattle.serde_json.specs.Data.{string};
 ghost use Rattle.serde_json.specs.Written.{compact_text};
 ghost use Rattle.an_base.specs.Outcome.{Gives};
 ghost use Rattle.an_policy.specs.Audience.{identity};
-ghost use Rattle.an_machine.specs.State.{KeptNote};
-ghost use Rattle.an_machine.specs.View.{view_of};
+ghost use Rattle.an_state.specs.State.{KeptNote};
+ghost use Rattle.an_state.specs.View.{view_of};
 ghost use Rattle.an_search.specs.Found.{StandAt};
 ghost use Rattle.an_search.specs.Page.{page_iri, page_of};
 ghost use Rattle.an_pages.specs.Container.{container_body, container_iri, container_of};
@@ -15,9 +15,9 @@ use crate::error::PageError;
 use crate::items::items_at;
 use crate::written::{container_text, held_text, own_text};
 use an_base::{Bytes, Name, Prefer, Steps, Text, push_text};
-use an_machine::{Look, shown_manifest};
 use an_policy::Who;
 use an_search::{Paging, Settings, Whole, page_iri, page_of};
+use an_state::{Look, shown_manifest};
 use std::alloc::{AllocError, Global};
 use std::sync::ledger::Ledger;
 
@@ -201,11 +201,8 @@ fn page_at<T: Look, L: Ledger>(
         size: settings.size(),
         total: places.len(),
     };
-    let pages = paging.pages();
-    if page < 1 {
-        return Err(PageError::NoPage { pages });
-    }
-    if pages < page as usize {
+    if paging.is_past() {
+        let pages = paging.pages();
         return Err(PageError::NoPage { pages });
     }
     let shown = page_of(places, paging);

@@ -2,14 +2,14 @@ ghost use Rattle.std.specs.Prelude.{◌≡◌, ◌≤◌, List, ◌++◌, length
 ghost use Rattle.std.specs.List.{filter_map};
 ghost use Rattle.serde_json.specs.View.{items_of};
 ghost use Rattle.an_base.specs.Write.{item_commas, item_text};
-ghost use Rattle.an_machine.specs.State.{KeptNote};
+ghost use Rattle.an_state.specs.State.{KeptNote};
 ghost use Rattle.an_search.specs.Found.{StandAt};
 ghost use Rattle.an_pages.specs.Container.{iri_item, items_on};
 
 use an_base::Steps;
 use an_keyed::Keyed;
-use an_machine::{Look, NoteRow};
 use an_search::{Listed, list_items, note_iri, push_text_item};
+use an_state::{Look, NoteRow};
 use std::alloc::{AllocError, Global};
 use std::sync::ledger::Ledger;
 

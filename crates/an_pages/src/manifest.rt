@@ -2,17 +2,17 @@ ghost use Rattle.std.specs.Prelude.{◌≡◌, IfOk};
 ghost use Rattle.serde_json.specs.Written.{compact_text};
 ghost use Rattle.an_base.specs.Outcome.{Gives};
 ghost use Rattle.an_policy.specs.Audience.{identity};
-ghost use Rattle.an_machine.specs.View.{view_of};
+ghost use Rattle.an_state.specs.View.{view_of};
 ghost use Rattle.an_manifest.specs.Dress.{dressed};
 ghost use Rattle.an_pages.specs.Bodies.{manifest_body, manifest_of_view};
 
 use crate::error::PageError;
 use an_base::{Bytes, Name};
 use an_keyed::Keyed;
-use an_machine::{Look, ManifestRow, shown_manifest};
 use an_manifest::{KeptSheet, push_manifest};
 use an_policy::Who;
 use an_search::Settings;
+use an_state::{Look, ManifestRow, shown_manifest};
 use std::alloc::{AllocError, Global};
 
 /// A manifest as the caller is shown it (IIIF Presentation API 3.0), with the search in its

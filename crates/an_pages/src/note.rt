@@ -2,17 +2,17 @@ ghost use Rattle.std.specs.Prelude.{◌≡◌, IfOk, option_and_then};
 ghost use Rattle.an_base.specs.Outcome.{Gives};
 ghost use Rattle.an_policy.specs.Audience.{identity};
 ghost use Rattle.an_policy.specs.Seen.{is_deletion};
-ghost use Rattle.an_machine.specs.Live.{lent_note};
-ghost use Rattle.an_machine.specs.View.{note_in, view_of};
+ghost use Rattle.an_state.specs.Live.{lent_note};
+ghost use Rattle.an_state.specs.View.{note_in, view_of};
 ghost use Rattle.an_pages.specs.Bodies.{shown_live, note_body, missing_note, annotation_of_view};
 
 use crate::error::PageError;
 use an_base::{Bytes, Name};
 use an_keyed::Keyed;
-use an_machine::{LiveNote, Look, NoteRow, shown_note};
 use an_model::push_shown;
 use an_policy::{Kind, Who};
 use an_search::{Settings, note_iri};
+use an_state::{LiveNote, Look, NoteRow, shown_note};
 use std::alloc::{AllocError, Global};
 
 /// The context of annotations (Web Annotation Data Model).

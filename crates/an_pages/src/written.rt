@@ -2,11 +2,8 @@ ghost use Rattle.std.specs.Prelude.{◌≡◌, ◌≤◌, ◌++◌, codes, IfOk}
 ghost use Rattle.serde_json.specs.Data.{Data, Items, array, item, no_items, string};
 ghost use Rattle.serde_json.specs.Written.{compact_text};
 ghost use Rattle.an_base.specs.Write.{item_commas, member_text};
-ghost use Rattle.an_search.specs.Page.{page_count, page_iri};
-ghost use Rattle.an_search.specs.PageText.{text_if};
 ghost use Rattle.an_pages.specs.Container.{container_contexts, container_link, container_tree};
-ghost use Rattle.an_pages.specs.Container.{container_types, held_page, iri_after, iri_before};
-ghost use Rattle.an_pages.specs.Container.{own_page};
+ghost use Rattle.an_pages.specs.Container.{container_types, held_page, own_page};
 ghost use Rattle.an_pages.specs.ContainerText.{content_text, end_text, part_text};
 ghost use Rattle.an_pages.specs.ContainerText.{whole_text};
 
@@ -14,7 +11,7 @@ use crate::note::NOTE_CONTEXT;
 use an_base::{
     Bytes, close_members, push_array_member, push_name, push_number_member, push_text_member,
 };
-use an_search::{Paging, Whole, page_iri, push_text_item};
+use an_search::{PageForm, Paging, Whole, push_link_member, push_next, push_prev, push_text_item};
 use std::alloc::{AllocError, Global};
 
 /// The context of containers (Linked Data Platform 1.0).
@@ -71,63 +68,11 @@ fn push_content(
     ensures text { (list : Items) → items.now ≡ item_commas list → IfOk result (λ v. v.items
         ≡ out.items ++ content_text whole.now paging.page paging.size paging.total list) }
 {
-    let out = push_page_iri(alloc, out, "id", whole, paging.page as usize)?;
+    let number = paging.page as usize;
+    let out = push_link_member(alloc, out, "id", whole, PageForm::Iri, number)?;
     let out = push_array_member(out, "items", items)?;
-    let out = push_next(alloc, out, whole, paging)?;
+    let out = push_next(alloc, out, whole, PageForm::Iri, paging)?;
     Ok(out)
-}
-
-/// Writes the IRI of a page as a member of this name.
-fn push_page_iri(
-    alloc: Global,
-    out: Vec<u8>,
-    name: &str,
-    whole: &Whole,
-    number: usize,
-) -> Result<Vec<u8>, AllocError>
-    ensures text { IfOk result (λ v. v.items
-        ≡ out.items ++ member_text name.now (string (page_iri whole.now number))) }
-{
-    let iri = page_iri(alloc, whole, number)?;
-    let out = push_text_member(out, name, iri.as_str())?;
-    Ok(out)
-}
-
-/// Writes the IRI of the page after this one, where there is one.
-fn push_next(
-    alloc: Global,
-    out: Vec<u8>,
-    whole: &Whole,
-    paging: Paging,
-) -> Result<Vec<u8>, AllocError>
-    requires size { 1 ≤ paging.size }
-    ensures text { IfOk result (λ v. v.items ≡ out.items ++ text_if (codes "next")
-        (iri_after whole.now (page_count paging.total paging.size) paging.page)) }
-{
-    let number = paging.page as usize;
-    if number < paging.pages() {
-        push_page_iri(alloc, out, "next", whole, number + 1)
-    } else {
-        Ok(out)
-    }
-}
-
-/// Writes the IRI of the page before this one, where there is one.
-fn push_prev(
-    alloc: Global,
-    out: Vec<u8>,
-    whole: &Whole,
-    paging: Paging,
-) -> Result<Vec<u8>, AllocError>
-    ensures text { IfOk result (λ v. v.items
-        ≡ out.items ++ text_if (codes "prev") (iri_before whole.now paging.page)) }
-{
-    let number = paging.page as usize;
-    if 1 < number {
-        push_page_iri(alloc, out, "prev", whole, number - 1)
-    } else {
-        Ok(out)
-    }
 }
 
 /// Writes the container that the page is part of, and the IRI of the page before it.
@@ -142,7 +87,7 @@ fn push_part(
 {
     let out = push_name(out, "partOf")?;
     let out = push_link(alloc, out, whole, paging.total)?;
-    let out = push_prev(alloc, out, whole, paging)?;
+    let out = push_prev(alloc, out, whole, PageForm::Iri, paging)?;
     Ok(out)
 }
 
@@ -214,7 +159,7 @@ fn push_whole(
         ≡ out.items ++ whole_text whole.now paging.size paging.total) }
 {
     let out = push_text_member(out, "id", whole.path.as_str())?;
-    let out = push_page_iri(alloc, out, "last", whole, paging.pages())?;
+    let out = push_link_member(alloc, out, "last", whole, PageForm::Iri, paging.pages())?;
     let out = push_number_member(out, "total", paging.total as u64)?;
     let out = push_types(alloc, out)?;
     Ok(out)

@@ -1,5 +1,5 @@
 -- A group as its text says it.
-use Rattle.std.specs.Prelude.{ℕ, List, Bool, true, if◌then◌else◌, bytes_eq, codes, Option, Some}
+use Rattle.std.specs.Prelude.{ℕ, List, Bool, false, true, if◌then◌else◌, bytes_eq, codes, Option, Some}
 use Rattle.std.specs.Prelude.{option_map}
 use Rattle.an_base.specs.Name.{is_name}
 use Rattle.an_base.specs.Outcome.{only_if}
@@ -24,3 +24,21 @@ abbrev pub is_valid_group : Group → Bool
 is_valid_group Public = true
 is_valid_group Private = true
 is_valid_group (Named name) = is_group_name name
+
+-- a group of its owner alone
+abbrev pub is_private : Group → Bool
+is_private Public = false
+is_private Private = true
+is_private (Named name) = false
+
+-- they are one group
+abbrev pub same_group : Group → Group → Bool
+same_group Public Public = true
+same_group Private Private = true
+same_group (Named a) (Named b) = bytes_eq a b
+same_group Public Private = false
+same_group Public (Named b) = false
+same_group Private Public = false
+same_group Private (Named b) = false
+same_group (Named a) Public = false
+same_group (Named a) Private = false

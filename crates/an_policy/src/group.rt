@@ -1,7 +1,7 @@
 ghost use Rattle.std.specs.Prelude.{◌≡◌, List, ℕ, Some, option_map, IfOk, IsTrue};
 ghost use Rattle.an_base.specs.Outcome.{only_if};
 ghost use Rattle.an_base.specs.Name.{is_name};
-ghost use Rattle.an_policy.specs.Group.{group_named, group_text, is_valid_group};
+ghost use Rattle.an_policy.specs.Group.{group_named, group_text, is_valid_group, same_group};
 ghost use Rattle.an_policy.specs.declared.group.Group.{Group};
 
 use an_base::{Name, NameError, TryCopy};
@@ -68,6 +68,21 @@ pub fn group_text(group: &Group) -> &str
         Group::Public => "public",
         Group::Private => "private",
         Group::Named(name) => name.as_str(),
+    }
+}
+
+/// Whether both are one group. Takes no memory.
+pub fn is_same_group(one: &Group, other: &Group) -> bool
+    ensures same { result ≡ same_group one.now other.now }
+{
+    match one {
+        Group::Public => matches!(other, Group::Public),
+        Group::Private => matches!(other, Group::Private),
+        Group::Named(name) => match other {
+            Group::Public => false,
+            Group::Private => false,
+            Group::Named(other) => name == other,
+        },
     }
 }
 

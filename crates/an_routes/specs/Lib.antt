@@ -1,3 +1,5 @@
 pub mod Target
 pub mod Query
+pub mod Paths
 pub mod Routes
+pub mod Commands

@@ -1,12 +1,12 @@
 -- What a query gives to a route (URL Standard, section 5.1).
-use Rattle.std.specs.Prelude.{ℕ, List, [], ◌∷◌, Option, Some, None, option_map, option_and_then}
+use Rattle.std.specs.Prelude.{ℕ, List, Option, Some, None, option_map, option_and_then}
 use Rattle.std.specs.Prelude.{Result, Ok, Err, Bool, true, false, bytes_eq, codes, if◌then◌else◌}
 use Rattle.an_base.specs.Name.{is_name}
 use Rattle.an_base.specs.Outcome.{only_if, or_refuse, unless}
-use Rattle.an_base.specs.declared.code.Code.{Code}
-use Rattle.an_base.specs.declared.code.Code.TheVariants as code
-use Rattle.an_base.specs.declared.parameter.Parameter.{Parameter}
-use Rattle.an_base.specs.declared.parameter.Parameter.TheVariants as parameter
+use Rattle.an_code.specs.declared.code.Code.{Code}
+use Rattle.an_code.specs.declared.code.Code.TheVariants as code
+use Rattle.an_code.specs.declared.parameter.Parameter.{Parameter}
+use Rattle.an_code.specs.declared.parameter.Parameter.TheVariants as parameter
 use Rattle.an_policy.specs.Group.{group_named}
 use Rattle.an_policy.specs.declared.group.Group.{Group}
 use Rattle.an_policy.specs.declared.group.Group.TheVariants.{Public}
@@ -66,26 +66,3 @@ iris_of given = iris_in (value_of parameter.Iris given)
 
 abbrev pub region_of : List Pair → Result (Option Xywh) Code
 region_of given = given_as code.Xywh region_of_numbers (value_of parameter.Xywh given)
-
--- ---- which parameters are read
-
-abbrev pub reads_page : List Parameter
-reads_page = parameter.Page ∷ []
-
-abbrev pub reads_page_and_iris : List Parameter
-reads_page_and_iris = parameter.Page ∷ parameter.Iris ∷ []
-
-abbrev pub reads_page_and_region : List Parameter
-reads_page_and_region = parameter.Page ∷ parameter.Xywh ∷ []
-
-abbrev pub reads_nothing : List Parameter
-reads_nothing = []
-
-abbrev pub reads_version : List Parameter
-reads_version = parameter.Version ∷ []
-
-abbrev pub reads_version_and_group : List Parameter
-reads_version_and_group = parameter.Version ∷ parameter.Group ∷ []
-
-abbrev pub reads_all : List Parameter
-reads_all = parameter.Version ∷ parameter.Manifest ∷ parameter.Group ∷ []

@@ -1,10 +1,11 @@
 ghost use Rattle.std.specs.Prelude.{◌≡◌};
-ghost use Rattle.an_routes.specs.Routes.{read_methods, write_methods};
+ghost use Rattle.an_routes.specs.Routes.{read_kind, read_methods, write_kind, write_methods};
 
-use an_base::{Code, Name};
+use crate::paths::Kind;
+use an_base::Name;
+use an_code::Code;
 use an_complete::Ask;
 use an_http::Allow;
-use an_machine::Object;
 use an_policy::Group;
 use an_search::Query;
 use an_selectors::Xywh;
@@ -111,26 +112,14 @@ pub enum RouteError {
     Memory,
 }
 
-/// A path of the server.
-#[derive(Debug, Drop)]
-pub(crate) enum Path {
-    /// A reader, a manifest or an annotation.
-    Object(Object),
-    Search { manifest: Name },
-    Complete { manifest: Name },
-    Canvas { manifest: Name, canvas: u32 },
-    Container { manifest: Name },
-    Changes,
-}
-
-/// A method that some path has.
+/// Why a path gives no route to a method.
 #[derive(Clone, Copy, Debug, PartialEq, Eq)]
-pub(crate) enum Verb {
-    Options,
-    /// GET or HEAD.
-    Read,
-    Put,
-    Delete,
+pub(crate) enum Unrouted {
+    /// It hasn't this method.
+    Method,
+    /// The query is refused.
+    Query(Code),
+    Memory,
 }
 
 impl Read {
@@ -138,16 +127,22 @@ impl Read {
     pub fn methods(&self) -> Allow
         ensures methods { result ≡ read_methods self.now }
     {
+        self.kind().methods()
+    }
+
+    fn kind(&self) -> Kind
+        ensures { result ≡ read_kind self.now }
+    {
         match self {
-            Read::Manifest { .. } => Allow::Full,
-            Read::Note { .. } => Allow::Full,
-            Read::Search { .. } => Allow::ReadOnly,
-            Read::Complete { .. } => Allow::ReadOnly,
-            Read::Canvas { .. } => Allow::ReadOnly,
-            Read::Container { .. } => Allow::ReadOnly,
-            Read::ContainerPage { .. } => Allow::ReadOnly,
-            Read::Changes => Allow::ReadOnly,
-            Read::ChangesPage { .. } => Allow::ReadOnly,
+            Read::Manifest { .. } => Kind::Manifest,
+            Read::Note { .. } => Kind::Note,
+            Read::Search { .. } => Kind::Search,
+            Read::Complete { .. } => Kind::Complete,
+            Read::Canvas { .. } => Kind::Canvas,
+            Read::Container { .. } => Kind::Container,
+            Read::ContainerPage { .. } => Kind::Container,
+            Read::Changes => Kind::Changes,
+            Read::ChangesPage { .. } => Kind::Changes,
         }
     }
 }
@@ -157,13 +152,19 @@ impl WriteRoute {
     pub fn methods(&self) -> Allow
         ensures methods { result ≡ write_methods self.now }
     {
+        self.kind().methods()
+    }
+
+    fn kind(&self) -> Kind
+        ensures { result ≡ write_kind self.now }
+    {
         match self {
-            WriteRoute::PutReader { .. } => Allow::WriteOnly,
-            WriteRoute::DropReader { .. } => Allow::WriteOnly,
-            WriteRoute::PutManifest { .. } => Allow::Full,
-            WriteRoute::DropManifest { .. } => Allow::Full,
-            WriteRoute::PutNote { .. } => Allow::Full,
-            WriteRoute::DropNote { .. } => Allow::Full,
+            WriteRoute::PutReader { .. } => Kind::Reader,
+            WriteRoute::DropReader { .. } => Kind::Reader,
+            WriteRoute::PutManifest { .. } => Kind::Manifest,
+            WriteRoute::DropManifest { .. } => Kind::Manifest,
+            WriteRoute::PutNote { .. } => Kind::Note,
+            WriteRoute::DropNote { .. } => Kind::Note,
         }
     }
 }

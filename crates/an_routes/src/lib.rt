@@ -1,12 +1,15 @@
 //! Which paths and parameters the server has, and what each method means at a path.
 #![tactic(auto)]
 
+pub use commands::{command_of, routes_are_sendable};
 pub use kinds::{Read, Route, RouteError, WriteRoute};
 pub use query::name_in;
 pub use routes::route;
 pub use target::cut;
 
+mod commands;
 mod kinds;
+mod paths;
 mod query;
 mod routes;
 mod target;

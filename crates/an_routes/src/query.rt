@@ -2,31 +2,12 @@ ghost use Rattle.std.specs.Prelude.{◌≡◌, IfOk};
 ghost use Rattle.an_routes.specs.Query.{given_of, version_of, name_in, manifest_of, group_of};
 ghost use Rattle.an_routes.specs.Query.{page_of, iris_of, region_of};
 
-use an_base::{Code, List, Name, NameError, Parameter};
+use an_base::{List, Name, NameError};
+use an_code::{Code, Parameter};
 use an_policy::{Group, group_named};
 use an_search::{Pair, number_in, query_pairs, twice_in, value_in};
 use an_selectors::{Xywh, read_region_numbers};
 use std::alloc::{AllocError, Global};
-
-// ---- which parameters are read
-
-pub(crate) const READS_NOTHING: [Parameter; 0] = [];
-
-pub(crate) const READS_VERSION: [Parameter; 1] = [Parameter::Version];
-
-pub(crate) const READS_VERSION_AND_GROUP: [Parameter; 2] = [Parameter::Version, Parameter::Group];
-
-pub(crate) const READS_ALL: [Parameter; 3] = [
-    Parameter::Version,
-    Parameter::Manifest,
-    Parameter::Group,
-];
-
-pub(crate) const READS_PAGE: [Parameter; 1] = [Parameter::Page];
-
-pub(crate) const READS_PAGE_AND_IRIS: [Parameter; 2] = [Parameter::Page, Parameter::Iris];
-
-pub(crate) const READS_PAGE_AND_REGION: [Parameter; 2] = [Parameter::Page, Parameter::Xywh];
 
 /// The pairs of a query, or the first refusal: a name or a value that isn't UTF-8, or else the
 /// first of the parameters that are read that comes a second time.

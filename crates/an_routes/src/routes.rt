@@ -1,41 +1,41 @@
-ghost use Rattle.std.specs.Prelude.{◌≡◌, IfOk, Ok, Some, option_and_then};
+ghost use Rattle.std.specs.Prelude.{◌≡◌, [], IfOk, Ok, Some};
 ghost use Rattle.an_base.specs.Outcome.{Gives};
 ghost use Rattle.an_complete.specs.Ask.{ask_of};
 ghost use Rattle.an_search.specs.Query.{query_of};
-ghost use Rattle.an_routes.specs.Query.{given_of, reads_nothing, reads_page, reads_page_and_iris};
-ghost use Rattle.an_routes.specs.Query.{reads_page_and_region};
-ghost use Rattle.an_routes.specs.Routes.{path_named, path_owned, path_alone, path_within, path_of};
-ghost use Rattle.an_routes.specs.Routes.{container_path, canvas_path, methods_at, object_methods};
+ghost use Rattle.an_routes.specs.Paths.{row_of};
+ghost use Rattle.an_routes.specs.Query.{given_of};
 ghost use Rattle.an_routes.specs.Routes.{changes_read, container_at, container_read, canvas_read};
-ghost use Rattle.an_routes.specs.Routes.{verb_of, put_reads, manifest_put, note_put, put_with, put_of};
-ghost use Rattle.an_routes.specs.Routes.{deletion, deletion_of, written, unwritten, put_at, delete_at};
-ghost use Rattle.an_routes.specs.Routes.{searched, query_refused, completed, ask_refused, unread};
-ghost use Rattle.an_routes.specs.Routes.{shown, object_read, read_at, route_at, route_to, route_of};
-ghost use Rattle.an_routes.specs.Target.{segments_of};
+ghost use Rattle.an_routes.specs.Routes.{manifest_put, note_put, put_with, put_of, deletion};
+ghost use Rattle.an_routes.specs.Routes.{deletion_of, written, put_at, delete_at, searched};
+ghost use Rattle.an_routes.specs.Routes.{query_refused, completed, ask_refused, shown};
+ghost use Rattle.an_routes.specs.Routes.{object_read, read_at, meant_at, route_at, route_to};
+ghost use Rattle.an_routes.specs.Routes.{route_of};
+ghost use Rattle.an_routes.specs.declared.paths.Kind.TheVariants as kind;
 
-use crate::kinds::{Path, Read, Route, RouteError, Verb, WriteRoute};
-use crate::query::{
-    READS_ALL, READS_NOTHING, READS_PAGE, READS_PAGE_AND_IRIS, READS_PAGE_AND_REGION,
-    READS_VERSION, READS_VERSION_AND_GROUP, given_in, group_of, iris_of, manifest_of, name_in,
-    page_of, region_of, version_of,
+use crate::kinds::{Read, Route, RouteError, Unrouted, WriteRoute};
+use crate::paths::{
+    CANVAS_READS, CHANGES_READS, CONTAINER_READS, NUMBER_READS, Path, READS_NOTHING, path_in,
+    put_reads,
 };
-use crate::target::{segments_of, target_parts};
-use an_base::{Code, Name, Parameter, Text};
+use crate::query::{given_in, group_of, iris_of, manifest_of, page_of, region_of, version_of};
+use crate::target::target_parts;
+use an_base::Name;
+use an_code::Code;
 use an_complete::{QueryAskError, read_ask};
-use an_http::Allow;
-use an_machine::Object;
-use an_search::{Pair, QueryError, number_in, read_query};
+use an_http::Method;
+use an_search::{Pair, QueryError, read_query};
+use an_state::Object;
 use std::alloc::{AllocError, Global};
 
-/// The route of a method and a target as they were sent, or the first refusal: of the target, of
+/// The route of a method and a target as it was sent, or the first refusal: of the target, of
 /// the path, of the method, and last of the query, which OPTIONS doesn't read.
 ///
 /// Segments and parameters are percent-decoded. Parameters that the path and method don't read are
 /// passed over, but must be UTF-8 too.
 #[tactic(auto, unfolding(crate::specs::Routes::route_of))]
-pub fn route(alloc: Global, method: &str, target: &str) -> Result<Route, RouteError>
+pub fn route(alloc: Global, method: Option<Method>, target: &str) -> Result<Route, RouteError>
     ensures route { Gives
-        (λ route. route) RouteError.Memory result (route_of method.now target.now) }
+        (λ route. route) RouteError.Memory result (route_of method target.now) }
 {
     match target_parts(target) {
         Some((path, query)) => route_to(alloc, method, path, query),
@@ -43,170 +43,66 @@ pub fn route(alloc: Global, method: &str, target: &str) -> Result<Route, RouteEr
     }
 }
 
-fn route_to(alloc: Global, method: &str, path: &str, query: &str) -> Result<Route, RouteError>
+fn route_to(
+    alloc: Global,
+    method: Option<Method>,
+    path: &str,
+    query: &str,
+) -> Result<Route, RouteError>
     ensures { Gives (λ route. route) RouteError.Memory result
-        (route_to method.now (Some (path.now, query.now))) }
+        (route_to method (Some (path.now, query.now))) }
 {
     match path_in(alloc, path) {
         Ok(found) => match found {
-            Some(path) => route_at(alloc, path, query, verb_of(method)),
+            Some(path) => route_at(alloc, path, query, method),
             None => Err(RouteError::Route),
         },
         Err(_) => Err(RouteError::Memory),
     }
 }
 
-fn path_in(alloc: Global, path: &str) -> Result<Option<Path>, AllocError>
-    ensures { IfOk result (λ found. found ≡ option_and_then path_of (segments_of path.now)) }
+/// The route of a method at a path, or the first refusal.
+fn route_at(
+    alloc: Global,
+    path: Path,
+    query: &str,
+    method: Option<Method>,
+) -> Result<Route, RouteError>
+    ensures { Gives (λ route. route) RouteError.Memory result (route_at path query.now method) }
 {
-    match segments_of(alloc, path)? {
-        Some(segments) => path_of(alloc, segments.as_slice()),
-        None => Ok(None),
-    }
-}
-
-/// The path of these segments.
-fn path_of(alloc: Global, segments: &[Text]) -> Result<Option<Path>, AllocError>
-    ensures { IfOk result (λ found. found ≡ path_of segments.now) }
-{
-    match segments {
-        [kind] => Ok(path_alone(kind.as_str())),
-        [kind, name] => match name_in(alloc, name.as_str())? {
-            Some(name) => Ok(path_named(kind.as_str(), name)),
-            None => Ok(None),
+    let allow = path.kind().methods();
+    match meant_at(alloc, path, query, method) {
+        Ok(route) => Ok(route),
+        Err(error) => match error {
+            Unrouted::Method => Err(RouteError::Method { allow }),
+            Unrouted::Query(code) => Err(RouteError::Query { allow, code }),
+            Unrouted::Memory => Err(RouteError::Memory),
         },
-        [kind, owner, name] => match name_in(alloc, owner.as_str())? {
-            Some(owner) => match name_in(alloc, name.as_str())? {
-                Some(name) => Ok(path_owned(kind.as_str(), owner, name)),
-                None => Ok(None),
-            },
-            None => Ok(None),
-        },
-        [kind, name, part, last] => match name_in(alloc, name.as_str())? {
-            Some(name) => Ok(path_within(kind.as_str(), name, part.as_str(), last.as_str())),
-            None => Ok(None),
-        },
-        _ => Ok(None),
     }
 }
 
-fn path_alone(kind: &str) -> Option<Path>
-    ensures { result ≡ path_alone kind.now }
-{
-    match kind {
-        "changes" => Some(Path::Changes),
-        _ => None,
-    }
-}
-
-fn path_within(kind: &str, manifest: Name, part: &str, last: &str) -> Option<Path>
-    ensures { result ≡ path_within kind.now manifest part.now last.now }
-{
-    if kind != "manifests" {
-        return None;
-    }
-    match part {
-        "annotations" => container_path(manifest, last),
-        "canvases" => canvas_path(manifest, last),
-        _ => None,
-    }
-}
-
-/// Nothing stands behind the last `/`.
-fn container_path(manifest: Name, last: &str) -> Option<Path>
-    ensures { result ≡ container_path manifest last.now }
-{
-    if last.is_empty() {
-        Some(Path::Container { manifest })
-    } else {
-        None
-    }
-}
-
-fn canvas_path(manifest: Name, last: &str) -> Option<Path>
-    ensures { result ≡ canvas_path manifest last.now }
-{
-    match number_in(last) {
-        Some(canvas) => Some(Path::Canvas { manifest, canvas }),
-        None => None,
-    }
-}
-
-fn path_named(kind: &str, name: Name) -> Option<Path>
-    ensures { result ≡ path_named kind.now name }
-{
-    match kind {
-        "readers" => Some(Path::Object(Object::Reader(name))),
-        "manifests" => Some(Path::Object(Object::Manifest(name))),
-        "search" => Some(Path::Search { manifest: name }),
-        "autocomplete" => Some(Path::Complete { manifest: name }),
-        _ => None,
-    }
-}
-
-fn path_owned(kind: &str, owner: Name, name: Name) -> Option<Path>
-    ensures { result ≡ path_owned kind.now owner name }
-{
-    match kind {
-        "annotations" => Some(Path::Object(Object::Note { owner, name })),
-        _ => None,
-    }
-}
-
-fn methods_at(path: &Path) -> Allow
-    ensures { result ≡ methods_at path.now }
-{
-    match path {
-        Path::Object(object) => object_methods(object),
-        Path::Search { .. } => Allow::ReadOnly,
-        Path::Complete { .. } => Allow::ReadOnly,
-        Path::Canvas { .. } => Allow::ReadOnly,
-        Path::Container { .. } => Allow::ReadOnly,
-        Path::Changes => Allow::ReadOnly,
-    }
-}
-
-fn object_methods(object: &Object) -> Allow
-    ensures { result ≡ object_methods object.now }
-{
-    match object {
-        Object::Reader(_) => Allow::WriteOnly,
-        Object::Manifest(_) => Allow::Full,
-        Object::Note { .. } => Allow::Full,
-    }
-}
-
-fn verb_of(method: &str) -> Option<Verb>
-    ensures { result ≡ verb_of method.now }
+fn meant_at(
+    alloc: Global,
+    path: Path,
+    query: &str,
+    method: Option<Method>,
+) -> Result<Route, Unrouted>
+    ensures { Gives (λ route. route) Unrouted.Memory result (meant_at path query.now method) }
 {
     match method {
-        "GET" => Some(Verb::Read),
-        "HEAD" => Some(Verb::Read),
-        "OPTIONS" => Some(Verb::Options),
-        "PUT" => Some(Verb::Put),
-        "DELETE" => Some(Verb::Delete),
-        _ => None,
-    }
-}
-
-fn route_at(alloc: Global, path: Path, query: &str, verb: Option<Verb>) -> Result<Route, RouteError>
-    ensures { Gives (λ route. route) RouteError.Memory result (route_at path query.now verb) }
-{
-    match verb {
-        Some(Verb::Options) => Ok(Route::Options(methods_at(&path))),
-        Some(Verb::Read) => read_at(alloc, path, query),
-        Some(Verb::Put) => put_at(alloc, path, query),
-        Some(Verb::Delete) => delete_at(alloc, path, query),
-        None => Err(RouteError::Method {
-            allow: methods_at(&path),
-        }),
+        Some(Method::Options) => Ok(Route::Options(path.kind().methods())),
+        Some(Method::Get) => read_at(alloc, path, query),
+        Some(Method::Head) => read_at(alloc, path, query),
+        Some(Method::Put) => put_at(alloc, path, query),
+        Some(Method::Delete) => delete_at(alloc, path, query),
+        None => Err(Unrouted::Method),
     }
 }
 
 // ---- reads
 
-fn read_at(alloc: Global, path: Path, query: &str) -> Result<Route, RouteError>
-    ensures { Gives (λ route. route) RouteError.Memory result (read_at path query.now) }
+fn read_at(alloc: Global, path: Path, query: &str) -> Result<Route, Unrouted>
+    ensures { Gives (λ route. route) Unrouted.Memory result (read_at path query.now) }
 {
     match path {
         Path::Object(object) => object_read(alloc, object, query),
@@ -218,56 +114,53 @@ fn read_at(alloc: Global, path: Path, query: &str) -> Result<Route, RouteError>
     }
 }
 
-/// Readers are never read.
-fn object_read(alloc: Global, object: Object, query: &str) -> Result<Route, RouteError>
-    ensures { Gives (λ route. route) RouteError.Memory result (object_read object query.now) }
+fn object_read(alloc: Global, object: Object, query: &str) -> Result<Route, Unrouted>
+    ensures { Gives (λ route. route) Unrouted.Memory result (object_read object query.now) }
 {
     match object {
-        Object::Reader(_) => Err(RouteError::Method {
-            allow: Allow::WriteOnly,
-        }),
+        Object::Reader(_) => Err(Unrouted::Method),
         Object::Manifest(name) => shown(alloc, Read::Manifest { name }, query),
         Object::Note { owner, name } => shown(alloc, Read::Note { owner, name }, query),
     }
 }
 
 /// The stream of changes, or a page of it.
-fn changes_read(alloc: Global, query: &str) -> Result<Route, RouteError>
-    ensures { Gives (λ route. route) RouteError.Memory result
-        (changes_read (given_of reads_page query.now)) }
+fn changes_read(alloc: Global, query: &str) -> Result<Route, Unrouted>
+    ensures { Gives (λ route. route) Unrouted.Memory result
+        (changes_read (given_of (row_of kind.Changes).get query.now)) }
 {
-    match given_in(alloc, &READS_PAGE, query) {
+    match given_in(alloc, &CHANGES_READS, query) {
         Ok(Ok(given)) => match page_of(given.as_slice()) {
             Ok(Some(page)) => Ok(Route::Read(Read::ChangesPage { page })),
             Ok(None) => Ok(Route::Read(Read::Changes)),
-            Err(code) => Err(unread(code)),
+            Err(code) => Err(Unrouted::Query(code)),
         },
-        Ok(Err(code)) => Err(unread(code)),
-        Err(_) => Err(RouteError::Memory),
+        Ok(Err(code)) => Err(Unrouted::Query(code)),
+        Err(_) => Err(Unrouted::Memory),
     }
 }
 
 /// A container, or a page of it.
-fn container_read(alloc: Global, manifest: Name, query: &str) -> Result<Route, RouteError>
-    ensures { Gives (λ route. route) RouteError.Memory result
-        (container_read manifest (given_of reads_page_and_iris query.now)) }
+fn container_read(alloc: Global, manifest: Name, query: &str) -> Result<Route, Unrouted>
+    ensures { Gives (λ route. route) Unrouted.Memory result
+        (container_read manifest (given_of (row_of kind.Container).get query.now)) }
 {
-    match given_in(alloc, &READS_PAGE_AND_IRIS, query) {
+    match given_in(alloc, &CONTAINER_READS, query) {
         Ok(Ok(given)) => container_given(manifest, given.as_slice()),
-        Ok(Err(code)) => Err(unread(code)),
-        Err(_) => Err(RouteError::Memory),
+        Ok(Err(code)) => Err(Unrouted::Query(code)),
+        Err(_) => Err(Unrouted::Memory),
     }
 }
 
-fn container_given(manifest: Name, given: &[Pair]) -> Result<Route, RouteError>
+fn container_given(manifest: Name, given: &[Pair]) -> Result<Route, Unrouted>
     ensures { result ≡ container_read manifest (Ok given.now) }
 {
     match page_of(given) {
         Ok(page) => match iris_of(given) {
             Ok(iris) => Ok(Route::Read(container_at(manifest, page, iris))),
-            Err(code) => Err(unread(code)),
+            Err(code) => Err(Unrouted::Query(code)),
         },
-        Err(code) => Err(unread(code)),
+        Err(code) => Err(Unrouted::Query(code)),
     }
 }
 
@@ -285,18 +178,18 @@ fn container_at(manifest: Name, page: Option<u32>, iris: bool) -> Read
 }
 
 /// A page of the annotations on a canvas, the first where none is asked for.
-fn canvas_read(alloc: Global, manifest: Name, canvas: u32, query: &str) -> Result<Route, RouteError>
-    ensures { Gives (λ route. route) RouteError.Memory result
-        (canvas_read manifest canvas (given_of reads_page_and_region query.now)) }
+fn canvas_read(alloc: Global, manifest: Name, canvas: u32, query: &str) -> Result<Route, Unrouted>
+    ensures { Gives (λ route. route) Unrouted.Memory result
+        (canvas_read manifest canvas (given_of (row_of kind.Canvas).get query.now)) }
 {
-    match given_in(alloc, &READS_PAGE_AND_REGION, query) {
+    match given_in(alloc, &CANVAS_READS, query) {
         Ok(Ok(given)) => canvas_given(manifest, canvas, given.as_slice()),
-        Ok(Err(code)) => Err(unread(code)),
-        Err(_) => Err(RouteError::Memory),
+        Ok(Err(code)) => Err(Unrouted::Query(code)),
+        Err(_) => Err(Unrouted::Memory),
     }
 }
 
-fn canvas_given(manifest: Name, canvas: u32, given: &[Pair]) -> Result<Route, RouteError>
+fn canvas_given(manifest: Name, canvas: u32, given: &[Pair]) -> Result<Route, Unrouted>
     ensures { result ≡ canvas_read manifest canvas (Ok given.now) }
 {
     match page_of(given) {
@@ -307,32 +200,29 @@ fn canvas_given(manifest: Name, canvas: u32, given: &[Pair]) -> Result<Route, Ro
                 region,
                 page: page.unwrap_or(1),
             })),
-            Err(code) => Err(unread(code)),
+            Err(code) => Err(Unrouted::Query(code)),
         },
-        Err(code) => Err(unread(code)),
+        Err(code) => Err(Unrouted::Query(code)),
     }
 }
 
 /// A read that no parameter changes.
-fn shown(alloc: Global, read: Read, query: &str) -> Result<Route, RouteError>
-    ensures { Gives (λ route. route) RouteError.Memory result
-        (shown read (given_of reads_nothing query.now)) }
+fn shown(alloc: Global, read: Read, query: &str) -> Result<Route, Unrouted>
+    ensures { Gives (λ route. route) Unrouted.Memory result
+        (shown read (given_of [] query.now)) }
 {
     match given_in(alloc, &READS_NOTHING, query) {
         Ok(given) => match given {
             Ok(_) => Ok(Route::Read(read)),
-            Err(code) => Err(RouteError::Query {
-                allow: Allow::Full,
-                code,
-            }),
+            Err(code) => Err(Unrouted::Query(code)),
         },
-        Err(_) => Err(RouteError::Memory),
+        Err(_) => Err(Unrouted::Memory),
     }
 }
 
 /// A search with its query, or the first refusal of the query.
-fn searched(alloc: Global, manifest: Name, query: &str) -> Result<Route, RouteError>
-    ensures { Gives (λ route. route) RouteError.Memory result
+fn searched(alloc: Global, manifest: Name, query: &str) -> Result<Route, Unrouted>
+    ensures { Gives (λ route. route) Unrouted.Memory result
         (searched manifest (query_of query.now)) }
 {
     match read_query(alloc, query) {
@@ -341,21 +231,21 @@ fn searched(alloc: Global, manifest: Name, query: &str) -> Result<Route, RouteEr
     }
 }
 
-fn query_refused(error: QueryError) -> RouteError
+fn query_refused(error: QueryError) -> Unrouted
     ensures { result ≡ query_refused error }
 {
     match error {
-        QueryError::Twice { name } => unread(Code::Twice { name }),
-        QueryError::Date { at } => unread(Code::Date { at }),
-        QueryError::Page => unread(Code::Page),
-        QueryError::Bytes => unread(Code::Bytes),
-        QueryError::Memory => RouteError::Memory,
+        QueryError::Twice { name } => Unrouted::Query(Code::Twice { name }),
+        QueryError::Date { at } => Unrouted::Query(Code::Date { at }),
+        QueryError::Page => Unrouted::Query(Code::Page),
+        QueryError::Bytes => Unrouted::Query(Code::Bytes),
+        QueryError::Memory => Unrouted::Memory,
     }
 }
 
 /// A completion with what it asks, or the first refusal of that.
-fn completed(alloc: Global, manifest: Name, query: &str) -> Result<Route, RouteError>
-    ensures { Gives (λ route. route) RouteError.Memory result
+fn completed(alloc: Global, manifest: Name, query: &str) -> Result<Route, Unrouted>
+    ensures { Gives (λ route. route) Unrouted.Memory result
         (completed manifest (ask_of query.now)) }
 {
     match read_ask(alloc, query) {
@@ -364,77 +254,52 @@ fn completed(alloc: Global, manifest: Name, query: &str) -> Result<Route, RouteE
     }
 }
 
-fn ask_refused(error: QueryAskError) -> RouteError
+fn ask_refused(error: QueryAskError) -> Unrouted
     ensures { result ≡ ask_refused error }
 {
     match error {
-        QueryAskError::NoPrefix => unread(Code::Prefix),
-        QueryAskError::Min => unread(Code::Min),
-        QueryAskError::Twice { name } => unread(Code::Twice { name }),
-        QueryAskError::Date { at } => unread(Code::Date { at }),
-        QueryAskError::Bytes => unread(Code::Bytes),
-        QueryAskError::Memory => RouteError::Memory,
-    }
-}
-
-/// The refusal of the query of a search or a completion.
-fn unread(code: Code) -> RouteError
-    ensures { result ≡ unread code }
-{
-    RouteError::Query {
-        allow: Allow::ReadOnly,
-        code,
+        QueryAskError::NoPrefix => Unrouted::Query(Code::Prefix),
+        QueryAskError::Min => Unrouted::Query(Code::Min),
+        QueryAskError::Twice { name } => Unrouted::Query(Code::Twice { name }),
+        QueryAskError::Date { at } => Unrouted::Query(Code::Date { at }),
+        QueryAskError::Bytes => Unrouted::Query(Code::Bytes),
+        QueryAskError::Memory => Unrouted::Memory,
     }
 }
 
 // ---- writes
 
-fn put_at(alloc: Global, path: Path, query: &str) -> Result<Route, RouteError>
-    ensures { Gives (λ route. route) RouteError.Memory result (put_at path query.now) }
+fn put_at(alloc: Global, path: Path, query: &str) -> Result<Route, Unrouted>
+    ensures { Gives (λ route. route) Unrouted.Memory result (put_at path query.now) }
 {
     match path {
-        Path::Object(object) => {
-            let allow = object_methods(&object);
-            match put_of(alloc, object, query) {
-                Ok(write) => written(allow, write),
-                Err(_) => Err(RouteError::Memory),
-            }
-        }
-        _ => unwritten(),
+        Path::Object(object) => match put_of(alloc, object, query) {
+            Ok(write) => written(write),
+            Err(_) => Err(Unrouted::Memory),
+        },
+        _ => Err(Unrouted::Method),
     }
 }
 
-fn delete_at(alloc: Global, path: Path, query: &str) -> Result<Route, RouteError>
-    ensures { Gives (λ route. route) RouteError.Memory result (delete_at path query.now) }
+fn delete_at(alloc: Global, path: Path, query: &str) -> Result<Route, Unrouted>
+    ensures { Gives (λ route. route) Unrouted.Memory result (delete_at path query.now) }
 {
     match path {
-        Path::Object(object) => {
-            let allow = object_methods(&object);
-            match deletion_of(alloc, object, query) {
-                Ok(write) => written(allow, write),
-                Err(_) => Err(RouteError::Memory),
-            }
-        }
-        _ => unwritten(),
+        Path::Object(object) => match deletion_of(alloc, object, query) {
+            Ok(write) => written(write),
+            Err(_) => Err(Unrouted::Memory),
+        },
+        _ => Err(Unrouted::Method),
     }
 }
 
-fn written(allow: Allow, write: Result<WriteRoute, Code>) -> Result<Route, RouteError>
-    ensures { result ≡ written allow write }
+fn written(write: Result<WriteRoute, Code>) -> Result<Route, Unrouted>
+    ensures { result ≡ written write }
 {
     match write {
         Ok(write) => Ok(Route::Write(write)),
-        Err(code) => Err(RouteError::Query { allow, code }),
+        Err(code) => Err(Unrouted::Query(code)),
     }
-}
-
-/// What is no object is read alone.
-fn unwritten() -> Result<Route, RouteError>
-    ensures { result ≡ unwritten }
-{
-    Err(RouteError::Method {
-        allow: Allow::ReadOnly,
-    })
 }
 
 /// The put of an object, with what its query gives.
@@ -451,17 +316,6 @@ fn put_of(
             None => Ok(Err(Code::VersionForm)),
         },
         Err(refusal) => Ok(Err(refusal)),
-    }
-}
-
-/// The parameters that a put of the object reads.
-fn put_reads(object: &Object) -> &'static [Parameter]
-    ensures { result.now ≡ put_reads object.now }
-{
-    match object {
-        Object::Reader(_) => &READS_VERSION,
-        Object::Manifest(_) => &READS_VERSION_AND_GROUP,
-        Object::Note { .. } => &READS_ALL,
     }
 }
 
@@ -530,7 +384,7 @@ fn deletion_of(
 ) -> Result<Result<WriteRoute, Code>, AllocError>
     ensures { IfOk result (λ write. write ≡ deletion_of object query.now) }
 {
-    match given_in(alloc, &READS_VERSION, query)? {
+    match given_in(alloc, &NUMBER_READS, query)? {
         Ok(given) => match version_of(given.as_slice()) {
             Some(version) => Ok(Ok(deletion(object, version))),
             None => Ok(Err(Code::VersionForm)),

@@ -5,8 +5,8 @@ use Rattle.std.proofs.lemmas.Bool.{cases_Bool, and_parts, and_from, cond-true, c
 use Rattle.std.proofs.lemmas.Bool.Decides.{nat_tests}
 use Rattle.an_keep.specs.declared.cell.Cell.{Cell}
 use Rattle.an_keep.specs.Cells.{comes_before, is_at, is_before, is_behind, put_cell}
-use Rattle.an_machine.specs.declared.entry.Row.{Row}
-use Rattle.an_machine.proofs.DistinctLemmas.{set_or_push}
+use Rattle.an_state.specs.declared.entry.Row.{Row}
+use Rattle.an_state.proofs.DistinctLemmas.{set_or_push}
 use Rattle.an_rows.specs.RowTree.{table_of}
 use Rattle.an_rows.specs.Cells.{cell_of, cells_from}
 

@@ -9,15 +9,15 @@ use Rattle.an_keyed.specs.Key.{Key, same_key}
 use Rattle.an_keyed.specs.Rows.{put_row}
 use Rattle.an_keep.specs.declared.cell.Cell.{Cell}
 use Rattle.an_keep.specs.Cells.{is_at, is_before, is_behind, put_cell, put_changes}
-use Rattle.an_machine.specs.Entries.{with_row, with_rows, after}
-use Rattle.an_machine.specs.State.{State, reader_key, manifest_key, note_key}
-use Rattle.an_machine.specs.View.{activity_key}
-use Rattle.an_machine.specs.declared.activity.Activity.{Activity}
-use Rattle.an_machine.specs.declared.entry.Entry.{Entry}
-use Rattle.an_machine.specs.declared.entry.Entry.TheVariants.{Restored, Done}
-use Rattle.an_machine.specs.declared.entry.Row.{Row}
-use Rattle.an_machine.specs.declared.entry.Row.TheVariants as kept
-use Rattle.an_machine.proofs.DistinctLemmas.{put_at-position}
+use Rattle.an_state.specs.Entries.{with_row, with_rows, after}
+use Rattle.an_state.specs.State.{State, reader_key, manifest_key, note_key}
+use Rattle.an_state.specs.View.{activity_key}
+use Rattle.an_state.specs.declared.activity.Activity.{Activity}
+use Rattle.an_state.specs.declared.entry.Entry.{Entry}
+use Rattle.an_state.specs.declared.entry.Entry.TheVariants.{Restored, Done}
+use Rattle.an_state.specs.declared.entry.Row.{Row}
+use Rattle.an_state.specs.declared.entry.Row.TheVariants as kept
+use Rattle.an_state.proofs.DistinctLemmas.{put_at-position}
 use Rattle.an_rows.specs.RowTree.{table_of}
 use Rattle.an_rows.specs.Cells.{cell_of, cells_from, row_cells, first_cell, with_first, cells}
 use Rattle.an_rows.specs.Changes.{place_among, place_in, rows_of, row_changes, with_format, changes_of}

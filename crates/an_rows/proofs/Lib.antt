@@ -14,5 +14,4 @@ pub mod PartLemmas
 pub mod FieldLemmas
 pub mod SettledLemmas
 pub mod FormatLemmas
-pub mod AcceptedLemmas
 pub mod PlaceLemmas

@@ -16,18 +16,18 @@ use Rattle.an_keyed.proofs.HashesLemmas.{slice_get-push-within}
 use Rattle.an_keep.specs.declared.cell.Cell.{Cell}
 use Rattle.an_keep.specs.Cells.{is_before, is_behind, is_ascending, Ascend, put_cell}
 use Rattle.an_policy.specs.declared.reader.Reader.{Reader}
-use Rattle.an_machine.specs.Accepted.{last_moment}
-use Rattle.an_machine.specs.Entries.{with_row}
-use Rattle.an_machine.specs.Sound.{is_sound, agrees, tokens_are_distinct, is_live_manifest, stands_on_live, moments_never_fall}
-use Rattle.an_machine.specs.State.{State, KeptReader, KeptManifest, KeptNote, LiveNote, empty, reader_key, manifest_key, note_key, is_distinct}
-use Rattle.an_machine.specs.declared.activity.Activity.{Activity}
-use Rattle.an_machine.specs.declared.entry.Row.{Row}
-use Rattle.an_machine.specs.declared.entry.Row.TheVariants as kept
-use Rattle.an_machine.proofs.DistinctLemmas.{distinct-put_row}
+use Rattle.an_state.specs.View.{last_moment}
+use Rattle.an_state.specs.Entries.{with_row}
+use Rattle.an_state.specs.Sound.{is_sound, agrees, tokens_are_distinct, is_live_manifest, stands_on_live, moments_never_fall}
+use Rattle.an_state.specs.State.{State, KeptReader, KeptManifest, KeptNote, LiveNote, empty, reader_key, manifest_key, note_key, is_distinct}
+use Rattle.an_state.specs.declared.activity.Activity.{Activity}
+use Rattle.an_state.specs.declared.entry.Row.{Row}
+use Rattle.an_state.specs.declared.entry.Row.TheVariants as kept
+use Rattle.an_state.proofs.DistinctLemmas.{distinct-put_row}
 use Rattle.an_rows.specs.RowRead.{row_of_text}
 use Rattle.an_rows.specs.Valid.{is_valid, is_valid_row, is_valid_reader_row, is_valid_manifest_row, is_valid_note_row, is_valid_activity}
 use Rattle.an_base.specs.Name.{is_name}
-use Rattle.an_machine.specs.Commands.{is_number}
+use Rattle.an_state.specs.Commands.{is_number}
 use Rattle.an_rows.specs.Cells.{Place, place_of, cell_of, row_cells, first_cell, with_first, cells, rows_before, has_key, may_follow, if_next, row_behind, restored, is_first, state_of}
 use Rattle.an_rows.specs.Changes.{place_in}
 use Rattle.an_rows.proofs.CellLemmas.{put_cell-past, position-new}

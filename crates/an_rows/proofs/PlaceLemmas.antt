@@ -5,12 +5,12 @@ use Rattle.std.specs.List.{position, position_or_len}
 use Rattle.std.proofs.lemmas.Bool.{cases_lt, lt-ltb, le-ltb}
 use Rattle.std.proofs.lemmas.List.Sums.{prefix_len-le-length}
 use Rattle.std.proofs.lemmas.Option.{same_Some}
-use Rattle.an_machine.specs.Entries.{with_row, with_rows}
-use Rattle.an_machine.specs.State.{State, KeptReader, KeptManifest, KeptNote}
-use Rattle.an_machine.specs.Tables.{length_of_list, place_of_object}
-use Rattle.an_machine.specs.declared.command.Object.TheVariants as object
-use Rattle.an_machine.specs.declared.entry.Row.{Row}
-use Rattle.an_machine.specs.declared.entry.Row.TheVariants as kept
+use Rattle.an_state.specs.Entries.{with_row, with_rows}
+use Rattle.an_state.specs.State.{State, KeptReader, KeptManifest, KeptNote}
+use Rattle.an_state.specs.Tables.{length_of_list, place_of_object}
+use Rattle.an_state.specs.declared.command.Object.TheVariants as object
+use Rattle.an_state.specs.declared.entry.Row.{Row}
+use Rattle.an_state.specs.declared.entry.Row.TheVariants as kept
 use Rattle.an_rows.specs.Changes.{place_in, all_but_first_stand}
 use Rattle.an_rows.proofs.SettledLemmas.{activities-settled}
 

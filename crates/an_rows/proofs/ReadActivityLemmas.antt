@@ -15,9 +15,9 @@ use Rattle.an_policy.specs.declared.group.Audience.{Audience}
 use Rattle.an_policy.specs.declared.group.Group.{Group}
 use Rattle.an_policy.specs.declared.group.Group.TheVariants.{Public, Private, Named}
 use Rattle.an_policy.proofs.GroupLemmas as groups
-use Rattle.an_machine.specs.declared.activity.Activity.{Activity}
-use Rattle.an_machine.specs.declared.entry.Row.{Row}
-use Rattle.an_machine.specs.declared.entry.Row.TheVariants as kept
+use Rattle.an_state.specs.declared.activity.Activity.{Activity}
+use Rattle.an_state.specs.declared.entry.Row.{Row}
+use Rattle.an_state.specs.declared.entry.Row.TheVariants as kept
 use Rattle.an_rows.specs.RowTree.{moment_tree, given, audience_tree, by_text, activity_members, row_text, table_of}
 use Rattle.an_rows.specs.Valid.{if_any, is_manifest_group, is_public, is_inner, is_valid_audience, is_valid_activity, is_valid_row}
 use Rattle.an_rows.specs.RowRead.{name_in, moment_in, group_in, if_audience, audience_of, audience_if, if_seen, activity_on, activity_in, row_of_text}

@@ -22,12 +22,12 @@ use Rattle.an_policy.specs.declared.reader.Reader.{Reader}
 use Rattle.an_policy.specs.declared.reader.ReaderError.TheVariants as error
 use Rattle.an_policy.specs.declared.reader.Role.{Role}
 use Rattle.an_policy.specs.declared.reader.Role.TheVariants as role
-use Rattle.an_machine.specs.Commands.{is_number}
-use Rattle.an_machine.specs.Rows.{reader_agrees}
-use Rattle.an_machine.specs.Sound.{agrees}
-use Rattle.an_machine.specs.State.{KeptReader}
-use Rattle.an_machine.specs.declared.entry.Row.{Row}
-use Rattle.an_machine.specs.declared.entry.Row.TheVariants as kept
+use Rattle.an_state.specs.Commands.{is_number}
+use Rattle.an_state.specs.Rows.{reader_agrees}
+use Rattle.an_state.specs.Sound.{agrees}
+use Rattle.an_state.specs.State.{KeptReader}
+use Rattle.an_state.specs.declared.entry.Row.{Row}
+use Rattle.an_state.specs.declared.entry.Row.TheVariants as kept
 use Rattle.an_rows.specs.RowTree.{text_items, role_text, live_reader_members, reader_tombstone_members, row_members, row_text, table_of}
 use Rattle.an_rows.specs.Valid.{are_groups, are_groups_behind, is_iri, is_valid_reader, is_valid_reader_row, if_any}
 use Rattle.an_rows.specs.RowRead.{then_read, name_in, version_in, flag_in, reader_named, reader_row_in, row_in, row_of_text}

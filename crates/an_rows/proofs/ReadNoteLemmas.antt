@@ -16,9 +16,9 @@ use Rattle.an_policy.specs.Group.{group_text, is_valid_group}
 use Rattle.an_policy.specs.Reader.{is_user}
 use Rattle.an_policy.specs.declared.group.Group.{Group}
 use Rattle.an_policy.proofs.GroupLemmas as groups
-use Rattle.an_machine.specs.Commands.{is_number}
-use Rattle.an_machine.specs.State.{KeptNote, LiveNote}
-use Rattle.an_machine.specs.declared.entry.Row.TheVariants as kept
+use Rattle.an_state.specs.Commands.{is_number}
+use Rattle.an_state.specs.State.{KeptNote, LiveNote}
+use Rattle.an_state.specs.declared.entry.Row.TheVariants as kept
 use Rattle.an_rows.specs.RowTree.{moment_tree, live_note_ending, live_note_members, note_tombstone_members, row_text}
 use Rattle.an_rows.specs.Valid.{is_iri, is_tombstone_number, is_note, if_any, is_valid_live_note, is_number_of_note, is_valid_note_row}
 use Rattle.an_rows.specs.RowRead.{name_in, flag_in, version_in, tombstone_version_in, moment_in, group_in, creator_in, tree_in, live_note_on, live_note_in, live_note_named, note_tombstone_named, note_named, note_row_in, row_of_text}

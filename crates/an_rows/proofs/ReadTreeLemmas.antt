@@ -13,9 +13,9 @@ use Rattle.an_manifest.proofs.ManifestLemmas.{kept_again}
 use Rattle.an_policy.specs.Group.{group_named, group_text}
 use Rattle.an_policy.specs.declared.group.Group.{Group}
 use Rattle.an_policy.proofs.GroupLemmas as group
-use Rattle.an_machine.specs.Commands.{is_number}
-use Rattle.an_machine.specs.State.{KeptManifest, LiveManifest}
-use Rattle.an_machine.specs.declared.entry.Row.TheVariants as kept
+use Rattle.an_state.specs.Commands.{is_number}
+use Rattle.an_state.specs.State.{KeptManifest, LiveManifest}
+use Rattle.an_state.specs.declared.entry.Row.TheVariants as kept
 use Rattle.an_rows.specs.RowTree.{moment_tree, live_manifest_members, manifest_tombstone_members, row_text}
 use Rattle.an_rows.specs.Valid.{is_manifest_group, is_sheet, if_any, is_valid_live_manifest, is_valid_manifest_row}
 use Rattle.an_rows.specs.RowRead.{then_read, name_in, flag_in, version_in, moment_in, manifest_group_in, tree_in, live_manifest_in, manifest_if_live, manifest_named, manifest_row_in, row_of_text}

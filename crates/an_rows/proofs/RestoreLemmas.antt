@@ -12,14 +12,14 @@ use Rattle.an_keyed.specs.Key.{Key, same_key}
 use Rattle.an_keyed.specs.Rows.{put_row, keys_are_distinct}
 use Rattle.an_keep.specs.declared.cell.Cell.{Cell}
 use Rattle.an_policy.specs.declared.reader.Reader.{Reader}
-use Rattle.an_machine.specs.Accepted.{last_moment}
-use Rattle.an_machine.specs.Entries.{with_row}
-use Rattle.an_machine.specs.Sound.{is_sound, agrees, tokens_are_distinct, stands_on_live, moments_never_fall}
-use Rattle.an_machine.specs.State.{State, KeptReader, KeptManifest, KeptNote, empty, reader_key, manifest_key, note_key, live_readers, is_distinct, manifests_are_distinct}
-use Rattle.an_machine.specs.declared.activity.Activity.{Activity}
-use Rattle.an_machine.specs.declared.entry.Row.{Row}
-use Rattle.an_machine.specs.declared.entry.Row.TheVariants as kept
-use Rattle.an_machine.proofs.DistinctLemmas.{put_at-position, other-key}
+use Rattle.an_state.specs.View.{last_moment}
+use Rattle.an_state.specs.Entries.{with_row}
+use Rattle.an_state.specs.Sound.{is_sound, agrees, tokens_are_distinct, stands_on_live, moments_never_fall}
+use Rattle.an_state.specs.State.{State, KeptReader, KeptManifest, KeptNote, empty, reader_key, manifest_key, note_key, live_readers, is_distinct, manifests_are_distinct}
+use Rattle.an_state.specs.declared.activity.Activity.{Activity}
+use Rattle.an_state.specs.declared.entry.Row.{Row}
+use Rattle.an_state.specs.declared.entry.Row.TheVariants as kept
+use Rattle.an_state.proofs.DistinctLemmas.{put_at-position, other-key}
 use Rattle.an_rows.specs.Valid.{is_valid, is_valid_row, is_valid_reader_row, is_valid_manifest_row, is_valid_note_row, is_valid_activity}
 use Rattle.an_rows.specs.Cells.{place_of, cell_of, cells_from, row_cells, first_cell, with_first, cells, rows_before, has_key, has_its_token, may_follow, if_next, row_behind, restored, is_first, state_of}
 use Rattle.an_rows.proofs.CellLemmas.{set_or_push-new}

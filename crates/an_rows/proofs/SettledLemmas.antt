@@ -5,13 +5,13 @@ use Rattle.std.proofs.lemmas.Bool.{cases_Bool, and_parts, cond_both}
 use Rattle.an_keyed.specs.Key.{Key, same_key}
 use Rattle.an_keyed.specs.Rows.{put_row}
 use Rattle.an_keep.specs.declared.cell.Change.{Change}
-use Rattle.an_machine.specs.Entries.{with_row, with_rows}
-use Rattle.an_machine.specs.State.{State, reader_key, manifest_key, note_key}
-use Rattle.an_machine.specs.declared.activity.Activity.{Activity}
-use Rattle.an_machine.specs.declared.entry.Row.{Row}
-use Rattle.an_machine.specs.declared.entry.Row.TheVariants as kept
-use Rattle.an_machine.proofs.DistinctLemmas.{set_or_push, put_at-position}
-use Rattle.an_machine.proofs.ViewLemmas.{same_key-equal}
+use Rattle.an_state.specs.Entries.{with_row, with_rows}
+use Rattle.an_state.specs.State.{State, reader_key, manifest_key, note_key}
+use Rattle.an_state.specs.declared.activity.Activity.{Activity}
+use Rattle.an_state.specs.declared.entry.Row.{Row}
+use Rattle.an_state.specs.declared.entry.Row.TheVariants as kept
+use Rattle.an_state.proofs.DistinctLemmas.{set_or_push, put_at-position}
+use Rattle.an_state.proofs.ViewLemmas.{same_key-equal}
 use Rattle.an_rows.specs.Cells.{cell_of, cells_from}
 use Rattle.an_rows.specs.Changes.{put, place_in, stands_in, all_but_first_stand, row_changes}
 use Rattle.an_rows.specs.Lent.{change_in}

@@ -14,7 +14,7 @@ use Rattle.an_base.specs.Outcome.{only_if, or_refuse}
 use Rattle.an_base.specs.Tree.{ascend, names, is_whole, members_are_whole, json_of}
 use Rattle.an_base.specs.Value.{if_whole, value_of}
 use Rattle.an_base.specs.declared.tree.TreeError.TheVariants.{Json, NotWhole}
-use Rattle.an_machine.specs.declared.entry.Row.{Row}
+use Rattle.an_state.specs.declared.entry.Row.{Row}
 use Rattle.an_rows.specs.RowTree.{row_text}
 use Rattle.an_rows.specs.RowRead.{then_read, if_its_text}
 use Rattle.an_rows.specs.Valid.{if_any}

@@ -16,8 +16,8 @@ use Rattle.an_policy.specs.Reader.{is_user, token_in, role_in, user_in, group_in
 use Rattle.an_policy.specs.declared.reader.Reader.{Reader}
 use Rattle.an_policy.specs.declared.reader.ReaderError.{ReaderError}
 use Rattle.an_policy.specs.declared.reader.ReaderError.TheVariants as error
-use Rattle.an_machine.specs.Commands.{is_number}
-use Rattle.an_machine.specs.State.{KeptReader}
+use Rattle.an_state.specs.Commands.{is_number}
+use Rattle.an_state.specs.State.{KeptReader}
 use Rattle.an_rows.specs.RowRead.{name_in, flag_in, number_in, version_in, reader_named, reader_row_in}
 use Rattle.an_rows.specs.Valid.{are_groups, are_groups_behind, is_valid_reader, is_valid_reader_row}
 use Rattle.an_rows.specs.declared.refusal.RowError.{RowError}

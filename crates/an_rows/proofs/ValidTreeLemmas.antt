@@ -23,11 +23,11 @@ use Rattle.an_policy.specs.Reader.{is_user}
 use Rattle.an_policy.specs.declared.group.Audience.{Audience}
 use Rattle.an_policy.specs.declared.group.Group.{Group}
 use Rattle.an_policy.proofs.GroupLemmas as groups
-use Rattle.an_machine.specs.Commands.{is_number}
-use Rattle.an_machine.specs.State.{KeptManifest, LiveManifest, KeptNote, LiveNote}
-use Rattle.an_machine.specs.declared.activity.Activity.{Activity}
-use Rattle.an_machine.specs.declared.entry.Row.{Row}
-use Rattle.an_machine.specs.declared.entry.Row.TheVariants as kept
+use Rattle.an_state.specs.Commands.{is_number}
+use Rattle.an_state.specs.State.{KeptManifest, LiveManifest, KeptNote, LiveNote}
+use Rattle.an_state.specs.declared.activity.Activity.{Activity}
+use Rattle.an_state.specs.declared.entry.Row.{Row}
+use Rattle.an_state.specs.declared.entry.Row.TheVariants as kept
 use Rattle.an_rows.specs.RowTree.{row_text, table_of}
 use Rattle.an_rows.specs.RowRead.{then_read, name_in, flag_in, number_in, version_in, tombstone_version_in, moment_in, group_in, manifest_group_in, creator_in, tree_in, reader_row_in, live_manifest_in, manifest_if_live, manifest_named, manifest_row_in, live_note_on, live_note_in, live_note_named, note_tombstone_named, note_named, note_row_in, audience_of, audience_if, activity_on, activity_in, row_in, if_its_text, row_of_text}
 use Rattle.an_rows.specs.Valid.{if_any, is_iri, is_tombstone_number, is_manifest_group, is_sheet, is_note, is_valid_live_manifest, is_valid_manifest_row, is_valid_live_note, is_valid_note_row, is_valid_audience, is_valid_activity, is_valid_row}

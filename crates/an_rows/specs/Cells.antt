@@ -6,14 +6,14 @@ use Rattle.std.specs.Result.{result_ok}
 use Rattle.an_base.specs.Outcome.{passes, or_refuse}
 use Rattle.an_keyed.specs.Key.{Key, same_key}
 use Rattle.an_keep.specs.declared.cell.Cell.{Cell}
-use Rattle.an_machine.specs.Accepted.{last_moment}
-use Rattle.an_machine.specs.Entries.{with_row}
-use Rattle.an_machine.specs.Sound.{stands_on_live}
-use Rattle.an_machine.specs.State.{State, KeptReader, empty, reader_key, manifest_key, note_key}
-use Rattle.an_machine.specs.State.{live_readers}
-use Rattle.an_machine.specs.Tables.{length_of_list}
-use Rattle.an_machine.specs.declared.entry.Row.{Row}
-use Rattle.an_machine.specs.declared.entry.Row.TheVariants as kept
+use Rattle.an_state.specs.View.{last_moment}
+use Rattle.an_state.specs.Entries.{with_row}
+use Rattle.an_state.specs.Sound.{stands_on_live}
+use Rattle.an_state.specs.State.{State, KeptReader, empty, reader_key, manifest_key, note_key}
+use Rattle.an_state.specs.State.{live_readers}
+use Rattle.an_state.specs.Tables.{length_of_list}
+use Rattle.an_state.specs.declared.entry.Row.{Row}
+use Rattle.an_state.specs.declared.entry.Row.TheVariants as kept
 use Rattle.an_rows.specs.RowTree.{table_of, row_text}
 use Rattle.an_rows.specs.RowRead.{row_of_text}
 

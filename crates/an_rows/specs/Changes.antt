@@ -4,12 +4,12 @@ use Rattle.std.specs.List.{list_all, position_or_len}
 use Rattle.an_keyed.specs.Key.{Key, same_key}
 use Rattle.an_keep.specs.declared.cell.Cell.{Cell}
 use Rattle.an_keep.specs.declared.cell.Change.{Change}
-use Rattle.an_machine.specs.Entries.{with_row}
-use Rattle.an_machine.specs.State.{State, reader_key, manifest_key, note_key}
-use Rattle.an_machine.specs.declared.entry.Entry.{Entry}
-use Rattle.an_machine.specs.declared.entry.Entry.TheVariants.{Restored, Done}
-use Rattle.an_machine.specs.declared.entry.Row.{Row}
-use Rattle.an_machine.specs.declared.entry.Row.TheVariants as kept
+use Rattle.an_state.specs.Entries.{with_row}
+use Rattle.an_state.specs.State.{State, reader_key, manifest_key, note_key}
+use Rattle.an_state.specs.declared.entry.Entry.{Entry}
+use Rattle.an_state.specs.declared.entry.Entry.TheVariants.{Restored, Done}
+use Rattle.an_state.specs.declared.entry.Row.{Row}
+use Rattle.an_state.specs.declared.entry.Row.TheVariants as kept
 use Rattle.an_rows.specs.Cells.{cell_of, cells, first_cell, has_key, rows_before}
 
 -- where the row with this key stands, or the next place where there is none

@@ -2,8 +2,8 @@
 -- state has no row, and the change that puts one.
 use Rattle.std.specs.Prelude.{Bool, ◌&&◌, ◌==◌, length}
 use Rattle.an_keep.specs.declared.cell.Change.{Change}
-use Rattle.an_machine.specs.State as state
-use Rattle.an_machine.specs.declared.entry.Row.{Row}
+use Rattle.an_state.specs.State as state
+use Rattle.an_state.specs.declared.entry.Row.{Row}
 use Rattle.an_rows.specs.Cells.{cell_of}
 use Rattle.an_rows.specs.Changes.{place_in, put}
 use Rattle.an_rows.specs.declared.manifests.LiveManifest.{LiveManifest}

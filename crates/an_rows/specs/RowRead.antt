@@ -19,11 +19,11 @@ use Rattle.an_policy.specs.Group.{group_named}
 use Rattle.an_policy.specs.Reader.{is_user, reader_of}
 use Rattle.an_policy.specs.declared.group.Audience.{Audience}
 use Rattle.an_policy.specs.declared.group.Group.{Group}
-use Rattle.an_machine.specs.Commands.{is_number}
-use Rattle.an_machine.specs.State.{KeptReader, KeptManifest, LiveManifest, KeptNote, LiveNote}
-use Rattle.an_machine.specs.declared.activity.Activity.{Activity}
-use Rattle.an_machine.specs.declared.entry.Row.{Row}
-use Rattle.an_machine.specs.declared.entry.Row.TheVariants as kept
+use Rattle.an_state.specs.Commands.{is_number}
+use Rattle.an_state.specs.State.{KeptReader, KeptManifest, LiveManifest, KeptNote, LiveNote}
+use Rattle.an_state.specs.declared.activity.Activity.{Activity}
+use Rattle.an_state.specs.declared.entry.Row.{Row}
+use Rattle.an_state.specs.declared.entry.Row.TheVariants as kept
 use Rattle.an_rows.specs.RowTree.{row_text}
 use Rattle.an_rows.specs.Valid.{is_tombstone_number, is_manifest_group, is_valid_audience}
 use Rattle.an_rows.specs.declared.refusal.RowError.{RowError}

@@ -10,10 +10,10 @@ use Rattle.an_policy.specs.declared.group.Audience.{Audience}
 use Rattle.an_policy.specs.declared.reader.Reader.{Reader}
 use Rattle.an_policy.specs.declared.reader.Role.{Role}
 use Rattle.an_policy.specs.declared.reader.Role.TheVariants as role
-use Rattle.an_machine.specs.State.{KeptReader, KeptManifest, LiveManifest, KeptNote, LiveNote}
-use Rattle.an_machine.specs.declared.activity.Activity.{Activity}
-use Rattle.an_machine.specs.declared.entry.Row.{Row}
-use Rattle.an_machine.specs.declared.entry.Row.TheVariants as kept
+use Rattle.an_state.specs.State.{KeptReader, KeptManifest, LiveManifest, KeptNote, LiveNote}
+use Rattle.an_state.specs.declared.activity.Activity.{Activity}
+use Rattle.an_state.specs.declared.entry.Row.{Row}
+use Rattle.an_state.specs.declared.entry.Row.TheVariants as kept
 
 -- ---- tables
 

@@ -18,14 +18,14 @@ use Rattle.an_policy.specs.declared.group.Audience.{Audience}
 use Rattle.an_policy.specs.declared.group.Group.{Group}
 use Rattle.an_policy.specs.declared.group.Group.TheVariants.{Public, Private, Named}
 use Rattle.an_policy.specs.declared.reader.Reader.{Reader}
-use Rattle.an_machine.specs.Asked.{is_private}
-use Rattle.an_machine.specs.Commands.{is_number}
-use Rattle.an_machine.specs.Sound.{agrees}
-use Rattle.an_machine.specs.State.{State, KeptReader, KeptManifest, LiveManifest, KeptNote}
-use Rattle.an_machine.specs.State.{LiveNote}
-use Rattle.an_machine.specs.declared.activity.Activity.{Activity}
-use Rattle.an_machine.specs.declared.entry.Row.{Row}
-use Rattle.an_machine.specs.declared.entry.Row.TheVariants as kept
+use Rattle.an_policy.specs.Group.{is_private}
+use Rattle.an_state.specs.Commands.{is_number}
+use Rattle.an_state.specs.Sound.{agrees}
+use Rattle.an_state.specs.State.{State, KeptReader, KeptManifest, LiveManifest, KeptNote}
+use Rattle.an_state.specs.State.{LiveNote}
+use Rattle.an_state.specs.declared.activity.Activity.{Activity}
+use Rattle.an_state.specs.declared.entry.Row.{Row}
+use Rattle.an_state.specs.declared.entry.Row.TheVariants as kept
 
 -- ---- parts
 

@@ -16,8 +16,8 @@ use crate::fields::{group_in, is_manifest_group, is_valid_group, moment_in, name
 use crate::members::{push_group, push_moment, push_owner};
 use crate::refusal::RowError;
 use an_base::{Moment, Name, close_members, push_name, push_text_member};
-use an_machine::Activity;
 use an_policy::{Audience, Group};
+use an_state::Activity;
 use serde_json::Value;
 use std::alloc::{AllocError, Global};
 

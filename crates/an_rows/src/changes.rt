@@ -1,7 +1,7 @@
 ghost use Rattle.std.specs.Prelude.{◌≡◌, ◌≤◌, ◌^◌, ◌++◌, [], ◌∷◌, length, map, unwrap_or};
 ghost use Rattle.std.specs.Prelude.{IfOk, IsTrue};
-ghost use Rattle.an_machine.specs.Entries.{with_row, with_rows};
-ghost use Rattle.an_machine.specs.Tables.{length_of_list, place_of_object};
+ghost use Rattle.an_state.specs.Entries.{with_row, with_rows};
+ghost use Rattle.an_state.specs.Tables.{length_of_list};
 ghost use Rattle.an_rows.specs.Cells.{cell_of, cells, cells_from, first_cell};
 ghost use Rattle.an_rows.specs.Changes.{all_but_first_stand, changes_of, is_settled, place_in, put};
 ghost use Rattle.an_rows.specs.Changes.{row_changes, rows_of, with_format};
@@ -9,10 +9,10 @@ ghost use Rattle.an_rows.specs.Lent.{change_in, has_no_row};
 ghost use Rattle.an_rows.specs.RowTree.{table_of};
 
 use crate::row::{activity_text, row_text};
-use an_base::{Bytes, TryCopy};
+use an_base::{Bytes, Shared, TryCopy};
 use an_keep::Change;
 use an_keyed::Keyed;
-use an_machine::{Activity, Book, Entry, ManifestRow, NoteRow, Object, ReaderRow, Row};
+use an_state::{Activity, Book, Entry, ManifestRow, NoteRow, Object, ReaderRow, Row};
 use std::alloc::{AllocError, Global};
 
 /// What the cells change by an entry, the book having the state before it. Of the rows that it puts
@@ -89,7 +89,7 @@ fn changes_of_rows(alloc: Global, entry: &Entry, book: &Book) -> Result<Vec<Chan
 fn changes_of_write(
     alloc: Global,
     rows: &[Row],
-    activities: &[Activity],
+    activities: &[Shared<Activity>],
     book: &Book,
 ) -> Result<Vec<Change>, AllocError>
     requires settled { IsTrue (all_but_first_stand book.now.state rows.now) }
@@ -153,8 +153,8 @@ fn place_in(row: &Row, book: &Book) -> Result<u64, AllocError>
 {
     match row {
         Row::Reader(row) => reader_place(row, book),
-        Row::Manifest(row) => manifest_place(row, book),
-        Row::Note(row) => note_place(row, book),
+        Row::Manifest(row) => manifest_place(row.get(), book),
+        Row::Note(row) => Ok(note_place(row.get(), book)),
         Row::Activity(_) => Ok(book.length(4) as u64),
     }
 }
@@ -164,7 +164,7 @@ fn reader_place(row: &ReaderRow, book: &Book) -> Result<u64, AllocError>
     ensures place { IfOk result (λ place. place ≡ place_in book.now.state (Row.Reader row.now)) }
 {
     let name = row.name().copy()?;
-    Ok(place_or_end(1, &Object::Reader(name), book))
+    Ok(place_or_end(1, book.place(&Object::Reader(name)), book))
 }
 
 #[tactic(auto, using(crate::proofs::PlaceLemmas::places))]
@@ -172,26 +172,23 @@ fn manifest_place(row: &ManifestRow, book: &Book) -> Result<u64, AllocError>
     ensures place { IfOk result (λ place. place ≡ place_in book.now.state (Row.Manifest row.now)) }
 {
     let name = row.name().copy()?;
-    Ok(place_or_end(2, &Object::Manifest(name), book))
+    Ok(place_or_end(2, book.place(&Object::Manifest(name)), book))
 }
 
 #[tactic(auto, using(crate::proofs::PlaceLemmas::places))]
-fn note_place(row: &NoteRow, book: &Book) -> Result<u64, AllocError>
-    ensures place { IfOk result (λ place. place ≡ place_in book.now.state (Row.Note row.now)) }
+fn note_place(row: &NoteRow, book: &Book) -> u64
+    ensures place { result ≡ place_in book.now.state (Row.Note row.now) }
 {
-    let owner = row.owned_by().copy()?;
-    let name = row.name().copy()?;
-    Ok(place_or_end(3, &Object::Note { owner, name }, book))
+    place_or_end(3, book.note_place(row.owned_by(), row.name()), book)
 }
 
-/// Where an object's row stands in its list, or the next place where there is none.
-fn place_or_end(list: u8, object: &Object, book: &Book) -> u64
+/// The place of a row in its list, or the next place where there is none.
+fn place_or_end(list: u8, place: Option<usize>, book: &Book) -> u64
     requires first { 1 ≤ list }
     requires last { list ≤ 4 }
-    ensures place { result ≡ unwrap_or (place_of_object book.now.state object.now)
-        (length_of_list book.now.state list) }
+    ensures place { result ≡ unwrap_or place (length_of_list book.now.state list) }
 {
-    match book.place(object) {
+    match place {
         Some(place) => place as u64,
         None => book.length(list) as u64,
     }
@@ -227,7 +224,7 @@ fn push_activities(
     alloc: Global,
     changes: Vec<Change>,
     start: u64,
-    activities: &[Activity],
+    activities: &[Shared<Activity>],
 ) -> Result<Vec<Change>, AllocError>
     requires bound { start ≤ 2 ^ 63 }
     ensures changes { IfOk result (λ v. v.items
@@ -236,7 +233,7 @@ fn push_activities(
     let mut changes = changes;
     let mut key = start;
     for activity in activities {
-        let change = change_of_activity(alloc, key, activity)?;
+        let change = change_of_activity(alloc, key, activity.get())?;
         changes.push(change)?;
         key += 1;
     }

@@ -7,7 +7,7 @@ ghost use Rattle.an_base.specs.Moment.{is_moment};
 ghost use Rattle.an_base.specs.Name.{is_name};
 ghost use Rattle.an_base.specs.Outcome.{Gives, only_if};
 ghost use Rattle.an_base.specs.Tree.{is_tree};
-ghost use Rattle.an_machine.specs.Commands.{is_number};
+ghost use Rattle.an_state.specs.Commands.{is_number};
 ghost use Rattle.an_policy.specs.Audience.{is_group_name};
 ghost use Rattle.an_policy.specs.Group.{group_named, is_valid_group};
 ghost use Rattle.an_policy.specs.Reader.{is_user};
@@ -82,7 +82,7 @@ pub(crate) fn version_in(tree: &Value) -> Option<u32>
     }
 }
 
-#[tactic(auto, unfolding(an_machine::specs::Commands::is_number))]
+#[tactic(auto, unfolding(an_state::specs::Commands::is_number))]
 fn version_of(number: u64) -> Option<u32>
     ensures { result ≡ only_if is_number number }
 {

@@ -1,17 +1,13 @@
-ghost use Rattle.std.specs.Prelude.{◌≡◌, ℕ, ℤ, List, Ok, Some, IsTrue};
+ghost use Rattle.std.specs.Prelude.{◌≡◌, ℕ, List, Ok, IsTrue};
 ghost use Rattle.an_keep.specs.Cells.{Ascend, put_changes};
 ghost use Rattle.an_keep.specs.declared.cell.Cell.{Cell};
-ghost use Rattle.an_machine.specs.Entries.{after};
-ghost use Rattle.an_machine.specs.Sound.{is_sound};
-ghost use Rattle.an_machine.specs.State.{State};
-ghost use Rattle.an_machine.specs.Step.{step};
-ghost use Rattle.an_machine.specs.declared.command.Command.{Command};
-ghost use Rattle.an_machine.specs.declared.command.Decided.{Decided};
-ghost use Rattle.an_machine.specs.declared.entry.Entry.{Entry};
-ghost use Rattle.an_machine.specs.declared.entry.Row.{Row};
-ghost use Rattle.an_policy.specs.declared.who.Caller.{Caller};
+ghost use Rattle.an_state.specs.Entries.{after};
+ghost use Rattle.an_state.specs.Sound.{is_sound};
+ghost use Rattle.an_state.specs.State.{State};
+ghost use Rattle.an_state.specs.declared.entry.Entry.{Entry};
+ghost use Rattle.an_state.specs.declared.entry.Row.{Row};
 ghost use Rattle.an_rows.specs.Cells.{cells, state_of};
-ghost use Rattle.an_rows.specs.Changes.{changes_of, is_settled};
+ghost use Rattle.an_rows.specs.Changes.{changes_of};
 ghost use Rattle.an_rows.specs.RowRead.{row_of_text};
 ghost use Rattle.an_rows.specs.RowTree.{row_text, table_of};
 ghost use Rattle.an_rows.specs.Valid.{is_valid, is_valid_row};
@@ -58,12 +54,4 @@ pub fn opened_states_are_valid()
 pub fn changes_lead_on()
     ensures lead { (s : State) (entry : Entry)
         → put_changes (changes_of s entry) (cells s) ≡ cells (after s entry) }
-{}
-
-/// A law: of the rows that an accepted write puts at most the first is new.
-#[tactic(auto, using(crate::proofs::AcceptedLemmas::accepted_entries))]
-pub fn accepted_writes_are_settled()
-    ensures settled { (s : State) (moment : ℤ) (caller : Caller) (command : Command)
-        (decided : Decided) (entry : Entry) → step s moment caller command ≡ Ok decided
-        → decided.entry ≡ Some entry → IsTrue (is_settled s entry) }
 {}

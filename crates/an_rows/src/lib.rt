@@ -4,8 +4,7 @@
 
 pub use changes::cells_of;
 pub use laws::{
-    accepted_writes_are_settled, cells_read_back, changes_lead_on, opened_states_are_valid,
-    rows_have_one_text, rows_read_back,
+    cells_read_back, changes_lead_on, opened_states_are_valid, rows_have_one_text, rows_read_back,
 };
 pub use refusal::RowError;
 pub use row::{read_row, row_text};

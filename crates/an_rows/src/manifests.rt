@@ -19,9 +19,9 @@ use crate::members::{push_flag, push_group, push_modified, push_moment, push_tre
 use crate::refusal::RowError;
 use an_base::{Moment, Name, push_text_member};
 use an_keyed::Keyed;
-use an_machine::ManifestRow;
 use an_manifest::{KeptSheet, SheetError, read_manifest};
 use an_policy::Group;
+use an_state::ManifestRow;
 use serde_json::Value;
 use std::alloc::{AllocError, Global};
 

@@ -5,7 +5,7 @@ ghost use Rattle.serde_json.specs.View.{view};
 ghost use Rattle.an_base.specs.Outcome.{Gives};
 ghost use Rattle.an_base.specs.Tree.{is_tree};
 ghost use Rattle.an_base.specs.Write.{commas};
-ghost use Rattle.an_machine.specs.Live.{lent_note};
+ghost use Rattle.an_state.specs.Live.{lent_note};
 ghost use Rattle.an_model.specs.Note.{note_of};
 ghost use Rattle.an_rows.specs.Lent.{note_read};
 ghost use Rattle.an_rows.specs.RowRead.{live_note_on, live_note_in, live_note_named};
@@ -21,9 +21,9 @@ use crate::members::{push_flag, push_group, push_modified, push_moment, push_tre
 use crate::refusal::RowError;
 use an_base::{Moment, Name, Text, push_text_member};
 use an_keyed::Keyed;
-use an_machine::{LiveNote, NoteRow};
 use an_model::{KeptNote, NoteError, read_note};
 use an_policy::Group;
+use an_state::{LiveNote, NoteRow};
 use serde_json::Value;
 use std::alloc::{AllocError, Global};
 

@@ -14,8 +14,8 @@ use crate::members::{push_flag, push_groups, push_version};
 use crate::refusal::RowError;
 use an_base::{Name, TryCopy, push_text_member};
 use an_keyed::Keyed;
-use an_machine::ReaderRow;
 use an_policy::{Reader, ReaderError, Role, read_reader};
+use an_state::ReaderRow;
 use serde_json::Value;
 use std::alloc::{AllocError, Global};
 

@@ -1,4 +1,4 @@
-ghost use Rattle.std.specs.Prelude.{◌≡◌, ◌++◌, IfOk};
+ghost use Rattle.std.specs.Prelude.{◌≡◌, ◌++◌, IfOk, Ok};
 ghost use Rattle.std.specs.Option.{ok_or};
 ghost use Rattle.std.specs.Result.{result_ok};
 ghost use Rattle.serde_json.specs.View.{view};
@@ -13,8 +13,8 @@ use crate::manifests::{manifest_row_in, push_manifest};
 use crate::notes::{note_row_in, push_note};
 use crate::readers::{push_reader, reader_row_in};
 use crate::refusal::RowError;
-use an_base::{Bytes, TreeError, close_members, read_value};
-use an_machine::{Activity, Row};
+use an_base::{Bytes, Shared, TreeError, close_members, read_value};
+use an_state::{Activity, Row};
 use serde_json::Value;
 use std::alloc::{AllocError, Global};
 
@@ -44,9 +44,9 @@ fn push_row(alloc: Global, out: Vec<u8>, row: &Row) -> Result<Vec<u8>, AllocErro
 {
     match row {
         Row::Reader(row) => push_reader(alloc, out, row),
-        Row::Manifest(row) => push_manifest(out, row),
-        Row::Note(row) => push_note(out, row),
-        Row::Activity(activity) => push_activity(out, activity),
+        Row::Manifest(row) => push_manifest(out, row.get()),
+        Row::Note(row) => push_note(out, row.get()),
+        Row::Activity(activity) => push_activity(out, activity.get()),
     }
 }
 
@@ -110,16 +110,26 @@ fn row_in(alloc: Global, tab: u8, tree: &Value) -> Result<Row, RowError>
         }
         2 => {
             let row = manifest_row_in(alloc, tree)?;
-            Ok(Row::Manifest(row))
+            Ok(Row::Manifest(shared(alloc, row)?))
         }
         3 => {
             let row = note_row_in(alloc, tree)?;
-            Ok(Row::Note(row))
+            Ok(Row::Note(shared(alloc, row)?))
         }
         4 => {
             let activity = activity_in(alloc, tree)?;
-            Ok(Row::Activity(activity))
+            Ok(Row::Activity(shared(alloc, activity)?))
         }
         _ => Err(RowError::Table),
+    }
+}
+
+/// The row, which its copies will share.
+fn shared<R: Drop>(alloc: Global, row: R) -> Result<Shared<R>, RowError>
+    ensures { Gives (λ r. r) RowError.Memory result (Ok row) }
+{
+    match Shared::new(alloc, row) {
+        Ok(shared) => Ok(shared),
+        Err(_) => Err(RowError::Memory),
     }
 }

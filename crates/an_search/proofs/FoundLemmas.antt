@@ -1,5 +1,5 @@
 -- What was found, by places and by rows, and how what was written of it grows.
-use Rattle.std.proofs.Common.{◌≡◌, ℕ, suc, ◌+◌, ◌<◌, ◌≤◌, List, [], ◌∷◌, ◌++◌, map, length, get_or, take, drop, Bool, true, false, cond, Option, Some, None, Ok, Err, nat_lt, ◌==◌, refl, sym, ap, ◌∙◌, arith, length-append, append-nil, append_assoc}
+use Rattle.std.proofs.Common.{◌≡◌, ℕ, suc, ◌+◌, ◌<◌, ◌≤◌, List, [], ◌∷◌, ◌++◌, map, length, get_or, take, drop, Bool, true, false, cond, Option, Some, None, Ok, Err, nat_lt, ◌==◌, refl, sym, ap, subst, ◌∙◌, arith, length-append, append-nil, append_assoc}
 use Rattle.std.proofs.lemmas.Bool.Decides.{nat_tests}
 use Rattle.std.specs.List.{filter_map, cons_option}
 use Rattle.std.specs.Prelude.{filter, slice_get}
@@ -13,12 +13,12 @@ use Rattle.an_base.specs.TextSet.{has_text}
 use Rattle.an_base.specs.Write.{item_text, item_commas}
 use Rattle.an_base.proofs.WriteLemmas.{item_commas-append}
 use Rattle.an_highlight.specs.Marks.{highlights_of}
-use Rattle.an_machine.specs.State.{KeptNote, LiveNote}
+use Rattle.an_state.specs.State.{KeptNote, LiveNote}
 use Rattle.an_model.specs.Bodies.{note_occurrences}
 use Rattle.an_model.specs.declared.occurrence.NoteOccurrence.{NoteOccurrence}
 use Rattle.an_search.specs.Found.{HasListed, StandAt, is_wanted_at}
 use Rattle.an_search.specs.Listed.{listed_note, note_iri}
-use Rattle.an_search.specs.Page.{list_page, page_count, page_iri, page_of, start_of}
+use Rattle.an_search.specs.Page.{list_page, page_count, lacks_page, page_iri, page_of, start_of}
 use Rattle.an_search.specs.Query.{QueryRecord}
 use Rattle.an_search.specs.Search.{found_text, marks_of, row_marks, search_context, whole_of}
 use Rattle.an_search.specs.Site.{Site}
@@ -182,31 +182,25 @@ module _ (base : List ℕ) (terms : List (List ℕ)) (page : List ℕ) (number :
 
 -- ---- which page
 
-lt_true : (a b : ℕ) → a < b → nat_lt a b ≡ true
-lt_true a b h = grind (arith, nat_tests)
-
-lt_false : (a b : ℕ) → b ≤ a → nat_lt a b ≡ false
-lt_false a b h = grind (arith, nat_tests)
-
 count-is : (site : Site) (rows : List KeptNote) (total size pages : ℕ) → total ≡ length rows → size ≡ site.size → pages ≡ page_count total size → page_count (length rows) site.size ≡ pages
 count-is site rows total size pages total_is size_is is = sym (is ∙ ap (λ n. page_count n size) total_is ∙ ap (page_count (length rows)) size_is)
 
 pub past-pages : (site : Site) (manifest : List ℕ) (query : QueryRecord) (rows : List KeptNote) (total size page pages : ℕ) → total ≡ length rows → size ≡ site.size → page ≡ query.page
-    → pages ≡ page_count total size → pages < page → found_text site manifest query rows ≡ Err (NoPage pages)
+    → pages ≡ page_count total size → lacks_page (page_count total size) page ≡ true → found_text site manifest query rows ≡ Err (NoPage pages)
 unfolding found_text
 past-pages site manifest query rows total size page pages total_is size_is page_is pages_are past =
     let count = count-is site rows total size pages total_is size_is pages_are in
-    let over : nat_lt pages query.page ≡ true = rw page_is at (lt_true pages page past) in
+    let over : lacks_page pages query.page ≡ true = subst (λ n. lacks_page n query.page ≡ true) (sym pages_are) (rw page_is at past) in
     rw (count, over) refl
 
-pub found-page : (site : Site) (manifest : List ℕ) (query : QueryRecord) (rows : List KeptNote) (whole : Whole) (base : List ℕ) (total size page pages : ℕ) (terms ignored : List (List ℕ)) (text : List ℕ)
+pub found-page : (site : Site) (manifest : List ℕ) (query : QueryRecord) (rows : List KeptNote) (whole : Whole) (base : List ℕ) (total size page : ℕ) (terms ignored : List (List ℕ)) (text : List ℕ)
     → whole ≡ whole_of base manifest query → base ≡ site.base → total ≡ length rows → size ≡ site.size → page ≡ query.page → terms ≡ wanted_terms query.q → ignored ≡ query.ignored
-    → pages ≡ page_count total size → page ≤ pages
+    → lacks_page (page_count total size) page ≡ false
     → text ≡ compact_text (list_page search_context whole page size total (items_of (filter_map (listed_note base) (page_of page size rows))) (items_of (marks_of base terms (page_iri whole page) 1 (page_of page size rows))) ignored)
     → found_text site manifest query rows ≡ Ok text
 unfolding found_text
-found-page site manifest query rows whole base total size page pages terms ignored text whole_is base_is total_is size_is page_is terms_are ignored_are pages_are within is =
-    let count = count-is site rows total size pages total_is size_is pages_are in
-    let over : nat_lt pages query.page ≡ false = rw page_is at (lt_false pages page within) in
+found-page site manifest query rows whole base total size page terms ignored text whole_is base_is total_is size_is page_is terms_are ignored_are there is =
+    let count = count-is site rows total size (page_count total size) total_is size_is refl in
+    let over : lacks_page (page_count total size) query.page ≡ false = rw page_is at there in
     let same = rw (whole_is, base_is, total_is, size_is, page_is, terms_are, ignored_are) at is in
     rw (count, over) (ap Ok (sym same))

@@ -6,16 +6,20 @@ use Rattle.std.specs.Str.{is_utf8, chars}
 use Rattle.form_urlencoded.specs.Form.{raw_pairs, split}
 use Rattle.percent_encoding.specs.Percent.{percent_decode}
 use Rattle.an_base.specs.Moment.{moment_of, has_form, days_of_months}
+use Rattle.an_search.specs.Filters.{FiltersRecord}
 use Rattle.an_search.specs.Query.{QueryRecord, query_of}
-use Rattle.an_base.specs.declared.parameter.Parameter.TheVariants as parameter
+use Rattle.an_code.specs.declared.parameter.Parameter.TheVariants as parameter
 use Rattle.an_search.specs.declared.query.QueryError.TheVariants as refusal
 
 unfoldable queries_on_literals : Unit {0}
 unfolding query_of raw_pairs split percent_decode is_utf8 chars encode_utf8 moment_of has_form days_of_months
 queries_on_literals = tt
 
+abbrev unfiltered : FiltersRecord
+unfiltered = record { motivation = None; date = None; user = None }
+
 abbrev nothing : QueryRecord
-nothing = record { q = None; motivation = None; date = None; user = None; page = 1; ignored = [] }
+nothing = record { q = None; filters = unfiltered; page = 1; ignored = [] }
 
 row-empty : query_of (codes "") ≡ Ok nothing
 unfolding queries_on_literals
@@ -43,7 +47,7 @@ unfolding queries_on_literals
 row-year = refl
 
 row-range_without_moments : query_of (codes "date=2024-05-01T10:02:00Z/2024-05-01T10:00:00Z")
-    ≡ Ok (record nothing { date = Some (codes "2024-05-01T10:02:00Z/2024-05-01T10:00:00Z") })
+    ≡ Ok (record nothing { filters = record unfiltered { date = Some (codes "2024-05-01T10:02:00Z/2024-05-01T10:00:00Z") } })
 unfolding queries_on_literals
 row-range_without_moments = refl
 
@@ -57,7 +61,7 @@ row-plus : query_of (codes "q=a+b") ≡ Ok (record nothing { q = Some (codes "a 
 unfolding queries_on_literals
 row-plus = refl
 
-row-name_alone : query_of (codes "motivation") ≡ Ok (record nothing { motivation = Some [] })
+row-name_alone : query_of (codes "motivation") ≡ Ok (record nothing { filters = record unfiltered { motivation = Some [] } })
 unfolding queries_on_literals
 row-name_alone = refl
 
@@ -101,6 +105,6 @@ row-minimum : query_of (codes "min=2&page=3") ≡ Ok (record nothing { page = 3;
 unfolding queries_on_literals
 row-minimum = refl
 
-row-no_name : query_of (codes "=a&&user=&=b") ≡ Ok (record nothing { user = Some []; ignored = [] ∷ [] })
+row-no_name : query_of (codes "=a&&user=&=b") ≡ Ok (record nothing { filters = record unfiltered { user = Some [] }; ignored = [] ∷ [] })
 unfolding queries_on_literals
 row-no_name = refl

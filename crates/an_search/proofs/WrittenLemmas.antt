@@ -8,6 +8,7 @@ use Rattle.an_base.specs.Write.{member_text, commas, item_text, item_commas}
 use Rattle.an_model.specs.Targets.{is_empty}
 use Rattle.an_search.specs.Page.{page_count, start_of, page_iri, whole_link, link_after, link_before, marks_beside, texts_beside, list_page}
 use Rattle.an_search.specs.PageText.{head_text, content_text, member_if, text_if, place_members, content_members, written_members}
+use Rattle.an_search.specs.declared.page.PageForm.TheVariants as form
 use Rattle.an_search.specs.declared.page.Whole.{Whole}
 
 -- ---- pieces join
@@ -40,12 +41,12 @@ comma_grows before after comma =
 -- ---- the members' texts
 
 pub place_text : (whole : Whole) (page size total : ℕ)
-    → member_text (codes "partOf") (whole_link whole (page_count total size) total) ++ (text_if (codes "prev") (link_before whole page)
+    → member_text (codes "partOf") (whole_link whole (page_count total size) total) ++ (text_if (codes "prev") (link_before form.Annotations whole page)
     ++ (member_text (codes "startIndex") (number (unsigned (start_of page size))) ++ (member_text (codes "type") (string (codes "AnnotationPage")) ++ [])))
     ≡ commas (place_members whole page size total)
 place_text whole page size total =
     ap (λ text. member_text (codes "partOf") (whole_link whole (page_count total size) total) ++ text)
-    (sym (commas-member_if (codes "prev") (link_before whole page)
+    (sym (commas-member_if (codes "prev") (link_before form.Annotations whole page)
     (member (codes "startIndex") (number (unsigned (start_of page size))) (member (codes "type") (string (codes "AnnotationPage")) no_members))))
 
 -- a member between two that there may be, and others behind
@@ -59,7 +60,7 @@ between before after first last y others =
 content_then : (whole : Whole) (page size total : ℕ) (items : Items) (ignored : List (List ℕ))
     → content_text whole page size total items ignored ++ commas (place_members whole page size total) ≡ commas (content_members whole page size total items ignored)
 content_then whole page size total items ignored =
-    let after = link_after whole (page_count total size) page in
+    let after = link_after form.Annotations whole (page_count total size) page in
     let place = place_members whole page size total in
     between (codes "ignored") (codes "next") (texts_beside ignored) after (member_text (codes "items") (array items)) place
     ∙ sym (commas-member_if (codes "ignored") (texts_beside ignored) (member (codes "items") (array items) (member_if (codes "next") after place)))
@@ -112,9 +113,9 @@ pub written_page : (context : List ℕ) (whole : Whole) (page size total : ℕ) 
     → object (written_members context whole page size total items marks ignored) ≡ list_page context whole page size total items marks ignored
 unfolding list_page
 written_page context whole page size total items marks ignored =
-    let after = link_after whole (page_count total size) page in
+    let after = link_after form.Annotations whole (page_count total size) page in
     with_marks (marks_beside (page_iri whole page) marks) (texts_beside ignored) (string context) (string (page_iri whole page)) (array items)
     (member_if (codes "next") after (place_members whole page size total))
     ∙ ap (λ page_with_links. with_member_if (codes "annotations") (marks_beside (page_iri whole page) marks) (with_member_if (codes "ignored") (texts_beside ignored) page_with_links))
-    (with_links after (link_before whole page) (string context) (string (page_iri whole page)) (array items)
+    (with_links after (link_before form.Annotations whole page) (string context) (string (page_iri whole page)) (array items)
     (whole_link whole (page_count total size) total) (number (unsigned (start_of page size))) (string (codes "AnnotationPage")))

@@ -4,7 +4,7 @@ use Rattle.std.specs.List.{filter_map}
 use Rattle.serde_json.specs.View.{items_of}
 use Rattle.an_base.specs.Outcome.{passes}
 use Rattle.an_base.specs.Write.{item_commas}
-use Rattle.an_machine.specs.State.{KeptNote}
+use Rattle.an_state.specs.State.{KeptNote}
 use Rattle.an_search.specs.Listed.{listed_note}
 use Rattle.an_search.specs.Search.{marks_of}
 use Rattle.an_search.specs.Wanted.{matches}

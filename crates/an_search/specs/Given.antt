@@ -3,12 +3,12 @@ use Rattle.std.specs.Prelude.{ℕ, List, [], ◌∷◌, ◌++◌, find, map, fil
 use Rattle.std.specs.Prelude.{Bool, ◌&&◌, nat_le, if◌then◌else◌, Option, None, is_none, option_map}
 use Rattle.std.specs.Prelude.{option_and_then}
 use Rattle.std.specs.List.{list_any}
-use Rattle.an_base.specs.Code.{parameter_text}
+use Rattle.an_code.specs.Code.{parameter_text}
 use Rattle.an_base.specs.Decimal.{decimal_of}
 use Rattle.an_base.specs.Outcome.{first_of, only_if, passes}
 use Rattle.an_base.specs.TextSet.{distinct}
 use Rattle.an_search.specs.declared.pairs.Pair.{Pair}
-use Rattle.an_base.specs.declared.parameter.Parameter.{Parameter}
+use Rattle.an_code.specs.declared.parameter.Parameter.{Parameter}
 
 -- the parameter of this name, if it is among those that are read
 abbrev pub parameter_in : List Parameter → List ℕ → Option Parameter

@@ -7,6 +7,7 @@ pub mod Found
 pub mod Search
 pub mod Pairs
 pub mod Given
+pub mod Filters
 pub mod Dates
 pub mod Query
 pub mod Wanted

@@ -2,7 +2,7 @@
 use Rattle.std.specs.Prelude.{ℕ, List, ◌++◌, codes, Option, option_map}
 use Rattle.serde_json.specs.Data.{Data}
 use Rattle.an_model.specs.Dress.{dressed}
-use Rattle.an_machine.specs.State.{KeptNote, LiveNote}
+use Rattle.an_state.specs.State.{KeptNote, LiveNote}
 
 -- the IRI of an annotation
 abbrev pub note_iri : List ℕ → List ℕ → List ℕ → List ℕ

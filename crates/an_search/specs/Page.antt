@@ -1,12 +1,15 @@
 -- The pages of a list (IIIF Content Search API 2.0; Web Annotation Data Model, section 5).
 use Rattle.std.specs.Prelude.{ℕ, ◌+◌, ◌-◌, ◌*◌, ◌==◌, max, nat_lt, List, ◌++◌, length}
-use Rattle.std.specs.Prelude.{map, take, drop, codes, decimal, Option, Some, None, if◌then◌else◌}
+use Rattle.std.specs.Prelude.{map, take, drop, codes, decimal, Option, Some, None, option_map}
+use Rattle.std.specs.Prelude.{Bool, ◌||◌, if◌then◌else◌}
 use Rattle.std.specs.Int.{div_ceil}
 use Rattle.serde_json.specs.Data.{Data, number, unsigned, string, array, object, Items, no_items}
 use Rattle.serde_json.specs.Data.{item, member, no_members}
 use Rattle.serde_json.specs.View.{items_of}
 use Rattle.an_base.specs.Object.{with_member_if}
 use Rattle.an_model.specs.Targets.{is_empty}
+use Rattle.an_search.specs.declared.page.PageForm.{PageForm}
+use Rattle.an_search.specs.declared.page.PageForm.TheVariants as form
 use Rattle.an_search.specs.declared.page.Whole.{Whole}
 
 -- ---- which items stand on a page
@@ -18,6 +21,17 @@ page_count total size = max 1 (div_ceil total size)
 -- how many items stand on the pages before this one
 abbrev pub start_of : ℕ → ℕ → ℕ
 start_of page size = (page - 1) * size
+
+-- among so many pages none has this number
+abbrev pub lacks_page : ℕ → ℕ → Bool
+lacks_page pages page = nat_lt page 1 || nat_lt pages page
+
+-- the number of the page after this one, of so many, and of the one before it, where there is one
+abbrev pub page_after : ℕ → ℕ → Option ℕ
+page_after pages page = if nat_lt page pages then Some (page + 1) else None
+
+abbrev pub page_before : ℕ → Option ℕ
+page_before page = if nat_lt 1 page then Some (page - 1) else None
 
 -- the items of a page
 abbrev pub page_of : {A : Type 0} → ℕ → ℕ → List A → List A
@@ -42,27 +56,36 @@ page_iri whole page =
 
 -- ---- links
 
--- a page, as another names it
-abbrev pub page_link : Whole → ℕ → Data
-page_link whole page =
-    object (member (codes "id") (string (page_iri whole page))
-    (member (codes "type") (string (codes "AnnotationPage")) no_members))
+-- a thing of this IRI and type
+abbrev pub thing : List ℕ → List ℕ → Data
+thing iri type =
+    object (member (codes "id") (string iri) (member (codes "type") (string type) no_members))
+
+-- the page of this IRI, as another names it
+abbrev pub page_named : PageForm → List ℕ → Data
+page_named form.Iri iri = string iri
+page_named form.Annotations iri = thing iri (codes "AnnotationPage")
+page_named form.Changes iri = thing iri (codes "OrderedCollectionPage")
+
+-- the page of this number, as another names it
+abbrev pub page_link : PageForm → Whole → ℕ → Data
+page_link form whole page = page_named form (page_iri whole page)
+
+-- the page after this one, of so many, and the one before it, where there is one
+abbrev pub link_after : PageForm → Whole → ℕ → ℕ → Option Data
+link_after form whole pages page = option_map (page_link form whole) (page_after pages page)
+
+abbrev pub link_before : PageForm → Whole → ℕ → Option Data
+link_before form whole page = option_map (page_link form whole) (page_before page)
 
 -- the whole, as a page of it names it
 abbrev pub whole_link : Whole → ℕ → ℕ → Data
 whole_link whole pages total =
-    object (member (codes "first") (page_link whole 1)
+    object (member (codes "first") (page_link form.Annotations whole 1)
     (member (codes "id") (string (whole_iri whole))
-    (member (codes "last") (page_link whole pages)
+    (member (codes "last") (page_link form.Annotations whole pages)
     (member (codes "total") (number (unsigned total))
     (member (codes "type") (string (codes "AnnotationCollection")) no_members)))))
-
--- the page after this one, of so many, and the one before it, where there is one
-abbrev pub link_after : Whole → ℕ → ℕ → Option Data
-link_after whole pages page = if nat_lt page pages then Some (page_link whole (page + 1)) else None
-
-abbrev pub link_before : Whole → ℕ → Option Data
-link_before whole page = if nat_lt 1 page then Some (page_link whole (page - 1)) else None
 
 -- ---- what a page may have besides
 
@@ -101,6 +124,6 @@ unfoldable pub list_page
 list_page context whole page size total items marks ignored =
     with_member_if (codes "annotations") (marks_beside (page_iri whole page) marks)
     (with_member_if (codes "ignored") (texts_beside ignored)
-    (with_member_if (codes "prev") (link_before whole page)
-    (with_member_if (codes "next") (link_after whole (page_count total size) page)
+    (with_member_if (codes "prev") (link_before form.Annotations whole page)
+    (with_member_if (codes "next") (link_after form.Annotations whole (page_count total size) page)
     (page_members context whole page size total items))))

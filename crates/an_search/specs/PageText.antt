@@ -5,6 +5,7 @@ use Rattle.serde_json.specs.Data.{no_members}
 use Rattle.an_base.specs.Write.{member_text}
 use Rattle.an_search.specs.Page.{page_count, start_of, page_iri, whole_link, link_after}
 use Rattle.an_search.specs.Page.{link_before, marks_beside, texts_beside}
+use Rattle.an_search.specs.declared.page.PageForm.TheVariants as form
 use Rattle.an_search.specs.declared.page.Whole.{Whole}
 
 -- the member, where there is a value, before others
@@ -29,13 +30,13 @@ abbrev pub content_text : Whole → ℕ → ℕ → ℕ → Items → List (List
 content_text whole page size total items ignored =
     text_if (codes "ignored") (texts_beside ignored)
     ++ (member_text (codes "items") (array items)
-    ++ text_if (codes "next") (link_after whole (page_count total size) page))
+    ++ text_if (codes "next") (link_after form.Annotations whole (page_count total size) page))
 
 -- the members of a page from its place in the list on
 abbrev pub place_members : Whole → ℕ → ℕ → ℕ → Members
 place_members whole page size total =
     member (codes "partOf") (whole_link whole (page_count total size) total)
-    (member_if (codes "prev") (link_before whole page)
+    (member_if (codes "prev") (link_before form.Annotations whole page)
     (member (codes "startIndex") (number (unsigned (start_of page size)))
     (member (codes "type") (string (codes "AnnotationPage")) no_members)))
 
@@ -44,7 +45,7 @@ abbrev pub content_members : Whole → ℕ → ℕ → ℕ → Items → List (L
 content_members whole page size total items ignored =
     member_if (codes "ignored") (texts_beside ignored)
     (member (codes "items") (array items)
-    (member_if (codes "next") (link_after whole (page_count total size) page)
+    (member_if (codes "next") (link_after form.Annotations whole (page_count total size) page)
     (place_members whole page size total)))
 
 -- all members of a page

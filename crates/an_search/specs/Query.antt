@@ -1,29 +1,24 @@
 -- The query of a search (IIIF Content Search API 2.0).
 use Rattle.std.specs.Prelude.{ℕ, List, [], ◌∷◌, Option, option_map, option_and_then, unwrap_or}
-use Rattle.std.specs.Prelude.{Result, Bool, is_none, ◌&&◌}
+use Rattle.std.specs.Prelude.{Result}
 use Rattle.an_base.specs.Outcome.{when, first_of, unless, or_refuse}
 use Rattle.an_search.specs.Dates.{bad_date}
-use Rattle.an_search.specs.Given.{value_of, twice_of, others_of, is_number, number_in}
+use Rattle.an_search.specs.Filters.{FiltersRecord, filters_in}
+use Rattle.an_search.specs.Given.{value_of, twice_of, others_of, number_in}
 use Rattle.an_search.specs.Given.{is_bad_number}
 use Rattle.an_search.specs.Pairs.{pairs_of}
 use Rattle.an_search.specs.declared.pairs.Pair.{Pair}
-use Rattle.an_base.specs.declared.parameter.Parameter.{Parameter}
-use Rattle.an_base.specs.declared.parameter.Parameter.TheVariants as parameter
+use Rattle.an_code.specs.declared.parameter.Parameter.{Parameter}
+use Rattle.an_code.specs.declared.parameter.Parameter.TheVariants as parameter
 use Rattle.an_search.specs.declared.query.QueryError.{QueryError}
 use Rattle.an_search.specs.declared.query.QueryError.TheVariants as refusal
 
 -- the values that were given, and the names of no parameter of a search
 pub record QueryRecord : Type 0 where
   pub q : Option (List ℕ)
-  pub motivation : Option (List ℕ)
-  pub date : Option (List ℕ)
-  pub user : Option (List ℕ)
+  pub filters : FiltersRecord
   pub page : ℕ
   pub ignored : List (List ℕ)
-
--- each piece of the date is a range, and the page a number
-abbrev pub is_query : Option (List ℕ) → ℕ → Bool
-is_query date page = is_none (bad_date date) && is_number page
 
 -- the parameters of a search
 abbrev pub search_parameters : List Parameter
@@ -45,9 +40,7 @@ page_in pairs = unwrap_or (option_and_then number_in (value_of parameter.Page pa
 abbrev pub query_in : List Pair → QueryRecord
 query_in pairs = record {
   q = value_of parameter.Q pairs;
-  motivation = value_of parameter.Motivation pairs;
-  date = value_of parameter.Date pairs;
-  user = value_of parameter.User pairs;
+  filters = filters_in pairs;
   page = page_in pairs;
   ignored = others_of search_parameters pairs;
 }

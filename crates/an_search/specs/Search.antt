@@ -5,13 +5,14 @@ use Rattle.std.specs.List.{filter_map}
 use Rattle.serde_json.specs.Data.{Data}
 use Rattle.serde_json.specs.View.{items_of}
 use Rattle.serde_json.specs.Written.{compact_text}
-use Rattle.an_base.specs.declared.parameter.Parameter.TheVariants as parameter
+use Rattle.an_code.specs.declared.parameter.Parameter.TheVariants as parameter
 use Rattle.an_highlight.specs.Marks.{highlights_of}
-use Rattle.an_machine.specs.State.{KeptNote}
-use Rattle.an_machine.specs.View.{View, is_on, manifest_in}
+use Rattle.an_state.specs.State.{KeptNote}
+use Rattle.an_state.specs.View.{View, is_on, manifest_in}
+use Rattle.an_search.specs.Filters.{filter_parameters}
 use Rattle.an_search.specs.Form.{form_of}
 use Rattle.an_search.specs.Listed.{listed_note, note_iri}
-use Rattle.an_search.specs.Page.{list_page, page_count, page_iri, page_of}
+use Rattle.an_search.specs.Page.{list_page, page_count, lacks_page, page_iri, page_of}
 use Rattle.an_search.specs.Query.{QueryRecord}
 use Rattle.an_search.specs.Site.{Site}
 use Rattle.an_search.specs.Wanted.{matches, wanted_of, wanted_terms}
@@ -47,10 +48,7 @@ marks_of base terms page number (row ∷ rows) =
 -- the parameters of a query that choose what is found, as a form
 abbrev pub query_form : QueryRecord → List ℕ
 query_form query =
-    form_of ((parameter.Q, query.q)
-    ∷ (parameter.Motivation, query.motivation)
-    ∷ (parameter.Date, query.date)
-    ∷ (parameter.User, query.user) ∷ [])
+    form_of ((parameter.Q, query.q) ∷ filter_parameters query.filters)
 
 -- the context of searches
 abbrev pub search_context : List ℕ
@@ -75,8 +73,8 @@ found_page site whole query found =
 -- the same as text, unless it is past the last page
 unfoldable pub found_text : Site → List ℕ → QueryRecord → List KeptNote → Result (List ℕ) AskError
 found_text site manifest query found =
-    if nat_lt (page_count (length found) site.size) query.page
-    then Err (NoPage (page_count (length found) site.size))
+    let pages = page_count (length found) site.size in
+    if lacks_page pages query.page then Err (NoPage pages)
     else Ok (compact_text (found_page site (whole_of site.base manifest query) query found))
 
 -- the answer to a search, from the caller's view alone

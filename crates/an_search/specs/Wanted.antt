@@ -8,8 +8,9 @@ use Rattle.an_base.specs.TextSet.{has_text}
 use Rattle.an_terms.specs.Terms.{terms_of}
 use Rattle.an_model.specs.Bodies.{iris_of, note_terms}
 use Rattle.an_model.specs.Note.{motivations_of}
-use Rattle.an_machine.specs.State.{KeptNote, LiveNote}
+use Rattle.an_state.specs.State.{KeptNote, LiveNote}
 use Rattle.an_search.specs.Dates.{pieces_of, range_of}
+use Rattle.an_search.specs.Filters.{FiltersRecord}
 use Rattle.an_search.specs.Query.{QueryRecord}
 use Rattle.an_search.specs.declared.dates.DateRange.{DateRange}
 use Rattle.an_search.specs.declared.wanted.Wanted.{Wanted}
@@ -41,19 +42,18 @@ wanted_terms q = words_of (given_pieces q)
 abbrev pub wanted_ranges : Option (List ℕ) → List DateRange
 wanted_ranges date = filter_map range_of (given_pieces date)
 
--- what is wanted where these values of `q`, `motivation`, `date` and `user` are given
-abbrev pub wanted_by : Option (List ℕ) → Option (List ℕ) → Option (List ℕ) → Option (List ℕ)
-    → Wanted
-wanted_by q motivation date user = record {
+-- what is wanted where this value of `q` and these filters are given
+abbrev pub wanted_by : Option (List ℕ) → FiltersRecord → Wanted
+wanted_by q filters = record {
   iris = wanted_iris q;
   terms = wanted_terms q;
-  motivations = given_pieces motivation;
-  ranges = wanted_ranges date;
-  users = given_pieces user;
+  motivations = given_pieces filters.motivation;
+  ranges = wanted_ranges filters.date;
+  users = given_pieces filters.user;
 }
 
 abbrev pub wanted_of : QueryRecord → Wanted
-wanted_of query = wanted_by query.q query.motivation query.date query.user
+wanted_of query = wanted_by query.q query.filters
 
 -- nothing is wanted: no condition is set
 abbrev pub wants_nothing : Wanted → Bool

@@ -2,7 +2,8 @@ ghost use Rattle.std.specs.Prelude.{◌≡◌, OnOk};
 ghost use Rattle.std.specs.Option.{option_copied};
 ghost use Rattle.an_search.specs.Form.{with_given};
 
-use an_base::{Parameter, Text};
+use an_base::Text;
+use an_code::Parameter;
 use form_urlencoded::Serializer;
 use std::alloc::AllocError;
 

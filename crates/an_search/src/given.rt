@@ -1,13 +1,14 @@
 ghost use Rattle.std.specs.Prelude.{◌≡◌, IfOk, IfSome, IsTrue, bytes_eq, find};
 ghost use Rattle.std.specs.Option.{option_copied};
 ghost use Rattle.an_base.specs.TextSet.{has_text};
-ghost use Rattle.an_base.specs.Code.{parameter_text};
+ghost use Rattle.an_code.specs.Code.{parameter_text};
 ghost use Rattle.an_search.specs.Given.{parameter_in, has_name, value_of, repeated};
 ghost use Rattle.an_search.specs.Given.{twice_of, is_other, others_of, is_number, number_in};
 ghost use Rattle.an_search.specs.Given.{is_bad_number};
 
 use crate::pairs::Pair;
-use an_base::{List, Parameter, Text, TryCopy, read_decimal};
+use an_base::{List, Text, TryCopy, read_decimal};
+use an_code::Parameter;
 use std::alloc::{AllocError, Global};
 
 /// The greatest number that a query gives.
@@ -32,7 +33,7 @@ fn pair_of(parameter: Parameter, pairs: &[Pair]) -> Option<&Pair>
 }
 
 /// A copy of the value that is given to a parameter, where it first comes.
-pub fn copied_value(parameter: Parameter, pairs: &[Pair]) -> Result<Option<Text>, AllocError>
+pub(crate) fn copied_value(parameter: Parameter, pairs: &[Pair]) -> Result<Option<Text>, AllocError>
     ensures value { IfOk result (λ value. value ≡ value_of parameter pairs.now) }
 {
     match value_in(parameter, pairs) {

@@ -1,12 +1,12 @@
 ghost use Rattle.std.specs.Prelude.{◌≡◌, filter, IfOk};
 ghost use Rattle.an_policy.specs.Audience.{identity};
-ghost use Rattle.an_machine.specs.View.{readable_places};
+ghost use Rattle.an_state.specs.View.{readable_places};
 ghost use Rattle.an_search.specs.Found.{is_wanted_at};
 
 use crate::wanted::{Wanted, matches};
 use an_base::{Name, Steps};
-use an_machine::Look;
 use an_policy::Who;
+use an_state::Look;
 use std::alloc::{AllocError, Global};
 use std::sync::ledger::Ledger;
 

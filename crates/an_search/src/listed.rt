@@ -3,13 +3,13 @@ ghost use Rattle.std.specs.List.{filter_map};
 ghost use Rattle.serde_json.specs.View.{items_of};
 ghost use Rattle.serde_json.specs.Written.{compact_text};
 ghost use Rattle.an_base.specs.Write.{item_commas};
-ghost use Rattle.an_machine.specs.Live.{lent_note};
+ghost use Rattle.an_state.specs.Live.{lent_note};
 ghost use Rattle.an_search.specs.Listed.{note_iri, listed_live, listed_note};
 
 use an_base::{Name, push_comma};
 use an_keyed::Keyed;
-use an_machine::{LiveNote, NoteRow};
 use an_model::push_dressed;
+use an_state::{LiveNote, NoteRow};
 use std::alloc::{AllocError, Global};
 
 /// Writes an annotation as an item of a list, behind a comma. `base` is the start of its IRI.

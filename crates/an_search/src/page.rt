@@ -1,9 +1,12 @@
-ghost use Rattle.std.specs.Prelude.{◌≡◌, ◌++◌, ◌≤◌, codes, map, vec_len, IfOk, string_bytes};
+ghost use Rattle.std.specs.Bool.{OnFalse};
+ghost use Rattle.std.specs.Prelude.{◌≡◌, ◌++◌, ◌≤◌, codes, map, vec_len, IfOk};
+ghost use Rattle.std.specs.Prelude.{string_bytes};
 ghost use Rattle.serde_json.specs.Data.{Items, array, item, no_items, string};
 ghost use Rattle.serde_json.specs.View.{items_of};
 ghost use Rattle.serde_json.specs.Written.{compact_text};
 ghost use Rattle.an_base.specs.Write.{commas, item_commas, item_text, member_text};
-ghost use Rattle.an_search.specs.Page.{page_count, start_of, whole_iri, page_iri, page_link};
+ghost use Rattle.an_search.specs.Page.{page_count, start_of, lacks_page, page_after, page_before};
+ghost use Rattle.an_search.specs.Page.{whole_iri, page_iri, thing, page_named, page_link};
 ghost use Rattle.an_search.specs.Page.{whole_link, link_after, link_before, marks_page};
 ghost use Rattle.an_search.specs.Page.{marks_beside, texts_beside, list_page};
 ghost use Rattle.an_search.specs.PageText.{head_text, content_text, text_if, place_members};
@@ -48,6 +51,47 @@ impl Paging {
     {
         self.total.div_ceil(self.size as usize).max(1)
     }
+
+    /// Whether the list has no page of this number.
+    pub fn is_past(self) -> bool
+        requires size { 1 ≤ self.size }
+        ensures past { result ≡ lacks_page (page_count self.total self.size) self.page }
+        ensures first { OnFalse result (1 ≤ self.page) }
+    {
+        self.page < 1 || self.pages() < self.page as usize
+    }
+
+    /// The number of the page after this one, where there is one.
+    pub fn after(self) -> Option<usize>
+        requires size { 1 ≤ self.size }
+        ensures page { result ≡ page_after (page_count self.total self.size) self.page }
+    {
+        let number = self.page as usize;
+        if number < self.pages() {
+            Some(number + 1)
+        } else {
+            None
+        }
+    }
+
+    /// The number of the page before this one, where there is one.
+    pub fn before(self) -> Option<usize>
+        ensures page { result ≡ page_before self.page }
+    {
+        let number = self.page as usize;
+        if 1 < number { Some(number - 1) } else { None }
+    }
+}
+
+/// How a page is named where another one, or the list, links to it.
+#[derive(Clone, Copy)]
+pub enum PageForm {
+    /// By its IRI alone.
+    Iri,
+    /// By its IRI and its type, which is that of pages of annotations.
+    Annotations,
+    /// By its IRI and its type, which is that of pages of changes.
+    Changes,
 }
 
 /// The text of a page of a list, its members in the order of their names. `items` are the texts of
@@ -175,7 +219,7 @@ fn push_content(
 {
     let out = push_ignored(out, ignored)?;
     let out = push_array_member(out, "items", items)?;
-    let out = push_next(alloc, out, whole, paging)?;
+    let out = push_next(alloc, out, whole, PageForm::Annotations, paging)?;
     Ok(out)
 }
 
@@ -224,25 +268,6 @@ pub fn push_text_item(out: Vec<u8>, text: &str) -> Result<Vec<u8>, AllocError>
     Ok(out)
 }
 
-/// Writes the link to the page after this one, where there is one.
-fn push_next(
-    alloc: Global,
-    out: Vec<u8>,
-    whole: &Whole,
-    paging: Paging,
-) -> Result<Vec<u8>, AllocError>
-    requires size { 1 ≤ paging.size }
-    ensures text { IfOk result (λ v. v.items ≡ out.items ++ text_if (codes "next")
-        (link_after whole.now (page_count paging.total paging.size) paging.page)) }
-{
-    let number = paging.page as usize;
-    if number < paging.pages() {
-        push_link_member(alloc, out, "next", whole, number + 1)
-    } else {
-        Ok(out)
-    }
-}
-
 /// Writes the list that the page is part of, the link to the page before it, where it starts, and
 /// its type.
 fn push_place(
@@ -258,28 +283,10 @@ fn push_place(
 {
     let out = push_name(out, "partOf")?;
     let out = push_whole(alloc, out, whole, paging.pages(), paging.total)?;
-    let out = push_prev(alloc, out, whole, paging)?;
+    let out = push_prev(alloc, out, whole, PageForm::Annotations, paging)?;
     let out = push_number_member(out, "startIndex", paging.start())?;
     let out = push_text_member(out, "type", "AnnotationPage")?;
     Ok(out)
-}
-
-/// Writes the link to the page before this one, where there is one.
-fn push_prev(
-    alloc: Global,
-    out: Vec<u8>,
-    whole: &Whole,
-    paging: Paging,
-) -> Result<Vec<u8>, AllocError>
-    ensures text { IfOk result (λ v. v.items
-        ≡ out.items ++ text_if (codes "prev") (link_before whole.now paging.page)) }
-{
-    let number = paging.page as usize;
-    if 1 < number {
-        push_link_member(alloc, out, "prev", whole, number - 1)
-    } else {
-        Ok(out)
-    }
 }
 
 /// Writes the list, as a page of it names it.
@@ -294,9 +301,9 @@ fn push_whole(
         (λ v. v.items ≡ out.items ++ compact_text (whole_link whole.now pages total)) }
 {
     let start = out.len();
-    let out = push_link_member(alloc, out, "first", whole, 1)?;
+    let out = push_link_member(alloc, out, "first", whole, PageForm::Annotations, 1)?;
     let out = push_whole_id(alloc, out, whole)?;
-    let out = push_link_member(alloc, out, "last", whole, pages)?;
+    let out = push_link_member(alloc, out, "last", whole, PageForm::Annotations, pages)?;
     let out = push_number_member(out, "total", total as u64)?;
     let out = push_text_member(out, "type", "AnnotationCollection")?;
     let out = close_members(out, start)?;
@@ -312,36 +319,99 @@ fn push_whole_id(alloc: Global, out: Vec<u8>, whole: &Whole) -> Result<Vec<u8>, 
     Ok(out)
 }
 
-/// Writes a page, as another names it, as a member of this name.
-fn push_link_member(
+// ---- links
+
+/// Writes the link to the page after this one, where there is one.
+pub fn push_next(
+    alloc: Global,
+    out: Vec<u8>,
+    whole: &Whole,
+    form: PageForm,
+    paging: Paging,
+) -> Result<Vec<u8>, AllocError>
+    requires size { 1 ≤ paging.size }
+    ensures text { IfOk result (λ v. v.items ≡ out.items ++ text_if (codes "next")
+        (link_after form whole.now (page_count paging.total paging.size) paging.page)) }
+{
+    match paging.after() {
+        Some(number) => push_link_member(alloc, out, "next", whole, form, number),
+        None => Ok(out),
+    }
+}
+
+/// Writes the link to the page before this one, where there is one.
+pub fn push_prev(
+    alloc: Global,
+    out: Vec<u8>,
+    whole: &Whole,
+    form: PageForm,
+    paging: Paging,
+) -> Result<Vec<u8>, AllocError>
+    ensures text { IfOk result (λ v. v.items
+        ≡ out.items ++ text_if (codes "prev") (link_before form whole.now paging.page)) }
+{
+    match paging.before() {
+        Some(number) => push_link_member(alloc, out, "prev", whole, form, number),
+        None => Ok(out),
+    }
+}
+
+/// Writes the page of this number, as another names it, as a member of this name.
+pub fn push_link_member(
     alloc: Global,
     out: Vec<u8>,
     name: &str,
     whole: &Whole,
+    form: PageForm,
     number: usize,
 ) -> Result<Vec<u8>, AllocError>
     ensures text { IfOk result
-        (λ v. v.items ≡ out.items ++ member_text name.now (page_link whole.now number)) }
+        (λ v. v.items ≡ out.items ++ member_text name.now (page_link form whole.now number)) }
 {
-    let out = push_name(out, name)?;
-    let out = push_link(alloc, out, whole, number)?;
+    let iri = page_iri(alloc, whole, number)?;
+    let out = push_named_member(out, name, form, iri.as_str())?;
     Ok(out)
 }
 
-/// Writes a page, as another names it.
-fn push_link(
-    alloc: Global,
+/// Writes the page of this IRI, as another names it, as a member of this name.
+fn push_named_member(
     out: Vec<u8>,
-    whole: &Whole,
-    number: usize,
+    name: &str,
+    form: PageForm,
+    iri: &str,
 ) -> Result<Vec<u8>, AllocError>
     ensures text { IfOk result
-        (λ v. v.items ≡ out.items ++ compact_text (page_link whole.now number)) }
+        (λ v. v.items ≡ out.items ++ member_text name.now (page_named form iri.now)) }
+{
+    match form {
+        PageForm::Iri => push_text_member(out, name, iri),
+        PageForm::Annotations => push_thing_member(out, name, iri, "AnnotationPage"),
+        PageForm::Changes => push_thing_member(out, name, iri, "OrderedCollectionPage"),
+    }
+}
+
+/// Writes a thing of this IRI and type as a member of this name.
+pub fn push_thing_member(
+    out: Vec<u8>,
+    name: &str,
+    iri: &str,
+    kind: &str,
+) -> Result<Vec<u8>, AllocError>
+    ensures text { IfOk result
+        (λ v. v.items ≡ out.items ++ member_text name.now (thing iri.now kind.now)) }
+{
+    let out = push_name(out, name)?;
+    let out = push_thing(out, iri, kind)?;
+    Ok(out)
+}
+
+fn push_thing(out: Vec<u8>, iri: &str, kind: &str) -> Result<Vec<u8>, AllocError>
+    ensures text { IfOk result
+        (λ v. v.items ≡ out.items ++ compact_text (thing iri.now kind.now)) }
 {
     let start = out.len();
-    let id = page_iri(alloc, whole, number)?;
-    let out = push_text_member(out, "id", id.as_str())?;
-    let out = push_text_member(out, "type", "AnnotationPage")?;
+    let out = push_text_member(out, "id", iri)?;
+    let out = push_text_member(out, "type", kind)?;
     let out = close_members(out, start)?;
     Ok(out)
 }

@@ -3,12 +3,14 @@ ghost use Rattle.std.specs.Option.{option_copied};
 ghost use Rattle.an_base.specs.Outcome.{Gives, first_of, unless, when};
 ghost use Rattle.an_search.specs.Given.{value_of, is_number, is_bad_number};
 ghost use Rattle.an_search.specs.Query.{query_refusals, query_in, query_of, page_in};
-ghost use Rattle.an_base.specs.declared.parameter.Parameter.TheVariants as parameter;
+ghost use Rattle.an_code.specs.declared.parameter.Parameter.TheVariants as parameter;
 
 use crate::dates::bad_date;
+use crate::filters::{Filters, filters_in};
 use crate::given::{copied_value, is_bad_number, number_in, others_in, twice_in, value_in};
 use crate::pairs::{Pair, query_pairs};
-use an_base::{List, Parameter, Text};
+use an_base::{List, Text};
+use an_code::Parameter;
 use std::alloc::{AllocError, Global};
 use std::marker::Model;
 
@@ -25,10 +27,7 @@ const SEARCH_PARAMETERS: [Parameter; 5] = [
 #[derive(Debug, Drop)]
 pub struct Query {
     pub q: Option<Text>,
-    pub motivation: Option<Text>,
-    /// Each of its pieces is two texts of moments, joined by `/`.
-    pub date: Option<Text>,
-    pub user: Option<Text>,
+    pub filters: Filters,
     /// From 1 to 999,999,999.
     pub page: u32,
     /// The names of no parameter of a search, each where it first came.
@@ -37,20 +36,19 @@ pub struct Query {
 
 impl Model for Query {
     ghost use Rattle.std.specs.Prelude.{IsTrue};
-    ghost use Rattle.an_search.specs.Query.{QueryRecord, is_query};
+    ghost use Rattle.an_search.specs.Given.{is_number};
+    ghost use Rattle.an_search.specs.Query.{QueryRecord};
 
     ghost Value = { QueryRecord };
 
     ghost view = { λ q. record {
       q = q.q;
-      motivation = q.motivation;
-      date = q.date;
-      user = q.user;
+      filters = q.filters;
       page = q.page;
       ignored = q.ignored;
     } };
 
-    ghost invariant = { λ q. IsTrue (is_query q.date q.page) };
+    ghost invariant = { λ q. IsTrue (is_number q.page) };
 }
 
 /// Why a text is no query of a search.
@@ -68,7 +66,6 @@ pub enum QueryError {
 }
 
 impl Query {
-    ghost use Rattle.an_search.specs.Dates.{bad_date};
     ghost use Rattle.an_search.specs.Given.{is_number};
 
     /// What is searched for.
@@ -78,26 +75,11 @@ impl Query {
         self.q.as_ref()
     }
 
-    /// The motivations that are asked for.
-    pub fn motivation(&self) -> Option<&Text>
-        ensures value { option_copied result ≡ self.now.motivation }
+    /// What is let pass.
+    pub fn filters(&self) -> &Filters
+        ensures value { result.now ≡ self.now.filters }
     {
-        self.motivation.as_ref()
-    }
-
-    /// When annotations were made.
-    pub fn date(&self) -> Option<&Text>
-        ensures value { option_copied result ≡ self.now.date }
-        ensures ranges { bad_date self.now.date ≡ None }
-    {
-        self.date.as_ref()
-    }
-
-    /// Who made them.
-    pub fn user(&self) -> Option<&Text>
-        ensures value { option_copied result ≡ self.now.user }
-    {
-        self.user.as_ref()
+        &self.filters
     }
 
     /// The page that is asked for.
@@ -172,9 +154,7 @@ fn filled(alloc: Global, pairs: &[Pair]) -> Result<Query, AllocError>
 {
     Ok(Query {
         q: copied_value(Parameter::Q, pairs)?,
-        motivation: copied_value(Parameter::Motivation, pairs)?,
-        date: copied_value(Parameter::Date, pairs)?,
-        user: copied_value(Parameter::User, pairs)?,
+        filters: filters_in(pairs)?,
         page: page_in(pairs),
         ignored: others_in(alloc, &SEARCH_PARAMETERS, pairs)?,
     })

@@ -4,8 +4,8 @@ ghost use Rattle.serde_json.specs.View.{items_of};
 ghost use Rattle.serde_json.specs.Written.{compact_text};
 ghost use Rattle.an_base.specs.Outcome.{Gives};
 ghost use Rattle.an_policy.specs.Audience.{identity};
-ghost use Rattle.an_machine.specs.State.{KeptNote};
-ghost use Rattle.an_machine.specs.View.{view_of};
+ghost use Rattle.an_state.specs.State.{KeptNote};
+ghost use Rattle.an_state.specs.View.{view_of};
 ghost use Rattle.an_search.specs.Found.{StandAt};
 ghost use Rattle.an_search.specs.Listed.{listed_note};
 ghost use Rattle.an_search.specs.Page.{list_page, page_iri, page_of};
@@ -14,6 +14,7 @@ ghost use Rattle.an_search.specs.Search.{search_context, search_of};
 ghost use Rattle.an_search.specs.Search.{whole_of};
 ghost use Rattle.an_search.specs.Wanted.{wanted_of, wanted_terms};
 
+use crate::filters::append_filters;
 use crate::form::append_given;
 use crate::hits::hit_places;
 use crate::items::list_items;
@@ -21,9 +22,10 @@ use crate::page::{Paging, Whole, page_iri, page_text};
 use crate::query::Query;
 use crate::settings::Settings;
 use crate::wanted::wanted_of;
-use an_base::{Bytes, Name, Parameter, Steps, Text};
-use an_machine::{Look, shown_manifest};
+use an_base::{Bytes, Name, Steps, Text};
+use an_code::Parameter;
 use an_policy::Who;
+use an_state::{Look, shown_manifest};
 use form_urlencoded::Serializer;
 use std::alloc::{AllocError, Global};
 use std::sync::ledger::Ledger;
@@ -139,8 +141,8 @@ fn page_at<T: Look, L: Ledger>(
         size: settings.size(),
         total: places.len(),
     };
-    let pages = paging.pages();
-    if pages < paging.page as usize {
+    if paging.is_past() {
+        let pages = paging.pages();
         return Err(AskError::NoPage { pages });
     }
     let base = settings.base();
@@ -216,8 +218,6 @@ fn query_form(alloc: Global, query: &Query) -> Result<String, AllocError>
 {
     let mut form = Serializer::new(String::new(alloc));
     append_given(&mut form, Parameter::Q, query.q())?;
-    append_given(&mut form, Parameter::Motivation, query.motivation())?;
-    append_given(&mut form, Parameter::Date, query.date())?;
-    append_given(&mut form, Parameter::User, query.user())?;
+    append_filters(&mut form, query.filters())?;
     Ok(form.finish())
 }

@@ -3,7 +3,7 @@ ghost use Rattle.std.specs.List.{filter_map, list_any, slice_split};
 ghost use Rattle.std.specs.Option.{option_copied};
 ghost use Rattle.an_terms.specs.Terms.{terms_of};
 ghost use Rattle.an_base.specs.TextSet.{has_text};
-ghost use Rattle.an_machine.specs.Live.{lent_note};
+ghost use Rattle.an_state.specs.Live.{lent_note};
 ghost use Rattle.an_model.specs.Bodies.{iris_of, note_terms};
 ghost use Rattle.an_model.specs.Note.{motivations_of};
 ghost use Rattle.an_search.specs.Dates.{pieces_of, range_of};
@@ -13,11 +13,12 @@ ghost use Rattle.an_search.specs.Wanted.{wanted_by, wanted_of, wanted_ranges, wa
 ghost use Rattle.an_search.specs.Wanted.{wants_nothing, words_of};
 
 use crate::dates::{DateRange, range_of};
+use crate::filters::Filters;
 use crate::given::has_text;
 use crate::query::Query;
 use an_base::{List, Moment, Text, TryCopy};
-use an_machine::{LiveNote, NoteRow};
 use an_model as model;
+use an_state::{LiveNote, NoteRow};
 use an_terms::occurrences;
 use std::alloc::{AllocError, Global};
 
@@ -39,34 +40,22 @@ pub struct Wanted {
 pub(crate) fn wanted_of(alloc: Global, query: &Query) -> Result<Wanted, AllocError>
     ensures { IfOk result (λ wanted. wanted ≡ wanted_of query.now) }
 {
-    wanted_by(
-        alloc,
-        query.q(),
-        query.motivation(),
-        query.date(),
-        query.user(),
-    )
+    wanted_by(alloc, query.q(), query.filters())
 }
 
-/// What is wanted where these values are given.
-pub fn wanted_by(
-    alloc: Global,
-    q: Option<&Text>,
-    motivation: Option<&Text>,
-    date: Option<&Text>,
-    user: Option<&Text>,
-) -> Result<Wanted, AllocError>
-    ensures wanted { IfOk result (λ wanted. wanted ≡ wanted_by (option_copied q.entry)
-        (option_copied motivation.entry) (option_copied date.entry) (option_copied user.entry)) }
+/// What is wanted where this value and these filters are given.
+pub fn wanted_by(alloc: Global, q: Option<&Text>, filters: &Filters) -> Result<Wanted, AllocError>
+    ensures wanted { IfOk result
+        (λ wanted. wanted ≡ wanted_by (option_copied q.entry) filters.now) }
 {
     let (iris, terms) = sought(alloc, q)?;
-    let ranges = wanted_ranges(alloc, date)?;
+    let ranges = wanted_ranges(alloc, filters.date())?;
     Ok(Wanted {
         iris,
         terms,
-        motivations: given_pieces(alloc, motivation)?,
+        motivations: given_pieces(alloc, filters.motivation())?,
         ranges,
-        users: given_pieces(alloc, user)?,
+        users: given_pieces(alloc, filters.user())?,
     })
 }
 

@@ -1,12 +1,8 @@
--- How what is due of the bytes, and its replies, go on: when more bytes come, and with one more that is due.
+-- How what is due of the bytes goes on: when more bytes come, and with more that is due.
 use Rattle.std.proofs.Common.{◌≡◌, ℕ, ◌-◌, List, [], ◌∷◌, ◌++◌, length, Bool, true, false, ◌||◌, Option, Some, None, inl, inr, refl, sym, ap, ◌∙◌, append_assoc, append-nil, arith}
-use Rattle.std.proofs.lemmas.List.Folds.{list_any-append}
 use Rattle.an_world.specs.Link.{Traffic, IsAtEnd, Reads, Writes}
-use Rattle.an_http.specs.declared.request.Request.{Request}
-use Rattle.an_http.specs.declared.reply.Reply.{Reply}
 use Rattle.an_http.proofs.CutLemmas.{begins_more}
 use Rattle.an_session.specs.Due.{Due, Ask, Refuse, is_last, has_last, IsDue, Fronts}
-use Rattle.an_session.specs.Run.{StepBy, RunBy}
 use Rattle.an_session.specs.Session.{Moves}
 
 neither : (one other : Bool) → (one || other) ≡ false → (one ≡ false) × (other ≡ false)
@@ -17,13 +13,12 @@ neither false other h = (refl, h)
 pub open_parts : (due : Due) (dues : List Due) → has_last (due ∷ dues) ≡ false → (is_last due ≡ false) × (has_last dues ≡ false)
 open_parts due dues h = neither (is_last due) (has_last dues) h
 
--- whether the last one is, is told by the last alone
-pub has_last-next : (dues : List Due) (due : Due) → has_last dues ≡ false → has_last (dues ++ due ∷ []) ≡ is_last due
-has_last-next dues due h = list_any-append is_last dues (due ∷ []) ∙ rw h (by (is_last due))
-  where
-    by : (last : Bool) → (last || false) ≡ last
-    by true = refl
-    by false = refl
+-- whether the last one is among them is told by those behind
+pub has_last-behind : (dues more : List Due) → has_last dues ≡ false → has_last (dues ++ more) ≡ has_last more
+has_last-behind [] more h = refl
+has_last-behind (due ∷ dues) more h =
+    let parts = open_parts due dues h in
+    ap (λ first. first || has_last (dues ++ more)) parts.0 ∙ has_last-behind dues more parts.1
 
 -- a request is due whatever a link tells, and however many bytes come behind it
 due_more : (old new : Option Traffic) (left : ℕ) (bytes more : List ℕ) (due : Due) (rest : List ℕ) → is_last due ≡ false
@@ -57,22 +52,14 @@ due_told old new left bytes (Ask request last) rest keeps due = due
 due_told old new left bytes (Refuse refusal) rest keeps (inl wrong, same) = (inl wrong, same)
 due_told old new left bytes (Refuse refusal) rest keeps (inr (front, ended), same) = (inr (front, keeps ended), same)
 
--- one more is due
-pub fronts_next : (told : Option Traffic) (left : ℕ) (bytes : List ℕ) (dues : List Due) (held : List ℕ) (due : Due) (rest : List ℕ) (count : ℕ) → has_last dues ≡ false
-    → Fronts told left bytes dues held → count ≡ left - length dues → IsDue told count held due rest → Fronts told left bytes (dues ++ due ∷ []) rest
-fronts_next told left bytes [] held due rest count goes_on is so_many here =
-    let all : count ≡ left = omega arith in (rest, rw (is, ← all) here, (λ _. refl), refl)
-fronts_next told left bytes (first ∷ dues) held due rest count goes_on (mid, front, only, next) so_many here =
+-- more is due behind those of which none is the last
+pub fronts_append : (told : Option Traffic) (left : ℕ) (bytes : List ℕ) (dues : List Due) (held : List ℕ) (more : List Due) (rest : List ℕ) (count : ℕ) → has_last dues ≡ false
+    → Fronts told left bytes dues held → count ≡ left - length dues → Fronts told count held more rest → Fronts told left bytes (dues ++ more) rest
+fronts_append told left bytes [] held more rest count goes_on is so_many here =
+    let all : count ≡ left = omega arith in rw (is, ← all) here
+fronts_append told left bytes (first ∷ dues) held more rest count goes_on (mid, front, only, next) so_many here =
     let parts = open_parts first dues goes_on in
-    (mid, front, (λ last. cc), fronts_next told (left - 1) mid dues held due rest count parts.1 next (omega arith) here)
-
--- one more is answered
-pub run_next : {S : Type 0} (answers : S → Request → Reply → S → Type 0) (state : S) (dues : List Due) (written : List ℕ) (mid : S) (due : Due) (text : List ℕ) (state' : S)
-    → RunBy answers state dues written mid → StepBy answers mid due text state' → RunBy answers state (dues ++ due ∷ []) (written ++ text) state'
-run_next answers state [] written mid due text state' (none, same) step =
-    (state', text, [], rw same at step, rw none (sym (append-nil text)), (refl, refl))
-run_next answers state (first ∷ dues) written mid due text state' (after, bytes, later, front, is, next) step =
-    (after, bytes, later ++ text, front, rw is (append_assoc bytes later text), run_next answers after dues later mid due text state' next step)
+    (mid, front, (λ last. cc), fronts_append told (left - 1) mid dues held more rest count parts.1 next (omega arith) here)
 
 -- nothing moved yet, more was read, and more was written
 pub moves_none : (now : Option Traffic) → Moves [] [] now now

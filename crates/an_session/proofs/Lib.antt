@@ -1,5 +1,6 @@
-pub mod TurnLemmas
 pub mod DueLemmas
+pub mod TrailLemmas
+pub mod TurnLemmas
 pub mod SessionLemmas
 pub mod LawLemmas
-pub mod FollowLemmas
+pub mod DueLaws

@@ -1,7 +1,8 @@
 -- What of the bytes of a connection is due a reply, and in which order.
-use Rattle.std.specs.Prelude.{◌≡◌, ◌⊎◌, ℕ, ◌-◌, List, [], ◌∷◌, Bool, true, ◌||◌, nat_le, Option}
+use Rattle.std.specs.Prelude.{◌≡◌, ◌⊎◌, ℕ, ◌+◌, ◌-◌, List, [], ◌∷◌, length, Bool, true}
+use Rattle.std.specs.Prelude.{◌||◌, nat_le, if◌then◌else◌, Option}
 use Rattle.std.specs.List.{list_any}
-use Rattle.an_base.specs.declared.code.Code.{Code}
+use Rattle.an_code.specs.declared.code.Code.{Code}
 use Rattle.an_world.specs.Link.{Traffic, IsAtEnd}
 use Rattle.an_http.specs.declared.request.Request.{Request}
 use Rattle.an_http.specs.Requests.{Whole, Wrong, Front, Nothing, Begins}
@@ -29,6 +30,11 @@ reply_limit = 1000
 abbrev pub IsRefused : Option Traffic → List ℕ → Code → Type 0
 IsRefused told bytes refusal =
     Begins bytes (Wrong refusal) ⊎ (Begins bytes (Front refusal) × IsAtEnd told)
+
+-- for how many requests bytes are read, at most: for each that is due, and for one more where none
+-- of them is the last
+abbrev pub tries : List Due → ℕ
+tries dues = if has_last dues then length dues else length dues + 1
 
 -- with so many replies left, the bytes begin with this one that is due, and with these behind it:
 -- a request that says close is the last, and so is the one for which one reply is left

@@ -1,18 +1,26 @@
--- What one connection comes to: which bytes went over its link, what of them is answered by which
--- bytes, and why it ended.
-use Rattle.std.specs.Prelude.{◌≡◌, ◌⊎◌, ℕ, List, [], ◌∷◌, ◌++◌, take, false, Option}
-use Rattle.std.specs.Prelude.{Some, None}
+-- What one connection comes to.
+use Rattle.std.specs.Prelude.{◌≡◌, ◌≤◌, ◌⊎◌, ℕ, ◌+◌, ◌*◌, List, [], ◌∷◌, ◌++◌, length, take, false}
+use Rattle.std.specs.Prelude.{Option}
 use Rattle.an_base.specs.Faults.{Rises}
 use Rattle.an_world.specs.Link.{Traffic, Tells}
-use Rattle.an_http.specs.declared.request.Request.{Request}
-use Rattle.an_http.specs.declared.reply.Reply.{Reply}
+use Rattle.an_http.specs.Fields.{body_limit}
+use Rattle.an_http.specs.Head.{head_limit}
 use Rattle.an_http.specs.Next.{HoldsNone}
-use Rattle.an_http.specs.Requests.{Whole, Begins}
 use Rattle.an_http.specs.Replies.{memory_reply}
-use Rattle.an_session.specs.Due.{Due, reply_limit, has_last, Fronts, AreAll}
-use Rattle.an_session.specs.Run.{StepBy, RunBy, GivesUp}
+use Rattle.an_session.specs.Due.{reply_limit, has_last, tries, Fronts, AreAll}
+use Rattle.an_session.specs.Trail.{Rules, Known, Item, Ran, dues, text, texts}
 use Rattle.an_session.specs.declared.ended.Ended.{Ended}
 use Rattle.an_session.specs.declared.ended.Ended.TheVariants.{Closed, ReadFault, WriteFault, Memory}
+
+-- what a link tells of itself: its bytes, and its counts of faults
+pub record Line : Type 0 where
+  pub traffic : Option Traffic
+  pub read_faults : ℕ
+  pub write_faults : ℕ
+
+abbrev pub line : Option Traffic → ℕ → ℕ → Line
+line traffic reads writes =
+    record { traffic = traffic; read_faults = reads; write_faults = writes }
 
 -- these bytes were read, and these were written
 pub record MovesBoth (read written : List ℕ) (old new : Traffic) : Type 0 where
@@ -24,99 +32,52 @@ pub record MovesBoth (read written : List ℕ) (old new : Traffic) : Type 0 wher
 abbrev pub Moves : List ℕ → List ℕ → Option Traffic → Option Traffic → Type 0
 Moves read written = Tells (MovesBoth read written)
 
--- where a link tells its bytes: those written end with these
-abbrev pub EndsWith : Option Traffic → List ℕ → Type 0
-EndsWith None bytes = Unit {0}
-EndsWith (Some traffic) bytes = (front : List ℕ) × (traffic.written ≡ front ++ bytes)
-
--- a fault is counted for the end that it brings; and where memory ran out, the reply that says so
--- is written, but for a fault
-abbrev pub IsCaused : Ended → Option Traffic → ℕ → ℕ → ℕ → ℕ → Type 0
-IsCaused Closed new read_faults read_faults' write_faults write_faults' = Unit {0}
-IsCaused ReadFault new read_faults read_faults' write_faults write_faults' =
-    Rises read_faults read_faults'
-IsCaused WriteFault new read_faults read_faults' write_faults write_faults' =
-    Rises write_faults write_faults'
-IsCaused Memory new read_faults read_faults' write_faults write_faults' =
-    Rises write_faults write_faults' ⊎ EndsWith new memory_reply
-
--- all that is due is answered
-pub record Closes {S : Type 0} (answers : S → Request → Reply → S → Type 0)
-    (told : Option Traffic) (read written : List ℕ) (state state' : S) : Type 0 where
-  pub dues : List Due
-  pub rest : List ℕ
-  pub due : Fronts told reply_limit read dues rest
-  pub all : AreAll told dues rest
-  pub run : RunBy answers state dues written state'
-
--- all requests that are whole in what was read are answered, and none of them closes
-pub record ReadStops {S : Type 0} (answers : S → Request → Reply → S → Type 0)
-    (told : Option Traffic) (read written : List ℕ) (state state' : S) : Type 0 where
-  pub dues : List Due
-  pub rest : List ℕ
-  pub due : Fronts told reply_limit read dues rest
-  pub goes_on : has_last dues ≡ false
-  pub none : HoldsNone rest
-  pub run : RunBy answers state dues written state'
-
--- all that is due up to some last one is answered, and a front of the reply to that one is written;
--- nothing behind it was handed to the service
-pub record WriteStops {S : Type 0} (answers : S → Request → Reply → S → Type 0)
-    (told : Option Traffic) (read written : List ℕ) (state state' : S) : Type 0 where
-  pub dues : List Due
-  pub last : Due
-  pub rest : List ℕ
-  pub due : Fronts told reply_limit read (dues ++ last ∷ []) rest
-  pub front : List ℕ
-  pub mid : S
-  pub run : RunBy answers state dues front mid
-  pub text : List ℕ
-  pub step : StepBy answers mid last text state'
+-- the front of a text, behind which a write failed
+pub record Stops (text tail : List ℕ) (old new : Line) : Type 0 where
   pub count : ℕ
-  pub is : written ≡ front ++ take count text
+  pub is : tail ≡ take count text
+  pub fault : Rises old.write_faults new.write_faults
 
--- the next request was handed to the service, and its reply isn't written
-pub record TriesNext {S : Type 0} (answers : S → Request → Reply → S → Type 0)
-    (stays : S → S → Type 0) (bytes : List ℕ) (state state' : S) : Type 0 where
-  pub request : Request
-  pub behind : List ℕ
-  pub begins : Begins bytes (Whole request behind)
-  pub gave_up : GivesUp answers stays state request state'
-
--- memory ran out: behind the replies, none of which closes, stands a front of the one that says so;
--- the service may have met one request more
-pub record MemoryEnds {S : Type 0} (answers : S → Request → Reply → S → Type 0)
-    (stays : S → S → Type 0) (told : Option Traffic) (read written : List ℕ) (state state' : S)
-    : Type 0 where
-  pub dues : List Due
-  pub rest : List ℕ
-  pub due : Fronts told reply_limit read dues rest
-  pub goes_on : has_last dues ≡ false
-  pub front : List ℕ
-  pub mid : S
-  pub run : RunBy answers state dues front mid
-  pub behind : (state' ≡ mid) ⊎ TriesNext answers stays rest mid state'
-  pub count : ℕ
-  pub is : written ≡ front ++ take count memory_reply
-
--- what was read is answered by what was written, as far as the end says
+-- Why a connection ended. The trail has the replies that were written whole; one answer more may be
+-- lost, and these bytes stand behind the replies. The rest of what was read is due no reply yet.
+--
+-- Closed: all that is due is answered.
+-- ReadFault: a read failed, and all requests that are whole in what was read are answered.
+-- WriteFault: a write failed in the reply to the one that is lost.
+-- Memory: behind the replies, none of which closes, stands the one that says so, unless its write
+-- failed. At most one answer is lost.
 abbrev pub Ends
-    : {S : Type 0} → (S → Request → Reply → S → Type 0) → (S → S → Type 0)
-    → Ended → Option Traffic → List ℕ → List ℕ → S → S → Type 0
-Ends answers stays Closed told read written state state' =
-    Closes answers told read written state state'
-Ends answers stays ReadFault told read written state state' =
-    ReadStops answers told read written state state'
-Ends answers stays WriteFault told read written state state' =
-    WriteStops answers told read written state state'
-Ends answers stays Memory told read written state state' =
-    MemoryEnds answers stays told read written state state'
+    : {E : Type 0} → Ended → Line → Line → List (Item E) → List (Item E) → List ℕ → List ℕ → Type 0
+Ends Closed old new trail lost tail rest =
+    (lost ≡ []) × (tail ≡ []) × AreAll new.traffic (dues trail) rest
+Ends ReadFault old new trail lost tail rest =
+    (lost ≡ []) × (tail ≡ []) × (has_last (dues trail) ≡ false) × HoldsNone rest
+    × Rises old.read_faults new.read_faults
+Ends WriteFault old new trail lost tail rest =
+    (last : Item _) × (lost ≡ last ∷ []) × Stops (text last) tail old new
+Ends Memory old new trail lost tail rest =
+    (length lost ≤ 1) × (has_last (dues trail) ≡ false)
+    × ((tail ≡ memory_reply) ⊎ Stops memory_reply tail old new)
 
--- what went over the link, from its first byte on, and how it ended
-pub record Session {S : Type 0} (answers : S → Request → Reply → S → Type 0)
-    (stays : S → S → Type 0) (ended : Ended) (old new : Option Traffic) (state state' : S)
-    : Type 0 where
+-- From its first byte on: what is due of the bytes that were read is answered, one behind another,
+-- by the bytes that were written, as far as the end says. For none that is due more bytes are read
+-- than a largest request has, nor for one more, if there may be one.
+pub record Session {E : Type 0} (rules : Rules E) (ended : Ended) (old new : Line)
+    (from to : Known E) : Type 0 where
+  pub trail : List (Item E)
+  pub lost : List (Item E)
+  pub ran : Ran rules (trail ++ lost) from to
+  pub read : List ℕ
+  pub rest : List ℕ
+  pub due : Fronts new.traffic reply_limit read (dues (trail ++ lost)) rest
+  pub tail : List ℕ
+  pub moves : Moves read (texts trail ++ tail) old.traffic new.traffic
+  pub few : length read ≤ tries (dues (trail ++ lost)) * (head_limit + body_limit)
+  pub ends : Ends ended old new trail lost tail rest
+
+-- no more is read than 1,000 requests of a largest head and a largest body have
+pub record ReadsRequests (old new : Option Traffic) : Type 0 where
   pub read : List ℕ
   pub written : List ℕ
   pub moves : Moves read written old new
-  pub ends : Ends answers stays ended new read written state state'
+  pub most : length read ≤ reply_limit * (head_limit + body_limit)

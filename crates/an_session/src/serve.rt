@@ -1,5 +1,6 @@
 ghost use Rattle.std.specs.Prelude.{◌≤◌};
-ghost use Rattle.an_session.specs.Session.{Session, IsCaused};
+ghost use Rattle.an_session.specs.Session.{Session, line};
+ghost use Rattle.an_session.specs.Trail.{Goes};
 
 use crate::ended::Ended;
 use crate::service::Service;
@@ -23,11 +24,11 @@ pub fn serve_link<L: Link, C, S: Service<C>>(
     service: &mut S,
     context: &C,
 ) -> Ended
-    ensures session { Session (S.answers context.now) S.stays result
-        (L.traffic link.old) (L.traffic link.new) service.old service.new }
-    ensures cause { IsCaused result (L.traffic link.new)
-        (L.read_faults link.old) (L.read_faults link.new)
-        (L.write_faults link.old) (L.write_faults link.new) }
+    ensures session { Goes S.stands (Session (S.rules context.now) result
+        (line (L.traffic link.old) (L.read_faults link.old) (L.write_faults link.old))
+        (line (L.traffic link.new) (L.read_faults link.new) (L.write_faults link.new)))
+        service.old service.new }
+    ensures kept { S.kept service.old service.new }
     ensures read_faults_kept { L.read_faults link.old ≤ L.read_faults link.new }
     ensures write_faults_kept { L.write_faults link.old ≤ L.write_faults link.new }
 {

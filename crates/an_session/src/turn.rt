@@ -1,25 +1,23 @@
-ghost use Rattle.std.specs.Prelude.{◌≡◌, ◌≤◌, ◌⊎◌, ◌||◌, nat_le, true, false, IfOk, IfSome};
-ghost use Rattle.an_base.specs.Faults.{Rises};
-ghost use Rattle.an_world.specs.Link.{WritesFront};
-ghost use Rattle.an_http.specs.Replies.{memory_reply, reply_bytes};
+ghost use Rattle.std.specs.Prelude.{◌≡◌, ◌<◌, ◌≤◌, ◌||◌, length, max, nat_le, true, false};
+ghost use Rattle.std.specs.Prelude.{None};
+ghost use Rattle.an_http.specs.Replies.{reply_bytes};
 ghost use Rattle.an_session.specs.Due.{Ask};
-ghost use Rattle.an_session.specs.Run.{is_head, bad_reply};
-ghost use Rattle.an_session.specs.Session.{EndsWith, IsCaused};
-ghost use Rattle.an_session.specs.Turn.{IsPut, IsServed, IsMet, Turns};
+ghost use Rattle.an_session.specs.Session.{line};
+ghost use Rattle.an_session.specs.Trail.{Goes, is_head, bad_reply};
+ghost use Rattle.an_session.specs.Turn.{TellsMemory, IsPut, IsServed, IsMet, Turns, most};
 
 use crate::ended::Ended;
 use crate::service::Service;
-use an_base::Code;
+use an_code::Code;
 use an_http::{
-    Allow, Buffer, Extra, LinkError, Media, Next, PutError, Reply, Request, error_body,
-    next_request, put_memory_reply, put_reply, status_of,
+    Allow, Buffer, LinkError, Method, Next, PutError, Reply, Request, next_request,
+    put_memory_reply, put_reply, refusal_reply,
 };
 use an_world::Link;
-use std::alloc::{AllocError, Global};
+use std::alloc::Global;
 
 /// Reads what comes next and writes the reply to it, where so many replies are left. Answers why
 /// the connection ends, if it does.
-#[tactic(auto, using(crate::proofs::TurnLemmas::turning))]
 pub(crate) fn turn<L: Link, C, S: Service<C>>(
     alloc: Global,
     link: &mut L,
@@ -28,12 +26,13 @@ pub(crate) fn turn<L: Link, C, S: Service<C>>(
     context: &C,
     left: u32,
 ) -> Option<Ended>
-    ensures turns { Turns (S.answers context.now) S.stays left result
-        (L.traffic link.old) (L.traffic link.new)
-        buffer.old buffer.new service.old service.new }
-    ensures cause { IfSome result (λ ended. IsCaused ended (L.traffic link.new)
-        (L.read_faults link.old) (L.read_faults link.new)
-        (L.write_faults link.old) (L.write_faults link.new)) }
+    ensures turns { Goes S.stands (Turns (S.rules context.now) left result
+        (line (L.traffic link.old) (L.read_faults link.old) (L.write_faults link.old))
+        (line (L.traffic link.new) (L.read_faults link.new) (L.write_faults link.new))
+        buffer.old buffer.new) service.old service.new }
+    ensures kept { S.kept service.old service.new }
+    ensures more { result ≡ None → 1 < left }
+    ensures most { length buffer.new ≤ max (length buffer.old) most }
     ensures read_faults_kept { L.read_faults link.old ≤ L.read_faults link.new }
     ensures write_faults_kept { L.write_faults link.old ≤ L.write_faults link.new }
 {
@@ -45,6 +44,7 @@ pub(crate) fn turn<L: Link, C, S: Service<C>>(
 }
 
 /// Writes the reply to what came next.
+#[tactic(auto, using(crate::proofs::TurnLemmas::no_more))]
 fn serve_next<L: Link, C, S: Service<C>>(
     alloc: Global,
     link: &mut L,
@@ -53,11 +53,12 @@ fn serve_next<L: Link, C, S: Service<C>>(
     next: &Next,
     left: u32,
 ) -> Option<Ended>
-    ensures met { IsMet (S.answers context.now) S.stays left next.now result
-        (L.traffic link.old) (L.traffic link.new) service.old service.new }
-    ensures cause { IfSome result (λ ended. IsCaused ended (L.traffic link.new)
-        (L.read_faults link.old) (L.read_faults link.new)
-        (L.write_faults link.old) (L.write_faults link.new)) }
+    ensures met { Goes S.stands (IsMet (S.rules context.now) left next.now result
+        (line (L.traffic link.old) (L.read_faults link.old) (L.write_faults link.old))
+        (line (L.traffic link.new) (L.read_faults link.new) (L.write_faults link.new)))
+        service.old service.new }
+    ensures kept { S.kept service.old service.new }
+    ensures more { result ≡ None → 1 < left }
     ensures read_faults_kept { L.read_faults link.old ≤ L.read_faults link.new }
     ensures write_faults_kept { L.write_faults link.old ≤ L.write_faults link.new }
 {
@@ -69,7 +70,7 @@ fn serve_next<L: Link, C, S: Service<C>>(
 }
 
 /// Has the request answered, and writes the reply.
-#[tactic(auto, using(crate::proofs::TurnLemmas::served_request))]
+#[tactic(auto, using(crate::proofs::TurnLemmas::more_left))]
 fn serve_request<L: Link, C, S: Service<C>>(
     alloc: Global,
     link: &mut L,
@@ -78,57 +79,53 @@ fn serve_request<L: Link, C, S: Service<C>>(
     request: &Request,
     left: u32,
 ) -> Option<Ended>
-    ensures served { IsServed (S.answers context.now) S.stays
+    ensures served { Goes S.stands (IsServed (S.rules context.now)
         (Ask request.now (request.now.close || nat_le left 1)) result
-        (L.traffic link.old) (L.traffic link.new) service.old service.new }
-    ensures cause { IfSome result (λ ended. IsCaused ended (L.traffic link.new)
-        (L.read_faults link.old) (L.read_faults link.new)
-        (L.write_faults link.old) (L.write_faults link.new)) }
+        (line (L.traffic link.old) (L.read_faults link.old) (L.write_faults link.old))
+        (line (L.traffic link.new) (L.read_faults link.new) (L.write_faults link.new)))
+        service.old service.new }
+    ensures kept { S.kept service.old service.new }
+    ensures more { result ≡ None → 1 < left }
     ensures read_faults_kept { L.read_faults link.old ≤ L.read_faults link.new }
     ensures write_faults_kept { L.write_faults link.old ≤ L.write_faults link.new }
 {
     match service.answer(alloc, context, request) {
         Ok(reply) => {
-            let last = request.close || left <= 1;
+            let last = is_last(request, left);
             put(alloc, link, &reply, is_head(request), last)
         }
         Err(_) => Some(out_of_memory(link)),
     }
 }
 
+/// Whether the connection closes behind the reply, where so many are left.
+fn is_last(request: &Request, left: u32) -> bool
+    ensures { result ≡ (request.now.close || nat_le left 1) }
+{
+    request.close || left <= 1
+}
+
 fn is_head(request: &Request) -> bool
     ensures { result ≡ is_head request.now }
 {
-    request.method.as_str() == "HEAD"
+    match request.method {
+        Some(Method::Head) => true,
+        _ => false,
+    }
 }
 
 /// Writes the reply to what is refused before it is a request.
 fn serve_refusal<L: Link>(alloc: Global, link: &mut L, refusal: Code) -> Option<Ended>
     ensures put { IsPut (reply_bytes (bad_reply refusal) false true) true result
-        (L.traffic link.old) (L.traffic link.new) }
-    ensures cause { IfSome result (λ ended. IsCaused ended (L.traffic link.new)
-        (L.read_faults link.old) (L.read_faults link.new)
-        (L.write_faults link.old) (L.write_faults link.new)) }
+        (line (L.traffic link.old) (L.read_faults link.old) (L.write_faults link.old))
+        (line (L.traffic link.new) (L.read_faults link.new) (L.write_faults link.new)) }
     ensures read_faults_kept { L.read_faults link.old ≤ L.read_faults link.new }
     ensures write_faults_kept { L.write_faults link.old ≤ L.write_faults link.new }
 {
-    match bad_reply(alloc, refusal) {
+    match refusal_reply(alloc, Allow::Absent, refusal) {
         Ok(reply) => put(alloc, link, &reply, false, true),
         Err(_) => Some(out_of_memory(link)),
     }
-}
-
-fn bad_reply(alloc: Global, refusal: Code) -> Result<Reply, AllocError>
-    ensures reply { IfOk result (λ reply. reply ≡ bad_reply refusal) }
-{
-    let body = error_body(alloc, refusal)?;
-    Ok(Reply {
-        status: status_of(refusal),
-        allow: Allow::Absent,
-        media: Media::Json,
-        extra: Extra::Absent,
-        body,
-    })
 }
 
 /// Writes a reply, which is the last of its connection or not. Answers why the connection ends, if
@@ -141,10 +138,8 @@ fn put<L: Link>(
     last: bool,
 ) -> Option<Ended>
     ensures put { IsPut (reply_bytes reply.now head_only last) last result
-        (L.traffic link.old) (L.traffic link.new) }
-    ensures cause { IfSome result (λ ended. IsCaused ended (L.traffic link.new)
-        (L.read_faults link.old) (L.read_faults link.new)
-        (L.write_faults link.old) (L.write_faults link.new)) }
+        (line (L.traffic link.old) (L.read_faults link.old) (L.write_faults link.old))
+        (line (L.traffic link.new) (L.read_faults link.new) (L.write_faults link.new)) }
     ensures read_faults_kept { L.read_faults link.old ≤ L.read_faults link.new }
     ensures write_faults_kept { L.write_faults link.old ≤ L.write_faults link.new }
 {
@@ -156,12 +151,12 @@ fn put<L: Link>(
 }
 
 /// Writes the reply that memory ran out. The connection ends whether or not that could be written.
-#[tactic(auto, using(crate::proofs::TurnLemmas::told_or_failed))]
+#[tactic(auto, using(crate::proofs::TurnLemmas::tells_memory))]
 fn out_of_memory<L: Link>(link: &mut L) -> Ended
     ensures memory { result ≡ Ended.Memory }
-    ensures front { WritesFront memory_reply (L.traffic link.old) (L.traffic link.new) }
-    ensures cause { Rises (L.write_faults link.old) (L.write_faults link.new)
-        ⊎ EndsWith (L.traffic link.new) memory_reply }
+    ensures tells { TellsMemory
+        (line (L.traffic link.old) (L.read_faults link.old) (L.write_faults link.old))
+        (line (L.traffic link.new) (L.read_faults link.new) (L.write_faults link.new)) }
     ensures read_faults_kept { L.read_faults link.old ≤ L.read_faults link.new }
     ensures write_faults_kept { L.write_faults link.old ≤ L.write_faults link.new }
 {

@@ -1,3 +1,4 @@
+pub mod ClosingLemmas
 pub mod NextLemmas
 pub mod ReadingLemmas
 pub mod RestoringLemmas

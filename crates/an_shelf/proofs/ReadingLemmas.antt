@@ -6,10 +6,10 @@ use Rattle.std.proofs.lemmas.Option.{same_Some}
 use Rattle.an_keep.specs.Cells.{Ascend, first_of, next_after}
 use Rattle.an_keep.specs.Keeper.{Told, Stays}
 use Rattle.an_keep.specs.declared.cell.Cell.{Cell}
-use Rattle.an_machine.specs.Entries.{with_row}
-use Rattle.an_machine.specs.Sound.{is_sound}
-use Rattle.an_machine.specs.State.{State, empty}
-use Rattle.an_machine.specs.declared.entry.Row.{Row}
+use Rattle.an_state.specs.Entries.{with_row}
+use Rattle.an_state.specs.Sound.{is_sound}
+use Rattle.an_state.specs.State.{State, empty}
+use Rattle.an_state.specs.declared.entry.Row.{Row}
 use Rattle.an_rows.specs.Cells.{Place, place_of, row_behind, restored, is_first, first_cell, state_of, cells}
 use Rattle.an_rows.specs.Valid.{is_valid}
 use Rattle.an_rows.proofs.OpenedLemmas.{opened-valid, opened-sound, opened-cells}

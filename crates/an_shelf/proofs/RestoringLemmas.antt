@@ -13,10 +13,10 @@ use Rattle.an_keyed.specs.Key.{Key, same_key}
 use Rattle.an_keyed.specs.Rows.{place_of, row_of, put_at}
 use Rattle.an_policy.specs.Audience.{Identity, signed}
 use Rattle.an_policy.specs.declared.reader.Reader.{Reader}
-use Rattle.an_machine.specs.Entries.{with_row}
-use Rattle.an_machine.specs.State.{State, KeptReader, KeptManifest, KeptNote, reader_key, manifest_key, note_key, reader_row, manifest_row, note_row, reader_with_token, live_readers}
-use Rattle.an_machine.specs.declared.entry.Row.{Row}
-use Rattle.an_machine.specs.declared.entry.Row.TheVariants as kept
+use Rattle.an_state.specs.Entries.{with_row}
+use Rattle.an_state.specs.State.{State, KeptReader, KeptManifest, KeptNote, reader_key, manifest_key, note_key, reader_row, manifest_row, note_row, reader_with_token, live_readers}
+use Rattle.an_state.specs.declared.entry.Row.{Row}
+use Rattle.an_state.specs.declared.entry.Row.TheVariants as kept
 use Rattle.an_rows.specs.Cells as its
 use Rattle.an_rows.specs.Cells.{Place, has_key, rows_before, may_follow, if_next, row_behind}
 use Rattle.an_rows.specs.RowRead.{row_of_text, row_of_cell, is_table, is_place}

@@ -1,6 +1,6 @@
 -- What is decided of a write, and what keeping it does to the cells.
-use Rattle.std.proofs.Common.{◌≡◌, ℤ, true, Option, Some, None, Result, Ok, Err, refl, sym, ap, ◌∙◌}
-use Rattle.std.specs.Prelude.{IfOk, IfSome, OnOk}
+use Rattle.std.proofs.Common.{◌≡◌, ℤ, true, Option, Some, None, Result, Ok, Err, IsTrue, refl, sym, ap, subst, ◌∙◌}
+use Rattle.std.specs.Prelude.{IfOk, IfSome, OnErr, OnOk}
 use Rattle.std.proofs.lemmas.Bool.{false≢true}
 use Rattle.an_keep.specs.Cells.{put_changes}
 use Rattle.an_keep.specs.Keeper.{Told, Stays, Turns}
@@ -8,21 +8,28 @@ use Rattle.an_policy.specs.declared.who.Caller.{Caller}
 use Rattle.an_policy.specs.Audience.{Identity}
 use Rattle.an_machine.specs.Accepted.{decided, effect_of, moment_of_write}
 use Rattle.an_machine.specs.Asked.{asked_of}
-use Rattle.an_machine.specs.Entries.{after, state_after}
+use Rattle.an_state.specs.Commands.{is_write}
+use Rattle.an_state.specs.Entries.{after, state_after}
+use Rattle.an_state.specs.Sound.{is_sound}
+use Rattle.an_machine.specs.Legal.{Write}
 use Rattle.an_machine.specs.Refusals.{signer_of, refusals_before}
-use Rattle.an_machine.specs.State.{State}
+use Rattle.an_state.specs.State.{State}
 use Rattle.an_machine.specs.Step.{refused_or, and_then, judged, step_if_signed, step}
 use Rattle.an_base.specs.Outcome.{first_of}
-use Rattle.an_machine.specs.declared.command.Command.{Command}
+use Rattle.an_state.specs.declared.command.Command.{Command}
 use Rattle.an_machine.specs.declared.command.Decided.{Decided}
 use Rattle.an_machine.specs.declared.command.Refused.{Refused}
 use Rattle.an_machine.specs.declared.command.WriteReply.{WriteReply}
 use Rattle.an_machine.specs.declared.effect.Effect.{Effect}
-use Rattle.an_machine.specs.declared.entry.Entry.{Entry}
+use Rattle.an_state.specs.declared.entry.Entry.{Entry}
 use Rattle.an_rows.specs.Cells.{cells}
 use Rattle.an_rows.specs.Changes.{changes_of, is_settled}
-use Rattle.an_rows.proofs.AcceptedLemmas.{accepted-settled}
+use Rattle.an_rows.specs.Valid.{is_valid}
+use Rattle.an_laws.proofs.AcceptedLemmas.{accepted-settled}
+use Rattle.an_laws.proofs.SoundLemmas.{sound-after}
+use Rattle.an_laws.proofs.ValidStepLemmas.{valid-after}
 use Rattle.an_rows.proofs.ChangeLemmas.{changes-lead}
+use Rattle.an_shelf.specs.Store.{Stands}
 use Rattle.an_shelf.specs.declared.error.WriteError.{WriteError}
 
 -- ---- a write that had been done
@@ -73,6 +80,19 @@ cells-stay s t (Some old) (Some new) before stays is = stays ∙ before ∙ ap c
 
 -- ---- what is decided
 
+-- it leads from a valid state to a valid one, and from a sound state to a sound one
+module _ (s : State) (moment : ℤ) (caller : Caller) (command : Command) (d : Decided) (is : step s moment caller command ≡ Ok d) (sound : IsTrue (is_sound s)) where
+  abbrev write_of : Entry → Write
+  write_of entry = record { moment = moment; caller = caller; command = command; entry = entry }
+
+  decided-sound : (found : Option Entry) → d.entry ≡ found → IsTrue (is_sound (state_after s found))
+  decided-sound None at = sound
+  decided-sound (Some entry) at = sound-after s (write_of entry) (d, is, at) sound
+
+  decided-valid : IsTrue (is_write moment command) → IsTrue (is_valid s) → (found : Option Entry) → d.entry ≡ found → IsTrue (is_valid (state_after s found))
+  decided-valid sent valid None at = valid
+  decided-valid sent valid (Some entry) at = valid-after s (write_of entry) (d, is, at) sent sound valid
+
 -- the entry of what is decided is settled
 pub entry-settled : (s : State) (moment : ℤ) (caller : Caller) (command : Command) (d : Decided) → step s moment caller command ≡ Ok d → IfSome d.entry (λ entry. is_settled s entry ≡ true)
 entry-settled s moment caller command d is = by_entry d.entry refl
@@ -80,6 +100,27 @@ entry-settled s moment caller command d is = by_entry d.entry refl
     by_entry : (found : Option Entry) → d.entry ≡ found → IfSome found (λ entry. is_settled s entry ≡ true)
     by_entry None at = tt
     by_entry (Some entry) at = accepted-settled s moment caller command d entry is at
+
+-- ---- what stands behind a write
+
+cells-behind : (t : State) (old new : Told) → Turns (λ found. cells t) old new → IfSome new (λ found. found ≡ cells t)
+cells-behind t old None turns = tt
+cells-behind t None (Some new) turns = absurd turns
+cells-behind t (Some old) (Some new) turns = turns
+
+-- the state behind a write is the one that was decided, or the one before
+led : (P : State → Type 0) (s t u : State) (result : Result WriteReply WriteError) → OnOk result (t ≡ u) → OnErr result (t ≡ s) → P s → P u → P t
+led P s t u (Ok reply) ok err before behind = subst P (sym ok) behind
+led P s t u (Err error) ok err before behind = subst P (sym err) before
+
+pub stands-behind : (s : State) (moment : ℤ) (caller : Caller) (command : Command) (d : Decided) → step s moment caller command ≡ Ok d → IsTrue (is_write moment command)
+    → (t : State) (old new : Told) (result : Result WriteReply WriteError) → Stands old s → OnOk result (t ≡ state_after s d.entry) → OnErr result (t ≡ s)
+    → Turns (λ found. cells t) old new → Stands new t
+stands-behind s moment caller command d is sent t old new result stands ok err turns = record {
+  cells_are = cells-behind t old new turns;
+  valid = led (λ t. IsTrue (is_valid t)) s t (state_after s d.entry) result ok err stands.valid (decided-valid s moment caller command d is stands.sound sent stands.valid d.entry refl);
+  sound = led (λ t. IsTrue (is_sound t)) s t (state_after s d.entry) result ok err stands.sound (decided-sound s moment caller command d is stands.sound d.entry refl);
+}
 
 -- ---- a repeat
 

@@ -1,7 +1,7 @@
 -- What comes of opening the cells of a keeper.
 use Rattle.std.specs.Prelude.{◌≡◌, IfSome, Ok, Err, ⊤}
 use Rattle.an_keep.specs.Keeper.{Told, StaysOrBegins}
-use Rattle.an_machine.specs.State.{State}
+use Rattle.an_state.specs.State.{State}
 use Rattle.an_rows.specs.Cells.{state_of}
 use Rattle.an_shelf.specs.declared.error.OpenError.{OpenError}
 use Rattle.an_shelf.specs.declared.error.OpenError.TheVariants.{Keeper, Damaged, Memory}
@@ -9,6 +9,12 @@ use Rattle.an_shelf.specs.declared.error.OpenError.TheVariants.{Keeper, Damaged,
 -- the cells stand for this state
 abbrev pub StandFor : Told → State → Type 0
 StandFor told s = IfSome told (λ cells. state_of cells ≡ Ok s)
+
+-- the same of a keeper as it was once it was opened; no call of it had changed its cells
+pub record WasOpened {K : Type 0} (told : K → Told) (old : Told) (s : State) : Type 0 where
+  pub kept : K
+  pub stays : StaysOrBegins old (told kept)
+  pub stand : StandFor (told kept) s
 
 -- of damage: the cells stand for no state, and the first damaged one is there
 abbrev pub IsDamagedBy : Told → OpenError → Type 0

@@ -1,8 +1,8 @@
 -- What comes of the next cell, as it is read.
 use Rattle.std.specs.Prelude.{◌≡◌, ℕ, ◌+◌, length, Result, Ok, Err, MatchResult, ⊤}
 use Rattle.an_keep.specs.declared.cell.Cell.{Cell}
-use Rattle.an_machine.specs.Entries.{with_row}
-use Rattle.an_machine.specs.State.{State}
+use Rattle.an_state.specs.Entries.{with_row}
+use Rattle.an_state.specs.State.{State}
 use Rattle.an_rows.specs.Cells.{Place, row_behind}
 use Rattle.an_rows.specs.declared.refusal.RowError.{RowError}
 use Rattle.an_rows.specs.declared.refusal.RowError.TheVariants as read

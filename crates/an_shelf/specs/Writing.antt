@@ -1,7 +1,7 @@
 -- What a write at a desk does.
 use Rattle.std.specs.Prelude.{◌≡◌, IsSome, Result, Ok, Err, ⊤}
-use Rattle.an_machine.specs.Entries.{state_after}
-use Rattle.an_machine.specs.State.{State}
+use Rattle.an_state.specs.Entries.{state_after}
+use Rattle.an_state.specs.State.{State}
 use Rattle.an_machine.specs.declared.command.Decided.{Decided}
 use Rattle.an_machine.specs.declared.command.Refused.{Refused}
 use Rattle.an_machine.specs.declared.command.Refused.TheVariants as machine

@@ -3,27 +3,30 @@ ghost use Rattle.std.specs.Prelude.{OnOk};
 ghost use Rattle.an_base.specs.Faults.{Rises};
 ghost use Rattle.an_keep.specs.Cells.{put_changes};
 ghost use Rattle.an_keep.specs.Keeper.{Stays, StaysOrBegins, Turns};
-ghost use Rattle.an_machine.specs.Entries.{after, needs, state_after};
-ghost use Rattle.an_machine.specs.Sound.{is_sound};
+ghost use Rattle.an_state.specs.Commands.{is_sendable, is_write};
+ghost use Rattle.an_state.specs.Entries.{after, needs, state_after};
+ghost use Rattle.an_state.specs.Sound.{is_sound};
 ghost use Rattle.an_machine.specs.Step.{step};
 ghost use Rattle.an_rows.specs.Cells.{cells};
 ghost use Rattle.an_rows.specs.Changes.{changes_of, is_settled};
 ghost use Rattle.an_rows.specs.Valid.{is_valid};
-ghost use Rattle.an_shelf.specs.Opening.{StandFor, WasDamagedBy};
+ghost use Rattle.an_shelf.specs.Opening.{StandFor, WasDamagedBy, WasOpened};
+ghost use Rattle.an_shelf.specs.Store.{Rests, Stands};
 ghost use Rattle.an_shelf.specs.Writing.{IsRefused, Writes, refusal_error};
 
 use crate::error::{OpenError, WriteError};
 use crate::opening::load;
 use an_base::Moment;
 use an_keep::{KeepError, Keeper};
-use an_machine::{Book, Command, Decided, Entry, Refused, WriteReply};
+use an_machine::{Decided, Refused, WriteReply};
 use an_policy::Caller;
 use an_rows::cells_of;
+use an_state::{Book, Command, Entry, typed_writes};
 use std::alloc::Global;
 use std::marker::Model;
 
-/// A store that one caller after the other reads and writes. Where its keeper tells its cells, they
-/// are those of the state.
+/// A store that one caller after the other reads and writes. Its state is valid and sound, and
+/// where its keeper tells its cells, they are those of the state: they can always be opened again.
 #[derive(Drop)]
 pub struct Desk<K: Keeper> {
     keeper: K,
@@ -31,11 +34,9 @@ pub struct Desk<K: Keeper> {
 }
 
 impl<K: Keeper> Model for Desk<K> {
-    ghost use Rattle.std.specs.Prelude.{◌≡◌, IfSome};
     ghost use Rattle.std.specs.Coded.{codes};
     ghost use Rattle.an_base.specs.TreeCode.{tree_code};
-    ghost use Rattle.an_rows.specs.Cells.{cells};
-    ghost use Rattle.an_shelf.specs.Store.{Store};
+    ghost use Rattle.an_shelf.specs.Store.{Stands, Store};
 
     ghost Value = { Store };
 
@@ -47,7 +48,7 @@ impl<K: Keeper> Model for Desk<K> {
       faults = K.faults d.keeper;
     } };
 
-    ghost invariant = { λ d. IfSome (K.told d.keeper) (λ found. found ≡ cells d.book.state) };
+    ghost invariant = { λ d. Stands (K.told d.keeper) d.book.state };
 }
 
 impl<K: Keeper> Desk<K> {
@@ -58,6 +59,7 @@ impl<K: Keeper> Desk<K> {
         ensures stays { IfOk result (λ desk. StaysOrBegins (K.told keeper) desk.told) }
         ensures cells { IfOk result (λ desk. IfSome desk.told (λ found. found
             ≡ cells desk.state)) }
+        ensures opened { IfOk result (λ desk. WasOpened K.told (K.told keeper) desk.state) }
         ensures damaged { IfErr result (WasDamagedBy K.told (K.told keeper)) }
         ensures sure { IsTrue K.is_sure → ¬ (result ≡ Err OpenError.Keeper) }
 
@@ -69,7 +71,8 @@ impl<K: Keeper> Desk<K> {
         Ok(Desk { keeper, book })
     }
 
-    /// Does a write: it is decided, kept, and then applied. All memory is taken before it is kept.
+    /// Does a write, whose number is from 1 to 999,999,999 and whose group is a group: it is
+    /// decided, kept, and then applied. All memory is taken before it is kept.
     pub fn write(
         &mut self,
         alloc: Global,
@@ -77,6 +80,7 @@ impl<K: Keeper> Desk<K> {
         caller: &Caller,
         command: Command,
     ) -> Result<WriteReply, WriteError>
+        requires sendable { IsTrue (is_sendable command) }
         ensures written { IfOk result (λ reply. Writes
             (step self.old.state moment caller.now command) self.old.state reply self.new.state) }
         ensures refused { IfErr result
@@ -89,9 +93,9 @@ impl<K: Keeper> Desk<K> {
         ensures stays { OnErr result (Stays self.old.told self.new.told) }
 
         // Without an entry the keeper isn't called.
-        ensures repeated { IfOk result (λ reply. IsTrue reply.repeat → self.new ≡ self.old) }
+        ensures repeated { IfOk result (λ reply. IsTrue reply.repeat → Rests self.old self.new) }
         ensures passed { (refusal : Refused) → result ≡ Err (WriteError.Refused refusal)
-            → self.new ≡ self.old }
+            → Rests self.old self.new }
         ensures counted { result ≡ Err WriteError.Keeper → Rises self.old.faults self.new.faults }
         ensures faults_kept { self.old.faults ≤ self.new.faults }
         ensures sure { IsTrue K.is_sure → ¬ (result ≡ Err WriteError.Keeper) }
@@ -109,16 +113,23 @@ impl<K: Keeper> Desk<K> {
     /// What the state is. It takes no memory.
     pub fn look(&self) -> &Book
         ensures state { result.now.state ≡ self.now.state }
+
+        // What holds of each desk.
         ensures cells { IfSome self.now.told (λ found. found ≡ cells self.now.state) }
+        ensures valid { IsTrue (is_valid self.now.state) }
+        ensures sound { IsTrue (is_sound self.now.state) }
     {
         &self.book
     }
 
-    /// Gives the keeper back, whose cells are those of the state. It takes no memory.
+    /// Gives the keeper back, whose cells are those of the state, and stand for it. It takes no
+    /// memory.
+    #[tactic(auto, using(crate::proofs::ClosingLemmas::closing))]
     pub fn into_keeper(self) -> K
         ensures told { K.told result ≡ self.told }
         ensures faults { K.faults result ≡ self.faults }
         ensures cells { IfSome self.told (λ found. found ≡ cells self.state) }
+        ensures stand { StandFor self.told self.state }
     {
         self.keeper
     }
@@ -133,7 +144,9 @@ fn write<K: Keeper>(
     caller: &Caller,
     command: &Command,
 ) -> Result<WriteReply, WriteError>
-    requires cells { IfSome (K.told keeper.old) (λ found. found ≡ cells book.old.state) }
+    requires sendable { IsTrue (is_sendable command.now) }
+    requires stands { Stands (K.told keeper.old) book.old.state }
+    ensures stands { Stands (K.told keeper.new) book.new.state }
     ensures written { IfOk result (λ reply. Writes
         (step book.old.state moment caller.now command.now) book.old.state reply book.new.state) }
     ensures refused { IfErr result
@@ -152,6 +165,7 @@ fn write<K: Keeper>(
     ensures faults_kept { K.faults keeper.old ≤ K.faults keeper.new }
     ensures sure { IsTrue K.is_sure → ¬ (result ≡ Err WriteError.Keeper) }
 {
+    typed_writes(moment, command);
     let decided = decide(alloc, book, moment, caller, command)?;
     settle(alloc, keeper, book, decided)
 }
@@ -164,6 +178,7 @@ fn decide(
     caller: &Caller,
     command: &Command,
 ) -> Result<Decided, WriteError>
+    requires sendable { IsTrue (is_sendable command.now) }
     ensures decided { IfOk result (λ write. step book.now.state moment caller.now command.now
         ≡ Ok write) }
     ensures refused { IfErr result
@@ -171,7 +186,7 @@ fn decide(
     ensures no_memory { ¬ (result ≡ Err (WriteError.Refused Refused.Memory)) }
     ensures no_keeper { ¬ (result ≡ Err WriteError.Keeper) }
 {
-    match book.decide(alloc, moment, caller, command) {
+    match an_machine::decide(alloc, book, moment, caller, command) {
         Ok(decided) => Ok(decided),
         Err(refused) => Err(refusal_error(refused)),
     }

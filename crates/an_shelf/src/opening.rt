@@ -2,7 +2,7 @@ ghost use Rattle.std.specs.Prelude.{◌≡◌, ◌≤◌, IfErr, IfOk, IfSome, I
 ghost use Rattle.an_keep.specs.Cells.{Ascend, first_of};
 ghost use Rattle.an_base.specs.Faults.{Rises};
 ghost use Rattle.an_keep.specs.Keeper.{Stays, StaysOrBegins};
-ghost use Rattle.an_machine.specs.Sound.{is_sound};
+ghost use Rattle.an_state.specs.Sound.{is_sound};
 ghost use Rattle.an_rows.specs.Cells.{cells, is_first};
 ghost use Rattle.an_rows.specs.Valid.{is_valid};
 ghost use Rattle.an_shelf.specs.Opening.{IsDamagedBy, StandFor};
@@ -11,7 +11,7 @@ ghost use Rattle.an_shelf.specs.Reading.{ComesNext};
 use crate::error::OpenError;
 use crate::restoring::{damage, restore};
 use an_keep::{Cell, Keeper};
-use an_machine::Book;
+use an_state::Book;
 use std::alloc::Global;
 
 /// The keys of a table end below this, so that no store has as many rows.

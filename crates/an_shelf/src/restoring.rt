@@ -1,8 +1,8 @@
 //! The row of a cell, put behind those of a book.
 ghost use Rattle.std.specs.Prelude.{◌≡◌, ◌+◌, ◌<◌, ◌≤◌, ◌^◌, bytes_eq, IfErr, IfOk, OnOk, Ok};
 ghost use Rattle.std.specs.List.{list_any};
-ghost use Rattle.an_machine.specs.Sound.{is_live_manifest, stands_on_live};
-ghost use Rattle.an_machine.specs.State.{live_readers, manifest_key, note_key, reader_key};
+ghost use Rattle.an_state.specs.Sound.{is_live_manifest, stands_on_live};
+ghost use Rattle.an_state.specs.State.{live_readers, manifest_key, note_key, reader_key};
 ghost use Rattle.an_rows.specs.Cells.{has_its_token, has_key, if_next, may_follow, row_behind};
 ghost use Rattle.an_rows.specs.Cells.{rows_before};
 ghost use Rattle.an_rows.specs.RowTree.{table_of};
@@ -12,9 +12,9 @@ use crate::error::OpenError;
 use an_base::{Name, Text, TryCopy};
 use an_keep::Cell;
 use an_keyed::Keyed;
-use an_machine::{Activity, Book, Entry, Look, ManifestRow, NoteRow, ReaderRow, Row};
 use an_policy::Caller;
 use an_rows::{RowError, read_row};
+use an_state::{Activity, Book, Entry, Look, ManifestRow, NoteRow, ReaderRow, Row};
 use std::alloc::{AllocError, Global};
 
 /// Puts the row of a cell behind those of the book.
@@ -100,9 +100,12 @@ fn may_follow(book: &Book, row: &Row) -> Result<bool, AllocError>
 {
     match row {
         Row::Reader(row) => Ok(!has_reader(book, row) && !has_its_token(book, row)?),
-        Row::Manifest(row) => Ok(!has_manifest(book, row)),
-        Row::Note(row) => Ok(!has_note(book, row) && stands_on_live(book, row)),
-        Row::Activity(activity) => Ok(is_last(book, activity)),
+        Row::Manifest(row) => Ok(!has_manifest(book, row.get())),
+        Row::Note(row) => {
+            let row = row.get();
+            Ok(!has_note(book, row) && stands_on_live(book, row))
+        }
+        Row::Activity(activity) => Ok(is_last(book, activity.get())),
     }
 }
 
@@ -182,7 +185,7 @@ fn is_last(book: &Book, activity: &Activity) -> bool
     ensures { result ≡ may_follow book.now.state (Row.Activity activity.now) }
 {
     match book.activities().last() {
-        Some(last) => activity.at.seconds() >= last.at.seconds(),
+        Some(last) => activity.at.seconds() >= last.get().at.seconds(),
         None => true,
     }
 }

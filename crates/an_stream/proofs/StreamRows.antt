@@ -5,9 +5,9 @@ use Rattle.std.specs.Fmt.{digits}
 use Rattle.json.specs.Print.{escape_byte}
 use Rattle.an_base.specs.Moment.{date_time_after, days_of_months, moment_text}
 use Rattle.an_policy.specs.declared.kind.Kind.TheVariants.{Create, Update, Delete}
-use Rattle.an_machine.specs.View.{View}
-use Rattle.an_machine.specs.declared.activity.Seen.{Seen}
-use Rattle.an_machine.specs.declared.command.Object.TheVariants.{Manifest, Note}
+use Rattle.an_state.specs.View.{View}
+use Rattle.an_state.specs.declared.activity.Seen.{Seen}
+use Rattle.an_state.specs.declared.command.Object.TheVariants.{Manifest, Note}
 use Rattle.an_search.specs.Site.{Site}
 use Rattle.an_stream.specs.Activity.{activity}
 use Rattle.an_stream.specs.Stream.{changes_of, changes_page_of, page_of_stream, stream_page}

@@ -4,11 +4,14 @@ use Rattle.serde_json.specs.Data.{Data, number, unsigned, string, array, object,
 use Rattle.an_base.specs.Moment.{moment_text}
 use Rattle.an_base.specs.Object.{with_member_if}
 use Rattle.an_base.specs.Write.{member_text, commas}
-use Rattle.an_machine.specs.declared.activity.Seen.{Seen}
+use Rattle.an_state.specs.declared.activity.Seen.{Seen}
 use Rattle.an_search.proofs.WrittenLemmas.{commas-member_if, piece_then, last_piece}
 use Rattle.an_search.specs.PageText.{member_if, text_if}
-use Rattle.an_stream.specs.Activity.{activity, kind_text, thing, thing_of}
-use Rattle.an_stream.specs.Stream.{changes_context, changes_iri, changes_page_iri, changes_after, changes_before, stream_page}
+use Rattle.an_search.specs.Page.{page_iri, thing, link_after, link_before}
+use Rattle.an_search.specs.declared.page.PageForm.TheVariants as form
+use Rattle.an_search.specs.declared.page.Whole.{Whole}
+use Rattle.an_stream.specs.Activity.{activity, kind_text, thing_of}
+use Rattle.an_stream.specs.Stream.{changes_context, stream_page}
 use Rattle.an_stream.specs.PageText.{head_text, place_members}
 
 -- ---- an activity
@@ -39,37 +42,37 @@ activity_pieces base seen out first second text moment changed kind =
 -- ---- a page
 
 -- its members in the order in which they are written
-abbrev pub page_members : List ℕ → ℕ → ℕ → ℕ → Items → Members
-page_members base pages page start items =
-    member (codes "@context") (string changes_context) (member (codes "id") (string (changes_page_iri base page))
-    (member_if (codes "next") (changes_after base pages page) (member (codes "orderedItems") (array items) (place_members base page start))))
+abbrev pub page_members : Whole → ℕ → ℕ → ℕ → Items → Members
+page_members whole pages page start items =
+    member (codes "@context") (string changes_context) (member (codes "id") (string (page_iri whole page))
+    (member_if (codes "next") (link_after form.Changes whole pages page) (member (codes "orderedItems") (array items) (place_members whole page start))))
 
-pub place_text : (base : List ℕ) (page start : ℕ)
-    → member_text (codes "partOf") (thing (changes_iri base) (codes "OrderedCollection")) ++ (text_if (codes "prev") (changes_before base page)
+pub place_text : (whole : Whole) (page start : ℕ)
+    → member_text (codes "partOf") (thing whole.path (codes "OrderedCollection")) ++ (text_if (codes "prev") (link_before form.Changes whole page)
     ++ (member_text (codes "startIndex") (number (unsigned start)) ++ (member_text (codes "type") (string (codes "OrderedCollectionPage")) ++ [])))
-    ≡ commas (place_members base page start)
-place_text base page start =
-    ap (λ text. member_text (codes "partOf") (thing (changes_iri base) (codes "OrderedCollection")) ++ text)
-    (sym (commas-member_if (codes "prev") (changes_before base page)
+    ≡ commas (place_members whole page start)
+place_text whole page start =
+    ap (λ text. member_text (codes "partOf") (thing whole.path (codes "OrderedCollection")) ++ text)
+    (sym (commas-member_if (codes "prev") (link_before form.Changes whole page)
     (member (codes "startIndex") (number (unsigned start)) (member (codes "type") (string (codes "OrderedCollectionPage")) no_members))))
 
-head_then : (base : List ℕ) (pages page : ℕ) (others : Members)
-    → head_text base pages page ++ commas others
-    ≡ commas (member (codes "@context") (string changes_context) (member (codes "id") (string (changes_page_iri base page)) (member_if (codes "next") (changes_after base pages page) others)))
-head_then base pages page others =
+head_then : (whole : Whole) (pages page : ℕ) (others : Members)
+    → head_text whole pages page ++ commas others
+    ≡ commas (member (codes "@context") (string changes_context) (member (codes "id") (string (page_iri whole page)) (member_if (codes "next") (link_after form.Changes whole pages page) others)))
+head_then whole pages page others =
     let context = member_text (codes "@context") (string changes_context) in
-    let id = member_text (codes "id") (string (changes_page_iri base page)) in
-    let after = text_if (codes "next") (changes_after base pages page) in
+    let id = member_text (codes "id") (string (page_iri whole page)) in
+    let after = text_if (codes "next") (link_after form.Changes whole pages page) in
     append_assoc context (id ++ after) (commas others)
     ∙ ap (λ all. context ++ all) (append_assoc id after (commas others)
-    ∙ ap (λ all. id ++ all) (sym (commas-member_if (codes "next") (changes_after base pages page) others)))
+    ∙ ap (λ all. id ++ all) (sym (commas-member_if (codes "next") (link_after form.Changes whole pages page) others)))
 
-pub page_pieces : (base : List ℕ) (pages page start : ℕ) (items : Items) (out head content text : List ℕ)
-    → head ≡ out ++ head_text base pages page → content ≡ head ++ member_text (codes "orderedItems") (array items)
-    → text ≡ content ++ commas (place_members base page start) → text ≡ out ++ commas (page_members base pages page start items)
-page_pieces base pages page start items out head content text first second third =
+pub page_pieces : (whole : Whole) (pages page start : ℕ) (items : Items) (out head content text : List ℕ)
+    → head ≡ out ++ head_text whole pages page → content ≡ head ++ member_text (codes "orderedItems") (array items)
+    → text ≡ content ++ commas (place_members whole page start) → text ≡ out ++ commas (page_members whole pages page start items)
+page_pieces whole pages page start items out head content text first second third =
     piece_then out head text _ _ first (piece_then head content text _ _ second third)
-    ∙ ap (λ all. out ++ all) (head_then base pages page (member (codes "orderedItems") (array items) (place_members base page start)))
+    ∙ ap (λ all. out ++ all) (head_then whole pages page (member (codes "orderedItems") (array items) (place_members whole page start)))
 
 with_links : (after before : Option Data) (context id items part start type : Data)
     → object (member (codes "@context") context (member (codes "id") id (member_if (codes "next") after (member (codes "orderedItems") items
@@ -81,8 +84,8 @@ with_links None (Some before) context id items part start type = refl
 with_links (Some after) None context id items part start type = refl
 with_links (Some after) (Some before) context id items part start type = refl
 
-pub written_page : (base : List ℕ) (pages page start : ℕ) (items : Items) → object (page_members base pages page start items) ≡ stream_page base pages page start items
+pub written_page : (whole : Whole) (pages page start : ℕ) (items : Items) → object (page_members whole pages page start items) ≡ stream_page whole pages page start items
 unfolding stream_page
-written_page base pages page start items =
-    with_links (changes_after base pages page) (changes_before base page) (string changes_context) (string (changes_page_iri base page)) (array items)
-    (thing (changes_iri base) (codes "OrderedCollection")) (number (unsigned start)) (string (codes "OrderedCollectionPage"))
+written_page whole pages page start items =
+    with_links (link_after form.Changes whole pages page) (link_before form.Changes whole page) (string changes_context) (string (page_iri whole page)) (array items)
+    (thing whole.path (codes "OrderedCollection")) (number (unsigned start)) (string (codes "OrderedCollectionPage"))

@@ -6,21 +6,17 @@ use Rattle.an_base.specs.Object.{with_member_if}
 use Rattle.an_policy.specs.declared.kind.Kind.{Kind}
 use Rattle.an_policy.specs.declared.kind.Kind.TheVariants as kind
 use Rattle.an_manifest.specs.Dress.{manifest_iri}
-use Rattle.an_machine.specs.declared.activity.Seen.{Seen}
-use Rattle.an_machine.specs.declared.command.Object.{Object}
-use Rattle.an_machine.specs.declared.command.Object.TheVariants as object
+use Rattle.an_state.specs.declared.activity.Seen.{Seen}
+use Rattle.an_state.specs.declared.command.Object.{Object}
+use Rattle.an_state.specs.declared.command.Object.TheVariants as object
 use Rattle.an_search.specs.Listed.{note_iri}
+use Rattle.an_search.specs.Page.{thing}
 
 -- the type of an activity
 abbrev pub kind_text : Kind → List ℕ
 kind_text kind.Create = codes "Create"
 kind_text kind.Update = codes "Update"
 kind_text kind.Delete = codes "Delete"
-
--- a thing of this IRI and type
-abbrev pub thing : List ℕ → List ℕ → Data
-thing iri type =
-    object (member (codes "id") (string iri) (member (codes "type") (string type) no_members))
 
 -- what was changed; a reader has no IRI, and no activity is of one
 abbrev pub thing_of : List ℕ → Object → Option Data

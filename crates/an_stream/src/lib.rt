@@ -4,6 +4,5 @@
 pub use stream::{StreamError, changes, changes_page};
 
 mod activity;
-mod iri;
 mod page;
 mod stream;

@@ -1,14 +1,18 @@
-ghost use Rattle.std.specs.Prelude.{◌≡◌, ◌≤◌, length, IfOk};
+ghost use Rattle.std.specs.Prelude.{◌≡◌, ◌≤◌, length, map, IfOk};
+ghost use Rattle.serde_json.specs.View.{items_of};
+ghost use Rattle.serde_json.specs.Written.{compact_text};
 ghost use Rattle.an_base.specs.Outcome.{Gives};
 ghost use Rattle.an_policy.specs.Audience.{identity};
-ghost use Rattle.an_machine.specs.View.{view_of};
-ghost use Rattle.an_stream.specs.Stream.{changes_of, changes_page_of, page_of_stream};
+ghost use Rattle.an_state.specs.View.{seen_by, view_of};
+ghost use Rattle.an_search.specs.Page.{page_count, page_of, start_of};
+ghost use Rattle.an_stream.specs.Activity.{activity};
+ghost use Rattle.an_stream.specs.Stream.{changes_of, changes_page_of, changes_whole, stream_page};
 
-use crate::page::{page_text, stream_text};
+use crate::page::{changes_whole, page_text, stream_text};
 use an_base::Bytes;
-use an_machine::{Look, Seen};
 use an_policy::Who;
-use an_search::{Paging, Settings, page_of};
+use an_search::{Paging, Settings};
+use an_state::Look;
 use std::alloc::{AllocError, Global};
 
 /// Why there is no page of the stream.
@@ -40,13 +44,14 @@ pub fn changes<T: Look>(
     ensures answer { IfOk result (λ body. body ≡ changes_of settings.now
         (view_of (T.state look.now) (identity who.now))) }
 {
-    let seen = look.seen(alloc, who)?;
-    let paging = paging_of(seen.as_slice(), 1, settings);
-    stream_text(alloc, settings.base(), paging.pages(), paging.total)
+    let paging = paging_of(look, who, 1, settings);
+    let whole = changes_whole(alloc, settings.base())?;
+    stream_text(alloc, &whole, paging.pages(), paging.total)
 }
 
 /// A page of the stream of the changes that the caller sees, the earliest first, each with when it
 /// was, what it changed, and its kind for the caller.
+#[tactic(auto, unfolding(crate::specs::Stream::page_of_stream))]
 pub fn changes_page<T: Look>(
     alloc: Global,
     look: &T,
@@ -57,43 +62,45 @@ pub fn changes_page<T: Look>(
     ensures answer { Gives (λ body. body) StreamError.Memory result (changes_page_of settings.now
         (view_of (T.state look.now) (identity who.now)) page) }
 {
-    let seen = look.seen(alloc, who)?;
-    page_of_stream(alloc, seen.as_slice(), page, settings)
+    let paging = paging_of(look, who, page, settings);
+    if paging.is_past() {
+        let pages = paging.pages();
+        return Err(StreamError::NoPage { pages });
+    }
+    Ok(page_there(alloc, look, who, paging, settings.base())?)
 }
 
-/// The page of this number of the stream of these changes.
-#[tactic(auto, unfolding(crate::specs::Stream::page_of_stream))]
-fn page_of_stream(
+/// The text of a page that the stream has.
+fn page_there<T: Look>(
     alloc: Global,
-    seen: &[Seen],
-    page: u32,
-    settings: &Settings,
-) -> Result<Bytes, StreamError>
-    ensures { Gives (λ body. body) StreamError.Memory result
-        (page_of_stream settings.now seen.now page) }
+    look: &T,
+    who: &Who<'_>,
+    paging: Paging,
+    base: &str,
+) -> Result<Bytes, AllocError>
+    requires page { 1 ≤ paging.page }
+    requires size { 1 ≤ paging.size }
+    ensures { IfOk result (λ text. text ≡ compact_text (stream_page (changes_whole base.now)
+        (page_count paging.total paging.size) paging.page (start_of paging.page paging.size)
+        (items_of (map (activity base.now) (page_of paging.page paging.size
+        (seen_by (identity who.now) (T.state look.now).activities)))))) }
 {
-    let paging = paging_of(seen, page, settings);
-    let pages = paging.pages();
-    if page < 1 {
-        return Err(StreamError::NoPage { pages });
-    }
-    if pages < page as usize {
-        return Err(StreamError::NoPage { pages });
-    }
-    let shown = page_of(seen, paging);
-    Ok(page_text(alloc, settings.base(), paging, shown)?)
+    let seen = look.seen_slice(alloc, who, paging.start() as usize, paging.size as usize)?;
+    let whole = changes_whole(alloc, base)?;
+    page_text(alloc, base, &whole, paging, seen.as_slice())
 }
 
-/// A page of this number in the stream of these changes.
-fn paging_of(seen: &[Seen], page: u32, settings: &Settings) -> Paging
+/// A page of this number in the stream of the changes that the caller sees.
+fn paging_of<T: Look>(look: &T, who: &Who<'_>, page: u32, settings: &Settings) -> Paging
     ensures page { result.page ≡ page }
     ensures size { result.size ≡ settings.now.size }
-    ensures total { result.total ≡ length seen.now }
+    ensures total { result.total
+        ≡ length (seen_by (identity who.now) (T.state look.now).activities) }
     ensures some { 1 ≤ result.size }
 {
     Paging {
         page,
         size: settings.size(),
-        total: seen.len(),
+        total: look.seen_count(who),
     }
 }

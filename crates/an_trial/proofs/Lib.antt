@@ -4,3 +4,4 @@ pub mod TotalLemmas
 pub mod TreeLemmas
 mod TrialRows
 pub mod WordLemmas
+pub mod WriteLemmas

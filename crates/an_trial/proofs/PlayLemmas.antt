@@ -5,7 +5,7 @@ use Rattle.std.proofs.lemmas.List.Sums.{fold-append}
 use Rattle.an_keep.specs.Memory.{Sure}
 use Rattle.an_keep.specs.Keeper.{StaysOrBegins, Told, Turns}
 use Rattle.an_keep.specs.declared.cell.Cell.{Cell}
-use Rattle.an_machine.specs.State.{State, empty}
+use Rattle.an_state.specs.State.{State, empty}
 use Rattle.an_machine.specs.Step.{step}
 use Rattle.an_machine.specs.declared.command.Refused.{Refused}
 use Rattle.an_machine.specs.declared.command.WriteReply.{WriteReply}

@@ -4,8 +4,8 @@ use Rattle.std.specs.Prelude.{filter}
 use Rattle.an_complete.specs.Ask.{AskRecord, ask_of}
 use Rattle.an_complete.specs.Complete.{asked_terms, filters_of, first_terms}
 use Rattle.an_complete.specs.declared.ask.QueryAskError.{QueryAskError}
-use Rattle.an_machine.specs.Terms.{totals_in}
-use Rattle.an_machine.specs.View.{View, is_on}
+use Rattle.an_state.specs.Terms.{totals_in}
+use Rattle.an_state.specs.View.{View, is_on}
 use Rattle.an_search.specs.Query.{QueryRecord, query_of}
 use Rattle.an_search.specs.Search.{hits}
 use Rattle.an_search.specs.Wanted.{matches, wanted_of}

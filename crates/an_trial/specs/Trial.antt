@@ -6,11 +6,11 @@ use Rattle.an_base.specs.declared.span.TermTotal.{TermTotal}
 use Rattle.an_complete.specs.Ask.{AskRecord, ask_of}
 use Rattle.an_complete.specs.Complete.{asked_terms}
 use Rattle.an_complete.specs.declared.ask.QueryAskError.{QueryAskError}
-use Rattle.an_machine.specs.Entries.{state_after}
-use Rattle.an_machine.specs.State.{State, empty}
+use Rattle.an_state.specs.Entries.{state_after}
+use Rattle.an_state.specs.State.{State, empty}
 use Rattle.an_machine.specs.Step.{step}
-use Rattle.an_machine.specs.Terms.{ascending}
-use Rattle.an_machine.specs.View.{View, view_by}
+use Rattle.an_base.specs.TextSet.{ascending}
+use Rattle.an_state.specs.View.{View, view_by}
 use Rattle.an_policy.specs.declared.who.Caller.TheVariants.{Anonymous, Named}
 use Rattle.an_search.specs.Query.{QueryRecord, query_of}
 use Rattle.an_search.specs.Search.{hits}

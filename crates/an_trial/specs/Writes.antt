@@ -3,7 +3,7 @@ use Rattle.std.specs.Prelude.{ℕ, zero, suc, ◌+◌, ◌*◌, ◌%◌, pos, �
 use Rattle.std.specs.Prelude.{List, [], ◌∷◌, ◌++◌, slice_index_or, codes, decimal}
 use Rattle.serde_json.specs.Data.{Data, number, unsigned, string, array, object, no_items, item}
 use Rattle.serde_json.specs.Data.{member, no_members}
-use Rattle.an_machine.specs.declared.command.Command.TheVariants.{PutReader, PutManifest, PutNote}
+use Rattle.an_state.specs.declared.command.Command.TheVariants.{PutReader, PutManifest, PutNote}
 use Rattle.an_policy.specs.declared.group.Group.{Group}
 use Rattle.an_policy.specs.declared.group.Group.TheVariants as group
 use Rattle.an_policy.specs.declared.who.Caller.TheVariants.{Operator, Named}

@@ -1,6 +1,7 @@
 //! The writes of the trial, at a store in memory.
-ghost use Rattle.std.specs.Prelude.{◌≡◌, [], IfOk, IsSome, OnOk, fold};
-ghost use Rattle.an_machine.specs.State.{empty};
+ghost use Rattle.std.specs.Prelude.{◌≡◌, [], IfOk, IsSome, IsTrue, OnOk, fold};
+ghost use Rattle.an_state.specs.Commands.{is_sendable};
+ghost use Rattle.an_state.specs.State.{empty};
 ghost use Rattle.an_trial.specs.Trial.{state_behind, trial_state};
 ghost use Rattle.an_trial.specs.Writes.{note_writes};
 
@@ -11,7 +12,7 @@ use an_shelf::{Desk, OpenError, WriteError};
 use std::alloc::{AllocError, Global};
 
 /// A store with all that is written: the reader, the manifest, and so many annotations.
-#[tactic(auto, unfolding(crate::specs::Trial::trial_state))]
+#[tactic(auto, using(crate::proofs::WriteLemmas::trial_writes), unfolding(crate::specs::Trial::trial_state))]
 pub(crate) fn play(alloc: Global, count: u32, seed: u32) -> Result<Desk<SureKeeper>, AllocError>
     ensures state { IfOk result (λ desk. IsSome desk.told
         → desk.state ≡ trial_state count seed) }
@@ -38,6 +39,7 @@ fn open(alloc: Global) -> Result<Desk<SureKeeper>, AllocError>
 }
 
 /// Puts so many annotations.
+#[tactic(auto, using(crate::proofs::WriteLemmas::trial_writes))]
 fn put_notes(
     alloc: Global,
     desk: &mut Desk<SureKeeper>,
@@ -59,6 +61,7 @@ fn put_notes(
 
 /// Does a write. One that the machine refuses leaves the store as it was.
 fn put(alloc: Global, desk: &mut Desk<SureKeeper>, write: Write) -> Result<(), AllocError>
+    requires { IsTrue (is_sendable write.command) }
     ensures state { OnOk result (desk.new.state ≡ state_behind desk.old.state write) }
     ensures told { IsSome desk.new.told → IsSome desk.old.told }
 {

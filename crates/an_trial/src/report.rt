@@ -1,7 +1,7 @@
 //! The nine lines of a trial.
 ghost use Rattle.std.specs.Prelude.{◌≡◌, ◌<◌, ◌++◌, IfOk, flat_map, map, string_bytes};
 ghost use Rattle.an_policy.specs.Audience.{identity};
-ghost use Rattle.an_machine.specs.View.{view_of, view_by};
+ghost use Rattle.an_state.specs.View.{view_of, view_by};
 ghost use Rattle.an_trial.specs.Trial.{first_line, report_of, totals_text, trial_text};
 ghost use Rattle.an_trial.specs.Trial.{word_line, word_query};
 
@@ -9,8 +9,8 @@ use crate::names::name;
 use crate::playing::play;
 use crate::totals::{found_total, listed_total};
 use an_base::{Bytes, Steps};
-use an_machine::{Book, Look};
 use an_policy::{Caller, Who};
+use an_state::{Book, Look};
 use std::alloc::{AllocError, Global};
 use std::marker::Brand;
 use std::sync::ledger::{Blank, Ledger};

@@ -3,15 +3,15 @@ ghost use Rattle.std.specs.Prelude.{◌≡◌, IfOk, bytes_eq, find};
 ghost use Rattle.std.specs.Option.{option_copied};
 ghost use Rattle.an_terms.specs.Terms.{term_of};
 ghost use Rattle.an_policy.specs.Audience.{identity};
-ghost use Rattle.an_machine.specs.View.{view_of};
+ghost use Rattle.an_state.specs.View.{view_of};
 ghost use Rattle.an_trial.specs.Trial.{found_total, listed_total, total_in};
 
 use crate::names::name;
 use an_base::{Steps, TermTotal};
 use an_complete::{QueryAskError, asked_terms, read_ask};
-use an_machine::{Book, Look};
 use an_policy::{Caller, Who};
 use an_search::{QueryError, read_query};
+use an_state::{Book, Look};
 use an_terms::term_of;
 use std::alloc::{AllocError, Global};
 use std::sync::ledger::Ledger;

@@ -3,17 +3,17 @@ ghost use Rattle.std.specs.Prelude.{◌≡◌, IfOk};
 ghost use Rattle.serde_json.specs.View.{view};
 ghost use Rattle.an_trial.specs.Writes.{canvas_tree, manifest_tree, note_tree, reader_tree};
 
-use an_base::Tree;
+use an_base::{Shared, Tree};
 use serde_json::{Value, json};
 use std::alloc::{AllocError, Global};
 
 /// The tree of the reader, who is a writer and in the group `a`.
 #[tactic(auto, using(crate::proofs::TreeLemmas::trial_trees))]
-pub(crate) fn reader_tree(alloc: Global) -> Result<Tree, AllocError>
+pub(crate) fn reader_tree(alloc: Global) -> Result<Shared<Tree>, AllocError>
     ensures value { IfOk result (λ tree. tree ≡ reader_tree) }
 {
     let value = reader_value(alloc)?;
-    Ok(Tree::new(value))
+    Shared::new(alloc, Tree::new(value))
 }
 
 fn reader_value(alloc: Global) -> Result<Value, AllocError>
@@ -29,11 +29,11 @@ fn reader_value(alloc: Global) -> Result<Value, AllocError>
 
 /// The tree of the manifest, which has one canvas.
 #[tactic(auto, using(crate::proofs::TreeLemmas::trial_trees))]
-pub(crate) fn manifest_tree(alloc: Global) -> Result<Tree, AllocError>
+pub(crate) fn manifest_tree(alloc: Global) -> Result<Shared<Tree>, AllocError>
     ensures value { IfOk result (λ tree. tree ≡ manifest_tree) }
 {
     let value = manifest_value(alloc)?;
-    Ok(Tree::new(value))
+    Shared::new(alloc, Tree::new(value))
 }
 
 fn manifest_value(alloc: Global) -> Result<Value, AllocError>
@@ -51,11 +51,11 @@ fn canvas_value(alloc: Global) -> Result<Value, AllocError>
 
 /// The tree of an annotation with this text on the canvas.
 #[tactic(auto, using(crate::proofs::TreeLemmas::trial_trees))]
-pub(crate) fn note_tree(alloc: Global, text: &str) -> Result<Tree, AllocError>
+pub(crate) fn note_tree(alloc: Global, text: &str) -> Result<Shared<Tree>, AllocError>
     ensures value { IfOk result (λ tree. tree ≡ note_tree text.now) }
 {
     let value = note_value(alloc, text)?;
-    Ok(Tree::new(value))
+    Shared::new(alloc, Tree::new(value))
 }
 
 fn note_value(alloc: Global, text: &str) -> Result<Value, AllocError>

@@ -6,9 +6,9 @@ ghost use Rattle.an_trial.specs.Writes.{reader_write, start, word_of, words_text
 use crate::draws::Draws;
 use crate::names::{name, note_name};
 use crate::trees::{manifest_tree, note_tree, reader_tree};
-use an_base::{Moment, Tree};
-use an_machine::Command;
+use an_base::{Moment, Shared, Tree};
 use an_policy::{Caller, Group};
+use an_state::Command;
 use std::alloc::{AllocError, Global};
 
 /// The first moment: 2024-05-01T10:00:00Z.
@@ -66,7 +66,12 @@ pub(crate) fn note_write(alloc: Global, number: u32, draws: Draws) -> Result<Wri
     })
 }
 
-fn put_note(alloc: Global, number: u32, drawn: u32, tree: Tree) -> Result<Command, AllocError>
+fn put_note(
+    alloc: Global,
+    number: u32,
+    drawn: u32,
+    tree: Shared<Tree>,
+) -> Result<Command, AllocError>
     ensures { IfOk result (λ command. command ≡ Command.PutNote
         (codes "t") (note_name number) 1 (codes "m1") (group_of drawn) tree) }
 {

@@ -1,7 +1,7 @@
 use Rattle.std.proofs.Common.{subst}
 use Rattle.an_base.specs.Faults.{Rises}
-use Rattle.an_app.specs.Status.{TellsReport}
-use Rattle.an_app.specs.declared.status.Status.TheVariants.{Misunderstood}
+use Rattle.an_lines.specs.Status.{TellsReport}
+use Rattle.an_lines.specs.declared.status.Status.TheVariants.{Misunderstood}
 use Rattle.an_app.proofs.program.misunderstood.Goals as goal
 
 pub returns-clause-told : goal.returns-clause-told

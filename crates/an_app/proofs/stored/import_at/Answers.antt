@@ -15,5 +15,5 @@ returns-in-Ok-clause-imports g c =
 pub returns-in-Err-clause-imports : goal.returns-in-Err-clause-imports
 returns-in-Err-clause-imports g c =
     inr (Unopened-for _ _ _ _ _ _
-    (open_cause g.K.Keeper.told _ c.args.keeper c.in-Err.error (λ is. λ sure. c.open.ensures.sure sure (c.in-Err.is ∙ ap Err is)) c.in-Err.ensures.damaged)
+    (open_cause g.K.Keeper.told _ _ c.args.keeper c.in-Err.error (λ telling. telling) (λ is. λ sure. c.open.ensures.sure sure (c.in-Err.is ∙ ap Err is)) c.in-Err.ensures.damaged)
     c.unopened.ensures.told)

@@ -1,5 +1,5 @@
 use Rattle.std.proofs.Common.{sym, ◌∙◌}
-use Rattle.an_app.proofs.ImportLemmas.{Imports-kept}
+use Rattle.an_lines.proofs.ImportLemmas.{Imports-kept}
 use Rattle.an_app.proofs.RunLemmas.{keeper_never_rises}
 use Rattle.an_app.proofs.stored.import_into.Goals as goal
 

@@ -1,6 +1,6 @@
 use Rattle.std.proofs.Common.{sym, ◌∙◌}
 use Rattle.an_app.proofs.RunLemmas.{Unopened-damaged, Unopened-keeper, Unopened-no_memory}
-use Rattle.an_app.proofs.StatusLemmas.{reads_little-none, reads_little-nothing}
+use Rattle.an_lines.proofs.StatusLemmas.{reads_little-none, reads_little-nothing}
 use Rattle.an_app.proofs.stored.unopened.Goals as goal
 
 pub returns-in-Keeper-clause-told : goal.returns-in-Keeper-clause-told

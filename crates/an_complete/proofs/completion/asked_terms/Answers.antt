@@ -1,9 +1,9 @@
 use Rattle.std.proofs.Common.{ap, ◌∙◌}
 use Rattle.std.proofs.lemmas.Result.{IfOk-weaker}
 use Rattle.an_policy.specs.Audience.{identity}
-use Rattle.an_machine.specs.Terms.{totals_in}
+use Rattle.an_state.specs.Terms.{totals_in}
 use Rattle.an_terms.specs.Terms.{term_of}
-use Rattle.an_machine.specs.View.{view_of}
+use Rattle.an_state.specs.View.{view_of}
 use Rattle.an_complete.specs.Complete.{asked_notes, asked_terms, first_terms}
 use Rattle.an_complete.proofs.completion.asked_terms.Goals as goal
 

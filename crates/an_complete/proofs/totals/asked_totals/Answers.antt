@@ -1,7 +1,7 @@
 use Rattle.std.proofs.Common.{sym, ap, ◌∙◌}
 use Rattle.std.proofs.lemmas.Result.{IfOk-weaker}
 use Rattle.an_policy.specs.Audience.{identity}
-use Rattle.an_machine.specs.Terms.{totals_in}
+use Rattle.an_state.specs.Terms.{totals_in}
 use Rattle.an_complete.proofs.NoteLemmas.{all_asked, asked_at_places}
 use Rattle.an_complete.proofs.totals.asked_totals.Goals as goal
 

@@ -1,7 +1,7 @@
 use Rattle.std.proofs.Common.{◌≡◌, take}
 use Rattle.std.specs.Prelude.{filter, slice_get}
 use Rattle.std.specs.List.{filter_map}
-use Rattle.an_machine.specs.Terms.{totals_in}
+use Rattle.an_state.specs.Terms.{totals_in}
 use Rattle.an_search.specs.Wanted.{matches}
 use Rattle.an_complete.proofs.totals.count.Given as goal
 

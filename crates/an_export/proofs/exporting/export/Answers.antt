@@ -1,7 +1,7 @@
 use Rattle.std.proofs.Common.{◌++◌, ap, ◌∙◌}
 use Rattle.std.specs.List.{flat_map}
 use Rattle.an_policy.specs.Audience.{identity}
-use Rattle.an_machine.specs.View.{view_of}
+use Rattle.an_state.specs.View.{view_of}
 use Rattle.an_export.specs.Export.{exported, manifest_line, note_line}
 use Rattle.an_export.proofs.exporting.export.Goals as goal
 

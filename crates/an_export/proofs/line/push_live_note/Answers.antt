@@ -1,5 +1,5 @@
 use Rattle.std.proofs.Common.{◌++◌, ap, ◌∙◌}
-use Rattle.an_machine.specs.Live.{lent_note}
+use Rattle.an_state.specs.Live.{lent_note}
 use Rattle.an_export.proofs.LineLemmas.{written_note}
 use Rattle.an_export.proofs.line.push_live_note.Goals as goal
 

@@ -2,7 +2,7 @@ use Rattle.std.proofs.Common.{◌≡◌, ◌++◌, drop}
 use Rattle.std.specs.Prelude.{filter}
 use Rattle.std.specs.List.{flat_map}
 use Rattle.an_policy.specs.Audience.{identity}
-use Rattle.an_machine.specs.View.{shows_manifest}
+use Rattle.an_state.specs.View.{shows_manifest}
 use Rattle.an_export.specs.Export.{manifest_line}
 use Rattle.an_export.proofs.shown.push_manifests.Given as goal
 

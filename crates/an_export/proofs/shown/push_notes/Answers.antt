@@ -1,5 +1,5 @@
 use Rattle.an_policy.specs.Audience.{identity}
-use Rattle.an_machine.specs.View.{shows_note}
+use Rattle.an_state.specs.View.{shows_note}
 use Rattle.an_export.specs.Export.{note_line}
 use Rattle.an_export.proofs.PlaceLemmas.{all_written, line_written}
 use Rattle.an_export.proofs.shown.push_notes.Goals as goal

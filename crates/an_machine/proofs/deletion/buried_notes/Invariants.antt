@@ -1,8 +1,8 @@
 use Rattle.std.proofs.Common.{◌≡◌, ◌++◌, drop, map}
 use Rattle.std.specs.Prelude.{filter}
 use Rattle.an_machine.specs.Accepted.{buried, notes_on}
-use Rattle.an_machine.specs.View.{is_on}
-use Rattle.an_machine.specs.declared.entry.Row.TheVariants as kept
+use Rattle.an_state.specs.View.{is_on}
+use Rattle.an_state.specs.declared.entry.Row.TheVariants as kept
 use Rattle.an_machine.proofs.deletion.buried_notes.Given as goal
 
 -- the tombstones so far and those of the rest are those of all

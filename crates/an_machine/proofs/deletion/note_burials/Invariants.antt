@@ -2,7 +2,7 @@ use Rattle.std.proofs.Common.{◌≡◌, ◌++◌, drop, map}
 use Rattle.std.specs.Prelude.{filter}
 use Rattle.an_policy.specs.Audience.{identity}
 use Rattle.an_machine.specs.Accepted.{burial, notes_on}
-use Rattle.an_machine.specs.View.{is_on}
+use Rattle.an_state.specs.View.{is_on}
 use Rattle.an_machine.proofs.deletion.note_burials.Given as goal
 
 -- the deletions so far and those of the rest are those of all

@@ -1,6 +1,6 @@
 use Rattle.std.proofs.Common.{sym, subst, ap, ◌∙◌}
 use Rattle.an_policy.specs.Audience.{identity}
-use Rattle.an_machine.specs.View.{view_of}
+use Rattle.an_state.specs.View.{view_of}
 use Rattle.an_search.specs.Found.{StandAt}
 use Rattle.an_pages.specs.Container.{container_body, container_whole, notes_on}
 use Rattle.an_pages.proofs.ContainerLemmas.{on_stand}

@@ -1,5 +1,5 @@
 use Rattle.std.proofs.Common.{◌≡◌, ◌+◌, ◌++◌, drop, map}
-use Rattle.an_machine.specs.declared.entry.Row.TheVariants.{Activity}
+use Rattle.an_state.specs.declared.entry.Row.TheVariants.{Activity}
 use Rattle.an_rows.specs.Cells.{cells_from}
 use Rattle.an_rows.specs.Changes.{put}
 use Rattle.an_rows.proofs.changes.push_activities.Given as goal

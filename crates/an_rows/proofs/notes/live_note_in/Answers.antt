@@ -1,7 +1,7 @@
 use Rattle.std.proofs.Common.{Result, subst, sym}
 use Rattle.serde_json.specs.View.{view}
 use Rattle.an_base.specs.Outcome.{Gives}
-use Rattle.an_machine.specs.State.{LiveNote}
+use Rattle.an_state.specs.State.{LiveNote}
 use Rattle.an_rows.specs.Lent.{note_read}
 use Rattle.an_rows.specs.declared.notes.ReadNote.{ReadNote}
 use Rattle.an_rows.specs.declared.refusal.RowError.{RowError}

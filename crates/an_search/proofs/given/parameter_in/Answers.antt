@@ -2,7 +2,7 @@ use Rattle.std.proofs.Common.{rules, tests, ◌∙◌}
 use Rattle.std.proofs.lemmas.Iterator.{YieldsList-from_slice}
 use Rattle.std.proofs.lemmas.Iterator.Search.{find_from_yields_List}
 use Rattle.std.specs.Prelude.{bytes_eq}
-use Rattle.an_base.specs.Code.{parameter_text}
+use Rattle.an_code.specs.Code.{parameter_text}
 use Rattle.an_search.proofs.given.parameter_in.Goals as goal
 
 pub returns : goal.returns

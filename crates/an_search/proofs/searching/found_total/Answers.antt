@@ -1,7 +1,7 @@
 use Rattle.std.proofs.Common.{List, ap, sym, subst, ◌∙◌, length}
 use Rattle.an_policy.specs.Audience.{identity}
-use Rattle.an_machine.specs.State.{KeptNote}
-use Rattle.an_machine.specs.View.{view_of}
+use Rattle.an_state.specs.State.{KeptNote}
+use Rattle.an_state.specs.View.{view_of}
 use Rattle.an_search.specs.Found.{StandAt}
 use Rattle.an_search.specs.Search.{hits}
 use Rattle.an_search.specs.declared.wanted.Wanted.{Wanted}

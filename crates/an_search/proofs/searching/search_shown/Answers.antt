@@ -1,7 +1,7 @@
 use Rattle.std.proofs.Common.{sym, subst, ◌∙◌}
 use Rattle.an_policy.specs.Audience.{identity}
 use Rattle.an_base.specs.Outcome.{Gives}
-use Rattle.an_machine.specs.View.{view_of}
+use Rattle.an_state.specs.View.{view_of}
 use Rattle.an_search.specs.Found.{StandAt}
 use Rattle.an_search.specs.Search.{found_text, hits}
 use Rattle.an_search.specs.declared.searching.AskError.TheVariants.{Memory}

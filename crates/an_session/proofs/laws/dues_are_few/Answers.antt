@@ -1,4 +1,4 @@
-use Rattle.an_session.proofs.LawLemmas.{fronts_few}
+use Rattle.an_session.proofs.DueLaws.{fronts_few}
 use Rattle.an_session.proofs.laws.dues_are_few.Goals as goal
 
 pub returns : goal.returns

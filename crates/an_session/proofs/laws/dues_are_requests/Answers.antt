@@ -1,4 +1,4 @@
-use Rattle.an_session.proofs.LawLemmas.{dues_first, dues_cuts}
+use Rattle.an_session.proofs.DueLaws.{dues_first, dues_cuts}
 use Rattle.an_session.proofs.laws.dues_are_requests.Goals as goal
 
 pub returns-clause-first : goal.returns-clause-first

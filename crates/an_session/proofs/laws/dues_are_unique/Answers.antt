@@ -1,4 +1,4 @@
-use Rattle.an_session.proofs.LawLemmas.{all_unique}
+use Rattle.an_session.proofs.DueLaws.{all_unique}
 use Rattle.an_session.proofs.laws.dues_are_unique.Goals as goal
 
 pub returns : goal.returns

@@ -1,5 +1,5 @@
 use Rattle.std.proofs.Common.{ap, ◌∙◌}
-use Rattle.an_machine.specs.Entries.{after}
+use Rattle.an_state.specs.Entries.{after}
 use Rattle.an_shelf.proofs.WritingLemmas.{cells-turn, cells-stay}
 use Rattle.an_shelf.proofs.desk.put.Goals as goal
 

@@ -10,16 +10,16 @@ use Rattle.an_stream.proofs.page.page_text.Goals as goal
 
 pub returns : goal.returns
 returns c =
-    let base = c.args.base.now in
+    let whole = c.args.whole.now in
     let paging = c.args.paging in
     let pages = page_count paging.total paging.size in
     let start = start_of paging.page paging.size in
-    let items = items_of (map (activity base) c.args.activities.now) in
+    let items = items_of (map (activity c.args.base.now) c.args.activities.now) in
     record {
       text = c.from_vec.ensures.value
-          ∙ c.in_ok-out-4.ensures.text [] (page_members base pages paging.page start items)
-          (page_pieces base pages paging.page start items [] _ _ _ (c.in_ok-out.ensures.text ∙ ap (λ before. before ++ head_text base pages paging.page) c.new-2.ensures.items)
+          ∙ c.in_ok-out-4.ensures.text [] (page_members whole pages paging.page start items)
+          (page_pieces whole pages paging.page start items [] _ _ _ (c.in_ok-out.ensures.text ∙ ap (λ before. before ++ head_text whole pages paging.page) c.new-2.ensures.items)
           (c.in_ok-out-2.ensures.text items (c.as_slice.ensures.value ∙ c.in_ok-items.ensures.text ∙ ap (λ before. before ++ item_commas items) c.new.ensures.items))
           c.in_ok-out-3.ensures.text) refl
-          ∙ ap compact_text (written_page base pages paging.page start items);
+          ∙ ap compact_text (written_page whole pages paging.page start items);
     }

@@ -1,7 +1,7 @@
 use Rattle.std.proofs.Common.{◌≡◌, ap, ◌∙◌, arith}
 use Rattle.std.proofs.lemmas.Grind.{common_steps}
 use Rattle.an_policy.specs.Audience.{identity}
-use Rattle.an_machine.specs.View.{View, view_of, view_by}
+use Rattle.an_state.specs.View.{View, view_of, view_by}
 use Rattle.an_trial.specs.Trial.{found_total, listed_total, word_query}
 use Rattle.an_trial.proofs.TotalLemmas.{found_total-same, listed_total-same}
 use Rattle.an_trial.proofs.report.totals_text.Goals as goal

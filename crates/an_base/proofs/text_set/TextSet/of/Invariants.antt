@@ -1,7 +1,8 @@
-use Rattle.std.proofs.Common.{◌≡◌, drop, fold, []}
-use Rattle.an_base.specs.TextSet.{with_text}
+use Rattle.std.proofs.Common.{◌≡◌, map, take}
+use Rattle.std.specs.Prelude.{string_bytes}
+use Rattle.an_base.specs.TextSet.{ascending}
 use Rattle.an_base.proofs.text_set.TextSet.of.Given as goal
 
--- the texts that are left are put to those that were found
+-- the texts so far, each once, in their order
 abbrev pub invariant-loop-text : goal.invariant-loop-text
-invariant-loop-text l = fold with_text [] l.texts ≡ fold with_text l.set (drop l.text-index l.texts)
+invariant-loop-text l = map string_bytes l.found.keys ≡ ascending (take l.text-index l.texts)

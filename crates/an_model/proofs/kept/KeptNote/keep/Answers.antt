@@ -1,7 +1,8 @@
 use Rattle.std.proofs.Common.{◌≡◌, sym, ap, ◌∙◌, map}
 use Rattle.serde_json.specs.Written.{compact_text}
 use Rattle.an_base.specs.Cut.{is_object, members_in}
-use Rattle.an_base.specs.TextSet.{distinct}
+use Rattle.an_base.specs.TextSet.{ascending}
+use Rattle.an_base.specs.Totals.{totals_of}
 use Rattle.an_base.specs.Tree.{ascend, names, is_tree}
 use Rattle.an_base.proofs.KeptLemmas.{kept_text, tree_in-text, ordered}
 use Rattle.an_model.specs.Bodies.{iris_of, note_terms}
@@ -33,9 +34,9 @@ invariant_of-result c =
       shape = ap note_refusal is ∙ c.tree.ensures.note;
       bare = ap is_bare is ∙ c.tree.ensures.bare;
       cuts = same_cuts _ _ _ _ (ap (λ p. p.cuts) parts ∙ c.in_ok-parts.ensures.cuts) (ap members_in (c.tree.ensures.value ∙ sym is)) c.in_ok-written.ensures.cuts;
-      terms = ap (λ p. p.terms) parts ∙ c.in_ok-parts.ensures.terms ∙ ap (λ t. distinct (note_terms t)) (sym is);
-      motivations = ap (λ p. p.motivations) parts ∙ c.in_ok-parts.ensures.motivations ∙ ap (λ t. distinct (motivations_of t)) (sym is);
-      iris = ap (λ p. p.iris) parts ∙ c.in_ok-parts.ensures.iris ∙ ap (λ t. distinct (iris_of t)) (sym is);
+      terms = ap (λ p. p.terms) parts ∙ c.in_ok-parts.ensures.terms ∙ ap (λ t. totals_of (note_terms t)) (sym is);
+      motivations = ap (λ p. p.motivations) parts ∙ c.in_ok-parts.ensures.motivations ∙ ap (λ t. ascending (motivations_of t)) (sym is);
+      iris = ap (λ p. p.iris) parts ∙ c.in_ok-parts.ensures.iris ∙ ap (λ t. ascending (iris_of t)) (sym is);
       targets = ap (λ p. p.targets) parts ∙ c.in_ok-parts.ensures.targets ∙ ap (λ t. map kept_target (targets_of t)) (sym is);
     }
 

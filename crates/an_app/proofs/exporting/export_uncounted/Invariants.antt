@@ -1,5 +1,0 @@
-use Rattle.an_app.proofs.exporting.export_uncounted.Given as goal
-
--- the ledger of the blank
-abbrev pub ghosts-export_from : goal.ghosts-export_from
-ghosts-export_from g a = record { name = a.blank.name; parts = a.blank.parts }

@@ -1,4 +1,0 @@
-use Rattle.an_app.proofs.turn.write.Goals as goal
-
-pub returns-in-Ok : goal.returns-in-Ok
-returns-in-Ok c = rw (← c.writer-caller.ensures, c.in-Ok.ensures.decided) c.apply.ensures

@@ -1,0 +1,37 @@
+-- How a run of a form ends, and how much of its link it reads.
+use Rattle.std.specs.Prelude.{ℤ, Bool, Option}
+use Rattle.an_keep.specs.Keeper.{Told}
+use Rattle.an_session.specs.Session.{Line, ReadsRequests}
+use Rattle.an_world.specs.Link.{Traffic}
+use Rattle.an_lines.specs.Status.{Finds, ReadsLittle, TellsReport}
+use Rattle.an_lines.specs.Trials.{trial_report}
+use Rattle.an_lines.specs.declared.status.Status.{Status}
+use Rattle.an_app.specs.AtStore.{ExportsAt, ImportsAt}
+use Rattle.an_app.specs.Outside.{Outside}
+use Rattle.an_app.specs.SessionEnds.{SessionAt}
+use Rattle.an_app.specs.declared.form.Form.{Form}
+use Rattle.an_app.specs.declared.form.Form.TheVariants as form
+
+-- How a run of a form ends at a keeper that told this, with moments that the clock tells, over a
+-- link that told these two of itself. `Find` and `Trial` open no store.
+abbrev pub Runs : Outside → (ℤ → Bool) → Told → Line → Line → Status → Form → Type 0
+Runs outside clock told old new status (form.Find site) =
+    Finds site outside.read_failed outside.write_failed old.traffic new.traffic status
+Runs outside clock told old new status form.Import =
+    ImportsAt outside told old.traffic new.traffic status
+Runs outside clock told old new status (form.Export by) =
+    ExportsAt outside told by old.traffic new.traffic status
+Runs outside clock told old new status (form.Session site) =
+    SessionAt outside clock site told old new status
+Runs outside clock told old new status (form.Trial count seed) =
+    TellsReport (trial_report (record { count = count; seed = seed })) outside.write_failed
+    old.traffic new.traffic status
+
+-- little more is read than an input may have, and of a connection no more than 1,000 requests may
+-- have; an export and a trial read nothing
+abbrev pub ReadsInput : Option Traffic → Option Traffic → Form → Type 0
+ReadsInput old new (form.Find site) = ReadsLittle old new
+ReadsInput old new form.Import = ReadsLittle old new
+ReadsInput old new (form.Export by) = ReadsLittle old new
+ReadsInput old new (form.Session site) = ReadsRequests old new
+ReadsInput old new (form.Trial count seed) = ReadsLittle old new

@@ -1,0 +1,50 @@
+-- How a run ends whose store isn't opened.
+use Rattle.std.specs.Prelude.{ℕ, List, [], ◌++◌, codes, decimal, Option}
+use Rattle.an_keep.specs.Keeper.{Told}
+use Rattle.an_shelf.specs.Opening.{IsDamagedBy}
+use Rattle.an_shelf.specs.declared.error.OpenError.{OpenError}
+use Rattle.an_shelf.specs.declared.error.OpenError.TheVariants as error
+use Rattle.an_world.specs.Link.{Traffic}
+use Rattle.an_app.specs.Outside.{Outside}
+use Rattle.an_lines.specs.ImportEnds.{keeper_fault_text}
+use Rattle.an_lines.specs.Status.{Exchanges, PrintsFront}
+use Rattle.an_lines.specs.declared.status.Status.{Status}
+use Rattle.an_lines.specs.declared.status.Status.TheVariants.{Done, WriteFault, Misunderstood}
+use Rattle.an_lines.specs.declared.status.Status.TheVariants.{Refused, KeeperFailed, ReadFault}
+use Rattle.an_lines.specs.declared.status.Status.TheVariants.{Memory, Damaged, NoReader}
+
+-- what is printed where the cells stand for no state, and this one is the first damaged one
+abbrev pub damage_text : ℕ → ℕ → List ℕ
+damage_text tab key =
+    codes "store damaged: table " ++ (decimal tab ++ (codes " key " ++ (decimal key
+    ++ codes "\n")))
+
+-- what is printed where a store isn't opened; of want of memory nothing is
+abbrev pub unopened_text : OpenError → List ℕ
+unopened_text error.Keeper = keeper_fault_text
+unopened_text (error.Damaged tab key) = damage_text tab key
+unopened_text error.Memory = []
+
+-- How a run ends whose store isn't opened, for a cause of which this holds. No input is read.
+unfoldable pub Unopened : (OpenError → Type 0) → Type 0 → Option Traffic → Option Traffic → Status
+    → Type 0
+Unopened Cause Failed old new KeeperFailed =
+    Cause error.Keeper × Exchanges [] (unopened_text error.Keeper) old new
+Unopened Cause Failed old new (Damaged tab key) =
+    Cause (error.Damaged tab key) × Exchanges [] (unopened_text (error.Damaged tab key)) old new
+Unopened Cause Failed old new WriteFault =
+    Failed × ((why : OpenError) × Cause why × PrintsFront [] (unopened_text why) old new)
+Unopened Cause Failed old new Memory = Exchanges [] [] old new
+Unopened Cause Failed old new Done = ⊥
+Unopened Cause Failed old new Refused = ⊥
+Unopened Cause Failed old new ReadFault = ⊥
+Unopened Cause Failed old new Misunderstood = ⊥
+Unopened Cause Failed old new NoReader = ⊥
+
+-- What may keep a store from being opened whose keeper told this. Damage is that of the cells, where
+-- each keeper of this kind tells its cells.
+abbrev pub IsCause : Outside → Told → OpenError → Type 0
+IsCause outside told error.Keeper = outside.keeper_can_fail
+IsCause outside told (error.Damaged tab key) =
+    outside.keepers_tell → IsDamagedBy told (error.Damaged tab key)
+IsCause outside told error.Memory = ⊥

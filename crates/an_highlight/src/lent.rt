@@ -1,0 +1,29 @@
+ghost use Rattle.std.specs.Prelude.{◌≡◌, ℕ, List, Bool, IfOk, OnOk, not, ◌||◌, bytes_eq};
+ghost use Rattle.an_base.specs.TextSet.{has_text};
+ghost use Rattle.an_highlight.specs.Lent.{is_lent};
+
+use an_base::Text;
+use std::alloc::{AllocError, Global};
+use std::collections::BTreeSet;
+
+/// Adds a lent text to others, and says whether it is new.
+pub fn add_lent<'a>(texts: &mut BTreeSet<&'a str>, text: &'a str) -> Result<bool, AllocError>
+    ensures new { IfOk result (λ new. new ≡ not (is_lent text.now texts.old)) }
+    ensures added { OnOk result ((other : List ℕ)
+        → is_lent other texts.new ≡ (bytes_eq text.now other || is_lent other texts.old)) }
+{
+    let new = texts.insert(text)?;
+    Ok(new)
+}
+
+/// These texts, so that one is found in few steps.
+pub(crate) fn lent_texts(alloc: Global, texts: &[Text]) -> Result<BTreeSet<&str>, AllocError>
+    ensures { IfOk result (λ lent. (text : List ℕ)
+        → is_lent text lent ≡ has_text text texts.now) }
+{
+    let mut lent = BTreeSet::new(alloc);
+    for text in texts {
+        add_lent(&mut lent, text.as_str())?;
+    }
+    Ok(lent)
+}

@@ -1,0 +1,33 @@
+use Rattle.std.proofs.Common.{◌≡◌, Ok, sym, subst, ◌∙◌, arith}
+use Rattle.an_lines.specs.Import.{Progress, import_line}
+use Rattle.an_lines.specs.Shown.{Leads}
+use Rattle.an_lines.specs.Split.{lines_of}
+use Rattle.an_lines.proofs.ImportLemmas.{Front, front_none, front_leaves, leads-ok, line_done, line_done-front, counted_most, on_err}
+use Rattle.an_lines.proofs.importing.import_lines.Goals as goal
+
+pub returns-in_err-more-clause-front : goal.returns-in_err-more-clause-front
+returns-in_err-more-clause-front g c =
+    let p : Progress = record { state = c.lines.desk.state; counts = c.lines.counts } in
+    let front : Front (lines_of c.lines.left.now) c.lines.number p c.import_line.new.desk.state =
+    subst (λ t. Front (lines_of c.lines.left.now) c.lines.number p t) (sym c.in_err-more.ensures.still) (front_none (lines_of c.lines.left.now) c.lines.number p) in
+    on_err _ _ (front_leaves _ _ _ (c.lines.invariant.fronts _ front))
+
+pub lines-preserved : goal.lines-preserved
+lines-preserved g c =
+    let p : Progress = record { state = c.lines.desk.state; counts = c.lines.counts } in
+    let q : Progress = record { state = c.import_line.new.desk.state; counts = c.in-Ok.more } in
+    let line = c.in-Some.line.now in
+    let behind = lines_of c.in-Some.rest.now in
+    let first = c.in-Some.ensures.first in
+    let is : import_line p line ≡ Ok q =
+    leads-ok (import_line p line) p.state q.state q.counts (subst (λ r. Leads (import_line p line) p.state q.state r) c.in-Ok.is c.in_ok-more.ensures.leads) in
+    let most = counted_most p q line is in
+    record {
+      all = line_done line behind _ c.lines.number p first q is ∙ c.lines.invariant.all;
+      fronts = λ t front. c.lines.invariant.fronts t (line_done-front line behind _ c.lines.number p first q t is front);
+      kept = omega (arith, c.lines.invariant.kept, c.in_ok-more.ensures.faults_kept);
+      told = λ some. c.lines.invariant.told (c.in_ok-more.ensures.told some);
+      counted = omega (arith, most, c.lines.invariant.counted);
+      few = omega (arith, c.lines.invariant.few, c.in-Some.ensures.shorter);
+      within = c.lines.invariant.within;
+    }

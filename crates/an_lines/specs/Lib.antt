@@ -1,0 +1,17 @@
+pub mod Input
+pub mod Split
+pub mod Line
+pub mod Asked
+pub mod Stop
+pub mod Written
+pub mod Find
+pub mod Import
+pub mod Export
+pub mod Trials
+pub mod Turned
+pub mod Status
+pub mod ImportEnds
+pub mod StatusCode
+pub mod Shown
+pub mod Told
+pub mod Isolation

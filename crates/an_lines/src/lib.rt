@@ -1,0 +1,25 @@
+//! What plays lines: `find`, `import` and `trial`, and `export`, which prints lines; and how a run
+//! ends.
+#![tactic(auto)]
+
+pub use exporting::export;
+pub use importing::import;
+pub use lines::find;
+pub use status::Status;
+pub use told::{tell, tell_report};
+pub use trials::trial;
+
+mod asked;
+mod counts;
+mod exporting;
+mod import_line;
+mod importing;
+mod line;
+mod lines;
+mod split;
+mod status;
+mod stop;
+mod told;
+mod trials;
+mod turn;
+mod written;

@@ -1,0 +1,4 @@
+pub mod DeskLemmas
+pub mod RespondLemmas
+pub mod SendableLemmas
+pub mod IsolationLemmas

@@ -1,0 +1,5 @@
+pub mod Respond
+pub mod Events
+pub mod AtDesk
+pub mod Setting
+pub mod Isolation

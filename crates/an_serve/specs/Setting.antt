@@ -1,0 +1,40 @@
+-- For private clauses: by what a desk answers, and what it answers to a write.
+use Rattle.std.specs.Prelude.{◌≡◌, ◌≤◌, ◌+◌, ℕ, ℤ, List, Bool, IsSome, Result, Ok, Err}
+use Rattle.an_code.specs.declared.code.Code.TheVariants as code
+use Rattle.an_http.specs.declared.reply.Allow.{Allow}
+use Rattle.an_http.specs.declared.reply.Reply.{Reply}
+use Rattle.an_machine.specs.Legal.{Write, state_of}
+use Rattle.an_machine.specs.declared.command.WriteReply.{WriteReply}
+use Rattle.an_search.specs.Site.{Site}
+use Rattle.an_shelf.specs.Store.{Store}
+use Rattle.an_shelf.specs.declared.error.WriteError.{WriteError}
+use Rattle.an_shelf.specs.declared.error.WriteError.TheVariants as error
+use Rattle.an_answers.specs.Answer.{refusal_reply, write_answer}
+use Rattle.an_serve.specs.AtDesk.{IsAnswer, IsCounted}
+use Rattle.an_serve.specs.declared.respond.Response.{Response}
+
+-- the settings, and the clock
+pub record Setting (C : Type 0) : Type 0 where
+  pub site : Site
+  pub clock : C
+
+-- the reply to a write; want of memory is told otherwise
+abbrev pub told_reply : Site → Allow → Result WriteReply WriteError → Reply
+told_reply site methods (Ok reply) = write_answer site methods (Ok reply)
+told_reply site methods (Err (error.Refused refused)) = write_answer site methods (Err refused)
+told_reply site methods (Err error.Keeper) = refusal_reply methods code.Keeper
+told_reply site methods (Err error.Memory) = refusal_reply methods code.Keeper
+
+-- a desk came to this reply, and its state to another, and the faults that it met are counted
+pub record DeskComes (Unsure : Type 0) (clock : ℤ → Bool) (site : Site) (response : Response)
+    (old : Store) (reply : Reply) (new : Store) : Type 0 where
+  pub added : List Write
+  pub faults : ℕ
+  pub answers : IsAnswer Unsure clock site old.state response reply added faults
+  pub leads : new.state ≡ state_of old.state added
+  pub counted : (before : ℕ) → IsCounted before old.faults → IsCounted (before + faults) new.faults
+
+-- no keeper begins to tell its cells, and none forgets a fault
+pub record DeskKeeps (old new : Store) : Type 0 where
+  pub told : IsSome new.told → IsSome old.told
+  pub faults : old.faults ≤ new.faults

@@ -1,0 +1,7 @@
+//! What serves a connection at a store: what comes of each request.
+#![tactic(auto)]
+
+pub use at_desk::session_at_desk;
+
+mod at_desk;
+mod respond;

@@ -1,0 +1,76 @@
+-- A store that is closed and opened again is what it was.
+use Rattle.std.proofs.Common.{◌≡◌, ℕ, ℤ, List, ◌∷◌, ◌++◌, Some, None, Result, Ok, Err, IsSome, IsTrue, refl, sym, ap, subst, ◌∙◌}
+use Rattle.std.specs.Prelude.{IfOk, IfErr}
+use Rattle.an_keep.specs.Keeper.{Told, StaysOrBegins, WhileTold}
+use Rattle.an_laws.specs.Numbers.{AddsNothing}
+use Rattle.an_laws.proofs.NumberLemmas.{sent_again}
+use Rattle.an_machine.specs.Legal.{Legal, Write, state_of}
+use Rattle.an_machine.specs.Step.{step}
+use Rattle.an_policy.specs.declared.who.Caller.{Caller}
+use Rattle.an_rows.specs.Cells as rows
+use Rattle.an_rows.proofs.RestoreLemmas.{cells-read-back}
+use Rattle.an_state.specs.Sound.{is_sound}
+use Rattle.an_state.specs.State.{State}
+use Rattle.an_shelf.specs.Opening.{IsDamagedBy, StandFor, WasDamagedBy}
+use Rattle.an_shelf.specs.Store.{Stands, Store}
+use Rattle.an_shelf.specs.declared.error.OpenError.{OpenError}
+use Rattle.an_shelf.specs.declared.error.OpenError.TheVariants.{Damaged}
+
+same_Ok : (s t : State) → ◌≡◌ {A = Result State rows.Place} (Ok s) (Ok t) → s ≡ t
+same_Ok s t is = cc
+
+-- the cells of a desk stand for its state
+pub stand-for : (found : Told) (s : State) → Stands found s → StandFor found s
+stand-for None s stands = tt
+stand-for (Some its) s stands = ap rows.state_of stands.cells_are ∙ cells-read-back s stands.valid stands.sound
+
+pub ruleset closing = (stand-for)
+
+-- cells that are told before and behind stand for one state
+same-state : (old new : Told) (s t : State) → StandFor old s → StaysOrBegins old new → StandFor new t → WhileTold old new (t ≡ s)
+same-state old None s t was stays is = tt
+same-state None (Some new) s t was stays is = tt
+same-state (Some old) (Some new) s t was stays is = same_Ok t s (sym is ∙ ap rows.state_of stays ∙ was)
+
+-- what follows from what holds while cells are told does so too
+while-told : (old new : Told) (P Q : Type 0) → (P → Q) → WhileTold old new P → WhileTold old new Q
+while-told old None P Q follows holds = tt
+while-told None (Some new) P Q follows holds = tt
+while-told (Some old) (Some new) P Q follows holds = follows holds
+
+-- ---- a desk that was opened with the cells of one that was closed
+
+module _ (desk : Store) (stand : StandFor desk.told desk.state) (kept : Told) (is : kept ≡ desk.told) where
+  pub again-same : (result : Result Store OpenError) → IfOk result (λ again. StandFor again.told again.state) → IfOk result (λ again. StaysOrBegins kept again.told)
+      → IfOk result (λ again. WhileTold desk.told again.told (again.state ≡ desk.state))
+  again-same (Err error) stands stays = tt
+  again-same (Ok again) stands stays = same-state desk.told again.told desk.state again.state stand (subst (λ told. StaysOrBegins told again.told) is stays) stands
+
+  pub again-nothing : (result : Result Store OpenError) → IfOk result (λ again. WhileTold desk.told again.told (again.state ≡ desk.state))
+      → (s : State) (before behind : List Write) (write : Write) (moment : ℤ) (caller : Caller) → IsTrue (is_sound s) → Legal s (before ++ (write ∷ behind))
+      → desk.state ≡ state_of s (before ++ (write ∷ behind))
+      → IfOk result (λ again. WhileTold desk.told again.told (AddsNothing (step again.state moment caller write.command)))
+  again-nothing (Err error) same s before behind write moment caller sound legal leads = tt
+  again-nothing (Ok again) same s before behind write moment caller sound legal leads =
+      while-told desk.told again.told (again.state ≡ desk.state) (AddsNothing (step again.state moment caller write.command))
+      (λ same. subst (λ t. AddsNothing (step t moment caller write.command)) (sym (same ∙ leads)) (sent_again s before behind write moment caller sound legal))
+      same
+
+-- ---- damage
+
+module _ {K : Type 0} (told : K → Told) (s : State) (tab key : ℕ) where
+  untold : (old new : Told) → StandFor old s → IsSome old → StaysOrBegins old new → IsDamagedBy new (Damaged tab key) → new ≡ None
+  untold old None stand some stays damaged = refl
+  untold None (Some new) stand some stays damaged = absurd (cc)
+  untold (Some old) (Some new) stand some stays damaged =
+      let clash : ◌≡◌ {A = Result State rows.Place} (Ok s) (Err (record { tab = tab; key = key })) = sym stand ∙ sym (ap rows.state_of stays) ∙ damaged in
+      absurd (cc)
+
+  -- the cells of a desk are told as damaged only by a keeper that tells them no more
+  pub damaged-untold : (old kept : Told) → kept ≡ old → StandFor old s → IsSome old → (result : Result Store OpenError) → IfErr result (WasDamagedBy told kept)
+      → result ≡ Err (Damaged tab key) → (keeper : K) × (told keeper ≡ None)
+  damaged-untold old kept same stand some (Ok desk) was is = absurd (cc)
+  damaged-untold old kept same stand some (Err error) was is =
+      let so : error ≡ Damaged tab key = cc in
+      let damaged = subst (IsDamagedBy (told was.kept)) so was.damaged in
+      (was.kept, untold old (told was.kept) stand some (subst (λ t. StaysOrBegins t (told was.kept)) same was.stays) damaged)

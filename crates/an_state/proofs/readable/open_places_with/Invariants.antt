@@ -1,0 +1,12 @@
+use Rattle.std.proofs.Common.{◌≡◌, ◌++◌, ◌&&◌, drop}
+use Rattle.an_policy.specs.Audience.{identity}
+use Rattle.an_state.specs.Terms.{has_term}
+use Rattle.an_state.specs.View.{is_open_on, places_from}
+use Rattle.an_state.proofs.readable.open_places_with.Given as goal
+
+-- the places so far and those of what is left are those of all
+abbrev pub invariant-loop-row : goal.invariant-loop-row
+invariant-loop-row l =
+    (l.place ≡ l.row-index) ×
+    (l.places.items ++ places_from (λ row. is_open_on (identity l.who) l.manifest row && has_term l.term row) l.row-index (drop l.row-index l.notes)
+    ≡ places_from (λ row. is_open_on (identity l.who) l.manifest row && has_term l.term row) 0 l.notes)

@@ -1,0 +1,10 @@
+pub mod State
+pub mod Rows
+pub mod View
+pub mod Entries
+pub mod Sound
+pub mod Book
+pub mod Live
+pub mod Tables
+pub mod Terms
+pub mod Commands

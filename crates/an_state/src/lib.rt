@@ -1,0 +1,22 @@
+//! What the server knows: rows, entries, the book that keeps them, and looks at it.
+#![tactic(auto)]
+
+pub use activity::{Activity, Seen};
+pub use book::Book;
+pub use command::{Command, Object, object_of, typed_writes};
+pub use entry::{Entry, Row, done};
+pub use look::Look;
+pub use readable::is_on;
+pub use row::{LiveNote, ManifestRow, NoteRow, ReaderRow};
+pub use shown::{is_manifest_shown, is_note_shown, shown_manifest, shown_note};
+pub use totals::add_row;
+
+mod activity;
+mod book;
+mod command;
+mod entry;
+mod look;
+mod readable;
+mod row;
+mod shown;
+mod totals;
