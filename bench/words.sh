@@ -18,7 +18,7 @@ worded() {
         word = word substr(letters, number % 26 + 1, 1)
         number = int(number / 26)
       }
-      printf "%s%s", i > 0 ? " " : "", word
+      printf "%s%s", (i > 0 ? " " : ""), word
     }
     print "\",\"target\":\"http://a.example/c1\",\"type\":\"Annotation\"}"
   }'
