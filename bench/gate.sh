@@ -1,5 +1,5 @@
 #!/usr/bin/env bash
-# Runs the merge gate, and prints a table: each crate's lines of code, definitions and proofs, and the
+# Runs the merge gate from nothing, and prints a table: each crate's lines of code, definitions and proofs, and the
 # minutes of a processor that its proof and its must-fail edits took, as the processes of the prover tell
 # them twice a second. Below it stand their sum, and the longest chain of what waits for each other, which
 # no number of processors makes shorter. What the gate says goes to standard error, and its status is the
@@ -35,7 +35,7 @@ task_of() {
 }
 
 declare -A tasks=() ticks=() minutes=()
-ANNO_GATE=$$ rt ci >&2 &
+ANNO_GATE=$$ rt ci --anew >&2 &
 gate=$!
 while kill -0 "$gate" 2>/dev/null; do
   while read -r pid start used; do

@@ -1,4 +1,5 @@
-ghost use Rattle.std.specs.Prelude.{◌≡◌, ◌<◌, ◌++◌, Ok, Err, IfOk, codes, string_bytes};
+ghost use Rattle.std.specs.Prelude.{◌≡◌, ◌+◌, ◌≤◌, ◌<◌, ◌++◌, Ok, Err, IfOk, OnOk, codes};
+ghost use Rattle.std.specs.Prelude.{string_bytes};
 ghost use Rattle.an_stream.specs.Stream.{changes_of};
 ghost use Rattle.an_policy.specs.Audience.{identity};
 ghost use Rattle.an_state.specs.View.{view_of, view_by};
@@ -8,6 +9,7 @@ ghost use Rattle.an_answers.specs.Answer.{stream_refusal, with_iris, shown, show
 ghost use Rattle.an_answers.specs.Answer.{answer_of, query_answer, object_iri, bool_text};
 ghost use Rattle.an_answers.specs.Answer.{write_text, write_body, write_status, write_refusal};
 ghost use Rattle.an_answers.specs.Answer.{write_answer};
+ghost use Rattle.an_answers.specs.Cost.{cost_of, shown_cost};
 
 use an_base::{Bytes, Name, Prefer, Steps};
 use an_code::Code;
@@ -25,7 +27,8 @@ use std::alloc::{AllocError, Global};
 use std::sync::ledger::Ledger;
 
 /// The answer to a read, from what the caller may read alone: 401 where nobody has its token or
-/// name, what is shown, or why it isn't. Containers alone ask what is preferred.
+/// name, what is shown, or why it isn't. Containers alone ask what is preferred. What the caller
+/// may read tells the steps too.
 pub fn answer<T: Look, L: Ledger>(
     alloc: Global,
     look: &T,
@@ -37,6 +40,11 @@ pub fn answer<T: Look, L: Ledger>(
 ) -> Result<Reply, AllocError>
     ensures answer { IfOk result (λ reply. reply ≡ answer_of settings.now
         (view_by (T.state look.now) caller.now) prefer read.now) }
+    ensures steps { OnOk result (steps.new ≡ steps.old + cost_of settings.now
+        (view_by (T.state look.now) caller.now) prefer read.now) }
+    ensures steps_most { steps.new ≤ steps.old + cost_of settings.now
+        (view_by (T.state look.now) caller.now) prefer read.now }
+    ensures steps_least { steps.old ≤ steps.new }
 {
     match look.who(caller) {
         Some(who) => {
@@ -116,8 +124,13 @@ fn shown_to<T: Look, L: Ledger>(
     read: &Read,
     steps: &mut Steps<L>,
 ) -> Result<Result<Shown, Code>, AllocError>
-    ensures { IfOk result (λ shown. shown ≡ shown_of settings.now
+    ensures shown { IfOk result (λ shown. shown ≡ shown_of settings.now
         (view_of (T.state look.now) (identity who.now)) prefer read.now) }
+    ensures steps { OnOk result (steps.new ≡ steps.old + shown_cost settings.now
+        (view_of (T.state look.now) (identity who.now)) prefer read.now) }
+    ensures steps_most { steps.new ≤ steps.old + shown_cost settings.now
+        (view_of (T.state look.now) (identity who.now)) prefer read.now }
+    ensures steps_least { steps.old ≤ steps.new }
 {
     match read {
         Read::Manifest { name } => {

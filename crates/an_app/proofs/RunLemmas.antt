@@ -1,11 +1,12 @@
 -- How the calls of a run at a keeper add up to its end.
 use Rattle.std.proofs.Common.{◌≡◌, ℕ, ℤ, Bool, ◌<◌, ◌≤◌, inr, ⊎_elim, List, [], Option, Some, None, IfSome, IfNone, IsSome, refl, sym, subst, arith}
 use Rattle.std.proofs.lemmas.Bool.{false≢true}
-use Rattle.an_keep.specs.Keeper.{Told, StaysOrBegins}
+use Rattle.an_keep.specs.Keeper.{Told}
+use Rattle.an_rows.specs.Cells.{cells}
 use Rattle.an_state.specs.State.{State}
 use Rattle.an_state.specs.View.{View}
 use Rattle.an_search.specs.Site.{Site}
-use Rattle.an_shelf.specs.Opening.{IsDamagedBy, StandFor, WasDamagedBy}
+use Rattle.an_shelf.specs.Opening.{WasDamagedBy}
 use Rattle.an_shelf.specs.declared.error.OpenError.{OpenError}
 use Rattle.an_shelf.specs.declared.error.OpenError.TheVariants as error
 use Rattle.an_base.specs.Faults.{Rises}
@@ -21,11 +22,12 @@ use Rattle.an_lines.specs.Export.{export_report, export_told, view_named}
 use Rattle.an_app.specs.SessionEnds.{ended_status}
 use Rattle.an_lines.specs.Status.{Exchanges, Finds, IsUnfailing, Misunderstands, PrintsFront, ReadsLittle, misunderstood}
 use Rattle.an_lines.specs.Told.{IsTold, Tells}
-use Rattle.an_app.specs.Outside.{Outside}
+use Rattle.an_serve.specs.Events.{Keeps}
+use Rattle.an_app.specs.Outside.{Outside, WasLeft, outside_of}
 use Rattle.an_app.specs.Runs.{ReadsInput, Runs}
 use Rattle.an_app.specs.declared.form.Form.{Form}
 use Rattle.an_app.specs.declared.form.Form.TheVariants as form
-use Rattle.an_lines.specs.Trials.{Trial, trial_report}
+use Rattle.an_lines.specs.Trials.{trial_report}
 use Rattle.an_lines.specs.declared.status.Status.{Status}
 use Rattle.an_lines.specs.declared.status.Status.TheVariants as status
 use Rattle.an_lines.proofs.StatusLemmas.{Finds-no_memory, TellsReport-kept, TellsReport-nothing, TellsReport-unfailing, exchange, exchange-read, prints-unread, reads_little-nothing, reads-nothing}
@@ -99,34 +101,22 @@ Unopened-for Cause Other Failed old new status.ReadFault other run = absurd run
 Unopened-for Cause Other Failed old new status.Misunderstood other run = absurd run
 Unopened-for Cause Other Failed old new status.NoReader other run = absurd run
 
--- what was found stands for a state, and was told before
-pub stood : (told found : Told) (s : State) → IsSome told → IsSome found → StaysOrBegins told found → StandFor found s → StandFor told s
-stood None found s is some stays stand = tt
-stood (Some cells) None s is some stays stand = absurd (false≢true some)
-stood (Some cells) (Some others) s is some stays stand = subst (λ cells. StandFor (Some cells) s) stays stand
+-- why a keeper wasn't opened; the link isn't asked
+pub open_cause : {K : Type 0} (told_by : K → Told) (can_fail : Type 0) (keeper : K) (failed : OpenError) → (failed ≡ error.Keeper → can_fail) → WasDamagedBy told_by (told_by keeper) failed
+    → (why : OpenError) → ((why ≡ failed) × ¬ (why ≡ error.Memory)) → IsCause (outside_of told_by (told_by keeper) can_fail ⊥ ⊥) why
+open_cause told_by can_fail keeper failed unkept damaged error.Keeper (is, some) = unkept (sym is)
+open_cause told_by can_fail keeper failed unkept damaged (error.Damaged tab key) (is, some) = subst (WasDamagedBy told_by (told_by keeper)) (sym is) damaged
+open_cause told_by can_fail keeper failed unkept damaged error.Memory (is, some) = absurd (some refl)
 
--- what is damaged was damaged before
-damage_stood : (told found : Told) (why : OpenError) → IsSome told → IsSome found → StaysOrBegins told found → IsDamagedBy found why → IsDamagedBy told why
-damage_stood None found why is some stays damaged = absurd (false≢true is)
-damage_stood (Some cells) None why is some stays damaged = absurd (false≢true some)
-damage_stood (Some cells) (Some others) why is some stays damaged = subst (λ cells. IsDamagedBy (Some cells) why) stays damaged
+-- a keeper that is given back was left so
+pub left : {K : Type 0} (told_by : K → Told) (kept : K) (before told : Told) (s t : State) → told_by kept ≡ told → s ≡ t → Keeps before s told → WasLeft told_by before t
+left told_by kept before told s t tells is keeps = record { kept = kept; keeps = subst (λ s. Keeps before s (told_by kept)) is (subst (Keeps before s) (sym tells) keeps) }
 
--- a keeper that is gone was damaged so before
-pub damage_was : {K : Type 0} (told_by : K → Told) (told : Told) (tab key : ℕ) → WasDamagedBy told_by told (error.Damaged tab key) → IsSome told → ((kept : K) → IsSome (told_by kept)) → IsDamagedBy told (error.Damaged tab key)
-damage_was told_by told tab key was is telling = damage_stood told (told_by was.kept) (error.Damaged tab key) is (telling was.kept) was.stays was.damaged
-
--- the outside, as far as the cause of what keeps a store closed depends on it
-abbrev pub at_store : Type 0 → Type 0 → Outside
-at_store can_fail tells = record { read_failed = ⊥; write_failed = ⊥; keeper_can_fail = can_fail; keepers_tell = tells }
-
--- why a keeper wasn't opened, which is gone
-pub open_cause : {K : Type 0} (told_by : K → Told) (can_fail tells : Type 0) (keeper : K) (failed : OpenError) → (tells → (kept : K) → IsSome (told_by kept))
-    → (failed ≡ error.Keeper → can_fail) → WasDamagedBy told_by (told_by keeper) failed
-    → (why : OpenError) → ((why ≡ failed) × ¬ (why ≡ error.Memory)) → IsCause (at_store can_fail tells) (told_by keeper) why
-open_cause told_by can_fail tells keeper failed tell unkept was error.Keeper (is, some) = unkept (sym is)
-open_cause told_by can_fail tells keeper failed tell unkept was (error.Damaged tab key) (is, some) =
-    λ telling. damage_was told_by (told_by keeper) tab key (subst (WasDamagedBy told_by (told_by keeper)) (sym is) was) (tell telling keeper) (tell telling)
-open_cause told_by can_fail tells keeper failed tell unkept was error.Memory (is, some) = absurd (some refl)
+-- what is told still is kept
+pub keeps_told : (before told : Told) (s : State) → (IsSome told → IsSome before) → IfSome told (λ found. found ≡ cells s) → Keeps before s told
+keeps_told before None s since are = tt
+keeps_told None (Some found) s since are = absurd (false≢true (since refl))
+keeps_told (Some before) (Some found) s since are = are
 
 -- a small input is no more than so many requests may have
 pub little_requests : (old new : Option Traffic) → ReadsLittle old new → ReadsRequests old new
@@ -143,16 +133,16 @@ little_requests (Some old) (Some new) little = record {
 -- ---- all forms
 
 -- memory ran out before the form was read
-pub Runs-nothing_read : (outside : Outside) (clock : ℤ → Bool) (told : Told) (now : Line) (form : Option Form)
-    → IfSome form (Runs outside clock told now now status.Memory)
+pub Runs-nothing_read : (outside : Outside) (clock : ℤ → Bool) (now : Line) (form : Option Form)
+    → IfSome form (Runs outside clock now now status.Memory)
 unfolding ExportsAt
-Runs-nothing_read outside clock told now None = tt
-Runs-nothing_read outside clock told now (Some (form.Find site)) =
+Runs-nothing_read outside clock now None = tt
+Runs-nothing_read outside clock now (Some (form.Find site)) =
     Finds-no_memory site outside.read_failed outside.write_failed now.traffic now.traffic ([], reads-nothing now.traffic, omega arith)
-Runs-nothing_read outside clock told now (Some form.Import) = inr (Unopened-no_memory (IsCause outside told) outside.write_failed now.traffic)
-Runs-nothing_read outside clock told now (Some (form.Export by)) = inr (Unopened-no_memory (IsCause outside told) outside.write_failed now.traffic)
-Runs-nothing_read outside clock told now (Some (form.Session site)) = inr (Unopened-no_memory (IsCause outside told) outside.write_failed now.traffic)
-Runs-nothing_read outside clock told now (Some (form.Trial count seed)) =
+Runs-nothing_read outside clock now (Some form.Import) = inr (Unopened-no_memory (IsCause outside) outside.write_failed now.traffic)
+Runs-nothing_read outside clock now (Some (form.Export by)) = inr (Unopened-no_memory (IsCause outside) outside.write_failed now.traffic)
+Runs-nothing_read outside clock now (Some (form.Session site)) = inr (Unopened-no_memory (IsCause outside) outside.write_failed now.traffic)
+Runs-nothing_read outside clock now (Some (form.Trial count seed)) =
     TellsReport-nothing (trial_report (record { count = count; seed = seed })) outside.write_failed now.traffic
 
 pub Misunderstands-nothing_read : (Failed : Type 0) (traffic : Option Traffic) (form : Option Form) → IfNone form (Misunderstands Failed traffic traffic status.Memory)
@@ -173,7 +163,7 @@ never_rises a b none still rises = let k : a < b = rises (omega arith) in omega 
 pub keeper_never_rises : (a b : ℕ) → b ≡ 0 → a ≤ b → Rises a b → ⊥
 keeper_never_rises a b still kept rises = let k : a < b = rises (omega arith) in omega arith
 
-module _ (outside : Outside) (clock : ℤ → Bool) (told : Told) (old new : Line) where
+module _ (outside : Outside) (clock : ℤ → Bool) (old new : Line) where
   find_unfailing : (site : Site) (end : Status) → ¬ outside.read_failed → ¬ outside.write_failed → Finds site outside.read_failed outside.write_failed old.traffic new.traffic end → IsUnfailing end
   unfolding Finds
   find_unfailing site status.WriteFault read written run = absurd (written run.0)
@@ -209,29 +199,29 @@ module _ (outside : Outside) (clock : ℤ → Bool) (told : Told) (old new : Lin
   ended_unfailing ended.WriteFault trail lost tail rest read written (last, is, stops) = absurd (written stops.fault)
   ended_unfailing ended.Memory trail lost tail rest read written ends = tt
 
-  export_unfailing : (by : List ℕ) (end : Status) → ¬ outside.write_failed → ExportsAt outside told by old.traffic new.traffic end → IsUnfailing end
+  export_unfailing : (by : List ℕ) (end : Status) → ¬ outside.write_failed → ExportsAt outside by old.traffic new.traffic end → IsUnfailing end
   unfolding ExportsAt
   export_unfailing by end written run =
       ⊎_elim (λ opened. TellsReport-unfailing (export_report opened.state by) outside.write_failed old.traffic new.traffic end (export_told-is (view_named opened.state by)) written opened.tells)
-      (λ whole. unopened_unfailing (IsCause outside told) outside.write_failed old.traffic new.traffic end written whole) run
+      (λ whole. unopened_unfailing (IsCause outside) outside.write_failed old.traffic new.traffic end written whole) run
 
-  export_kept : (by : List ℕ) → ¬ outside.keeper_can_fail → ExportsAt outside told by old.traffic new.traffic status.KeeperFailed → ⊥
+  export_kept : (by : List ℕ) → ¬ outside.keeper_can_fail → ExportsAt outside by old.traffic new.traffic status.KeeperFailed → ⊥
   unfolding ExportsAt
   export_kept by kept run =
       ⊎_elim (λ opened. TellsReport-kept (export_report opened.state by) outside.write_failed old.traffic new.traffic (export_told-is (view_named opened.state by)) opened.tells)
-      (λ whole. unopened_kept (IsCause outside told) outside.write_failed old.traffic new.traffic kept whole) run
+      (λ whole. unopened_kept (IsCause outside) outside.write_failed old.traffic new.traffic kept whole) run
 
-  run_unfailing : (end : Status) (form : Form) → (Rises old.read_faults new.read_faults → outside.read_failed) → (Rises old.write_faults new.write_faults → outside.write_failed) → ¬ outside.read_failed → ¬ outside.write_failed → Runs outside clock told old new end form → IsUnfailing end
+  run_unfailing : (end : Status) (form : Form) → (Rises old.read_faults new.read_faults → outside.read_failed) → (Rises old.write_faults new.write_faults → outside.write_failed) → ¬ outside.read_failed → ¬ outside.write_failed → Runs outside clock old new end form → IsUnfailing end
   run_unfailing end (form.Find site) reads writes read written run = find_unfailing site end read written run
   run_unfailing end form.Import reads writes read written run =
-      ⊎_elim (λ opened. import_unfailing opened.before opened.behind end read written opened.imports) (λ whole. unopened_unfailing (IsCause outside told) outside.write_failed old.traffic new.traffic end written whole) run
+      ⊎_elim (λ opened. import_unfailing opened.before opened.behind end read written opened.imports) (λ whole. unopened_unfailing (IsCause outside) outside.write_failed old.traffic new.traffic end written whole) run
   run_unfailing end (form.Export by) reads writes read written run = export_unfailing by end written run
   run_unfailing end (form.Trial count seed) reads writes read written run = TellsReport-unfailing (trial_report (record { count = count; seed = seed })) outside.write_failed old.traffic new.traffic end tt written run
   run_unfailing end (form.Session site) reads writes read written run =
       ⊎_elim (λ opened.
       let session = opened.connection.session in
       subst IsUnfailing (sym opened.is) (ended_unfailing opened.ended session.trail session.lost session.tail session.rest (λ h. read (reads h)) (λ h. written (writes h)) session.ends))
-      (λ whole. unopened_unfailing (IsCause outside told) outside.write_failed old.traffic new.traffic end written whole) run
+      (λ whole. unopened_unfailing (IsCause outside) outside.write_failed old.traffic new.traffic end written whole) run
 
   ended_kept : (ended : Ended) → status.KeeperFailed ≡ ended_status ended → ⊥
   ended_kept ended.Closed is = cc
@@ -247,23 +237,23 @@ module _ (outside : Outside) (clock : ℤ → Bool) (told : Told) (old new : Lin
   unfolding Imports
   import_kept s t kept run = kept run.comes.0
 
-  run_kept : (form : Form) → ¬ outside.keeper_can_fail → Runs outside clock told old new status.KeeperFailed form → ⊥
+  run_kept : (form : Form) → ¬ outside.keeper_can_fail → Runs outside clock old new status.KeeperFailed form → ⊥
   run_kept (form.Find site) kept run = find_kept site run
   run_kept form.Import kept run =
-      ⊎_elim (λ opened. import_kept opened.before opened.behind kept opened.imports) (λ whole. unopened_kept (IsCause outside told) outside.write_failed old.traffic new.traffic kept whole) run
+      ⊎_elim (λ opened. import_kept opened.before opened.behind kept opened.imports) (λ whole. unopened_kept (IsCause outside) outside.write_failed old.traffic new.traffic kept whole) run
   run_kept (form.Export by) kept run = export_kept by kept run
   run_kept (form.Trial count seed) kept run = TellsReport-kept (trial_report (record { count = count; seed = seed })) outside.write_failed old.traffic new.traffic tt run
-  run_kept (form.Session site) kept run = ⊎_elim (λ opened. ended_kept opened.ended opened.is) (λ whole. unopened_kept (IsCause outside told) outside.write_failed old.traffic new.traffic kept whole) run
+  run_kept (form.Session site) kept run = ⊎_elim (λ opened. ended_kept opened.ended opened.is) (λ whole. unopened_kept (IsCause outside) outside.write_failed old.traffic new.traffic kept whole) run
 
   -- no call of the link is told to have failed where none can
-  pub ends_unfailing : (end : Status) (form : Option Form) → (Rises old.read_faults new.read_faults → outside.read_failed) → (Rises old.write_faults new.write_faults → outside.write_failed) → ¬ outside.read_failed → ¬ outside.write_failed → IfSome form (Runs outside clock told old new end)
+  pub ends_unfailing : (end : Status) (form : Option Form) → (Rises old.read_faults new.read_faults → outside.read_failed) → (Rises old.write_faults new.write_faults → outside.write_failed) → ¬ outside.read_failed → ¬ outside.write_failed → IfSome form (Runs outside clock old new end)
       → IfNone form (Misunderstands outside.write_failed old.traffic new.traffic end) → IsUnfailing end
   ends_unfailing end None reads writes read written understood run = TellsReport-unfailing misunderstood outside.write_failed old.traffic new.traffic end tt written run
-  ends_unfailing end (Some form) reads writes read written understood misunderstood = run_unfailing end form reads writes read written understood
+  ends_unfailing end (Some form) reads writes read written understood _ = run_unfailing end form reads writes read written understood
 
   -- nor the keeper
-  pub ends_kept : (end : Status) (form : Option Form) → ¬ outside.keeper_can_fail → IfSome form (Runs outside clock told old new end)
+  pub ends_kept : (end : Status) (form : Option Form) → ¬ outside.keeper_can_fail → IfSome form (Runs outside clock old new end)
       → IfNone form (Misunderstands outside.write_failed old.traffic new.traffic end) → ¬ (end ≡ status.KeeperFailed)
   ends_kept end None kept understood run = λ is. TellsReport-kept misunderstood outside.write_failed old.traffic new.traffic tt (subst (λ end. Misunderstands outside.write_failed old.traffic new.traffic end) is run)
-  ends_kept end (Some form) kept understood misunderstood =
-      λ is. run_kept form kept (subst (λ end. Runs outside clock told old new end form) is understood)
+  ends_kept end (Some form) kept understood _ =
+      λ is. run_kept form kept (subst (λ end. Runs outside clock old new end form) is understood)

@@ -2,7 +2,6 @@
 use Rattle.std.specs.Prelude.{ℕ, ◌⊎◌, List, Option}
 use Rattle.an_keep.specs.Keeper.{Told}
 use Rattle.an_state.specs.State.{State}
-use Rattle.an_shelf.specs.Opening.{StandFor}
 use Rattle.an_world.specs.Link.{Traffic}
 use Rattle.an_lines.specs.Export.{export_report}
 use Rattle.an_lines.specs.ImportEnds.{Imports}
@@ -13,35 +12,35 @@ use Rattle.an_app.specs.Unopened.{IsCause, Unopened}
 
 -- ---- `import`
 
--- From a state the input was imported. The cells stand for it, where each keeper of this kind tells
--- its cells.
-pub record ImportsOpened (outside : Outside) (told : Told) (old new : Option Traffic)
-    (status : Status) : Type 0 where
+-- From the state with which the store was opened the input was imported, and the state that this
+-- led to is left kept.
+pub record ImportsOpened (outside : Outside) (old new : Option Traffic) (status : Status)
+    : Type 0 where
   pub before : State
+  pub opens : outside.opens before
   pub behind : State
-  pub stand : outside.keepers_tell → StandFor told before
   pub imports : Imports outside.read_failed outside.write_failed outside.keeper_can_fail old new
       before behind status
+  pub told : Told
+  pub leaves : outside.leaves told behind
 
--- how a run of `import` ends at a keeper that told this
-abbrev pub ImportsAt : Outside → Told → Option Traffic → Option Traffic → Status → Type 0
-ImportsAt outside told old new status =
-    ImportsOpened outside told old new status
-    ⊎ Unopened (IsCause outside told) outside.write_failed old new status
+-- how a run of `import` ends
+abbrev pub ImportsAt : Outside → Option Traffic → Option Traffic → Status → Type 0
+ImportsAt outside old new status =
+    ImportsOpened outside old new status
+    ⊎ Unopened (IsCause outside) outside.write_failed old new status
 
 -- ---- `export`
 
--- From a state its view was exported. The cells stand for it, where each keeper of this kind tells
--- its cells.
-pub record ExportsOpened (outside : Outside) (told : Told) (by : List ℕ)
-    (old new : Option Traffic) (status : Status) : Type 0 where
+-- of the state with which the store was opened a view was exported
+pub record ExportsOpened (outside : Outside) (by : List ℕ) (old new : Option Traffic)
+    (status : Status) : Type 0 where
   pub state : State
-  pub stand : outside.keepers_tell → StandFor told state
+  pub opens : outside.opens state
   pub tells : TellsReport (export_report state by) outside.write_failed old new status
 
--- how a run of `export` ends at a keeper that told this
-unfoldable pub ExportsAt : Outside → Told → List ℕ → Option Traffic → Option Traffic → Status
-    → Type 0
-ExportsAt outside told by old new status =
-    ExportsOpened outside told by old new status
-    ⊎ Unopened (IsCause outside told) outside.write_failed old new status
+-- how a run of `export` ends
+unfoldable pub ExportsAt : Outside → List ℕ → Option Traffic → Option Traffic → Status → Type 0
+ExportsAt outside by old new status =
+    ExportsOpened outside by old new status
+    ⊎ Unopened (IsCause outside) outside.write_failed old new status

@@ -1,4 +1,9 @@
--- What the outside of a run may do, as the cause of how the run ends.
+-- What the outside of a run may do, as the cause of how the run ends, and what its keeper told.
+use Rattle.an_keep.specs.Keeper.{Told}
+use Rattle.an_state.specs.State.{State}
+use Rattle.an_shelf.specs.Opening.{WasDamagedBy, WasOpened}
+use Rattle.an_shelf.specs.declared.error.OpenError.{OpenError}
+use Rattle.an_serve.specs.Events.{Keeps}
 
 pub record Outside : Type 1 where
   -- a read of the link failed: its count of them rose
@@ -7,5 +12,25 @@ pub record Outside : Type 1 where
   pub write_failed : Type 0
   -- the keeper is of a kind that can fail
   pub keeper_can_fail : Type 0
-  -- each keeper of this kind tells its cells
-  pub keepers_tell : Type 0
+  -- the keeper stood for this state, once it was opened
+  pub opens : State → Type 0
+  -- the keeper was damaged so, once it was opened
+  pub finds_damage : OpenError → Type 0
+  -- the keeper is left with this state kept, having told this before
+  pub leaves : Told → State → Type 0
+
+-- a keeper as it was left, with this state kept, having told this before
+pub record WasLeft {K : Type 0} (told : K → Told) (before : Told) (s : State) : Type 0 where
+  pub kept : K
+  pub keeps : Keeps before s (told kept)
+
+-- the outside of a run whose keepers tell their cells so, and whose own told this
+abbrev pub outside_of : {K : Type 0} → (K → Told) → Told → Type 0 → Type 0 → Type 0 → Outside
+outside_of told old can_fail reads writes = record {
+  read_failed = reads;
+  write_failed = writes;
+  keeper_can_fail = can_fail;
+  opens = WasOpened told old;
+  finds_damage = WasDamagedBy told old;
+  leaves = WasLeft told;
+}

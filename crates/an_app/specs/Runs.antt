@@ -1,6 +1,5 @@
 -- How a run of a form ends, and how much of its link it reads.
 use Rattle.std.specs.Prelude.{ℤ, Bool, Option}
-use Rattle.an_keep.specs.Keeper.{Told}
 use Rattle.an_session.specs.Session.{Line, ReadsRequests}
 use Rattle.an_world.specs.Link.{Traffic}
 use Rattle.an_lines.specs.Status.{Finds, ReadsLittle, TellsReport}
@@ -12,18 +11,18 @@ use Rattle.an_app.specs.SessionEnds.{SessionAt}
 use Rattle.an_app.specs.declared.form.Form.{Form}
 use Rattle.an_app.specs.declared.form.Form.TheVariants as form
 
--- How a run of a form ends at a keeper that told this, with moments that the clock tells, over a
--- link that told these two of itself. `Find` and `Trial` open no store.
-abbrev pub Runs : Outside → (ℤ → Bool) → Told → Line → Line → Status → Form → Type 0
-Runs outside clock told old new status (form.Find site) =
+-- How a run of a form ends, with moments that the clock tells, over a link that told these two of
+-- itself. `Find` and `Trial` open no store.
+abbrev pub Runs : Outside → (ℤ → Bool) → Line → Line → Status → Form → Type 0
+Runs outside clock old new status (form.Find site) =
     Finds site outside.read_failed outside.write_failed old.traffic new.traffic status
-Runs outside clock told old new status form.Import =
-    ImportsAt outside told old.traffic new.traffic status
-Runs outside clock told old new status (form.Export by) =
-    ExportsAt outside told by old.traffic new.traffic status
-Runs outside clock told old new status (form.Session site) =
-    SessionAt outside clock site told old new status
-Runs outside clock told old new status (form.Trial count seed) =
+Runs outside clock old new status form.Import =
+    ImportsAt outside old.traffic new.traffic status
+Runs outside clock old new status (form.Export by) =
+    ExportsAt outside by old.traffic new.traffic status
+Runs outside clock old new status (form.Session site) =
+    SessionAt outside clock site old new status
+Runs outside clock old new status (form.Trial count seed) =
     TellsReport (trial_report (record { count = count; seed = seed })) outside.write_failed
     old.traffic new.traffic status
 

@@ -7,9 +7,8 @@ use Rattle.an_session.specs.Session.{Line}
 use Rattle.an_session.specs.Trail.{Known}
 use Rattle.an_session.specs.declared.ended.Ended.{Ended}
 use Rattle.an_session.specs.declared.ended.Ended.TheVariants as ended
-use Rattle.an_shelf.specs.Opening.{StandFor}
 use Rattle.an_serve.specs.AtDesk.{Connection}
-use Rattle.an_serve.specs.Events.{Event, IsLegal, opened}
+use Rattle.an_serve.specs.Events.{Event, IsLegal, opened, state_at, told_at}
 use Rattle.an_app.specs.Outside.{Outside}
 use Rattle.an_app.specs.Unopened.{IsCause, Unopened}
 use Rattle.an_lines.specs.declared.status.Status.{Status}
@@ -22,21 +21,24 @@ ended_status ended.ReadFault = status.ReadFault
 ended_status ended.WriteFault = status.WriteFault
 ended_status ended.Memory = status.Memory
 
--- From the state with which the store was opened one connection was served. The cells stand for the
--- state, where each keeper of this kind tells its cells.
-pub record SessionOpened (outside : Outside) (clock : ℤ → Bool) (site : Site) (told : Told)
-    (old new : Line) (end : Status) : Type 0 where
+-- From the state with which the store was opened one connection was served, each of whose writes was
+-- kept before its reply was written, and the state that they led to is left kept.
+pub record SessionOpened (outside : Outside) (clock : ℤ → Bool) (site : Site) (old new : Line)
+    (end : Status) : Type 0 where
   pub state : State
-  pub stand : outside.keepers_tell → StandFor told state
-  pub behind : Known Event
-  pub legal : IsLegal behind.list
+  pub opens : outside.opens state
+  pub told : Told
   pub ended : Ended
   pub is : end ≡ ended_status ended
-  pub connection : Connection outside.keeper_can_fail clock site ended old new (opened state) behind
+  pub behind : Known Event
+  pub connection : Connection outside.keeper_can_fail clock site ended old new (opened state told)
+      behind
+  pub legal : IsLegal behind.list
+  pub leaves : outside.leaves (told_at behind.list) (state_at behind.list)
 
--- How a run of `session` ends at a keeper that told this, with moments that the clock tells. It
--- prints nothing of its own where the store is opened.
-abbrev pub SessionAt : Outside → (ℤ → Bool) → Site → Told → Line → Line → Status → Type 0
-SessionAt outside clock site told old new status =
-    SessionOpened outside clock site told old new status
-    ⊎ Unopened (IsCause outside told) outside.write_failed old.traffic new.traffic status
+-- How a run of `session` ends, with moments that the clock tells. It prints nothing of its own where
+-- the store is opened.
+abbrev pub SessionAt : Outside → (ℤ → Bool) → Site → Line → Line → Status → Type 0
+SessionAt outside clock site old new status =
+    SessionOpened outside clock site old new status
+    ⊎ Unopened (IsCause outside) outside.write_failed old.traffic new.traffic status

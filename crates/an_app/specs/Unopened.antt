@@ -1,7 +1,5 @@
 -- How a run ends whose store isn't opened.
 use Rattle.std.specs.Prelude.{ℕ, List, [], ◌++◌, codes, decimal, Option}
-use Rattle.an_keep.specs.Keeper.{Told}
-use Rattle.an_shelf.specs.Opening.{IsDamagedBy}
 use Rattle.an_shelf.specs.declared.error.OpenError.{OpenError}
 use Rattle.an_shelf.specs.declared.error.OpenError.TheVariants as error
 use Rattle.an_world.specs.Link.{Traffic}
@@ -41,10 +39,8 @@ Unopened Cause Failed old new ReadFault = ⊥
 Unopened Cause Failed old new Misunderstood = ⊥
 Unopened Cause Failed old new NoReader = ⊥
 
--- What may keep a store from being opened whose keeper told this. Damage is that of the cells, where
--- each keeper of this kind tells its cells.
-abbrev pub IsCause : Outside → Told → OpenError → Type 0
-IsCause outside told error.Keeper = outside.keeper_can_fail
-IsCause outside told (error.Damaged tab key) =
-    outside.keepers_tell → IsDamagedBy told (error.Damaged tab key)
-IsCause outside told error.Memory = ⊥
+-- what may keep a store from being opened
+abbrev pub IsCause : Outside → OpenError → Type 0
+IsCause outside error.Keeper = outside.keeper_can_fail
+IsCause outside (error.Damaged tab key) = outside.finds_damage (error.Damaged tab key)
+IsCause outside error.Memory = ⊥

@@ -1,8 +1,14 @@
 //! What holds of every answer. Each law is the contract of a function that does nothing.
 ghost use Rattle.std.specs.Prelude.{◌≡◌, ℕ, List};
+ghost use Rattle.an_base.specs.declared.span.Prefer.{Prefer};
 ghost use Rattle.an_http.specs.declared.request.Request.{Request};
+ghost use Rattle.an_policy.specs.declared.who.Caller.{Caller};
 ghost use Rattle.an_state.specs.State.{State};
+ghost use Rattle.an_state.specs.View.{view_by};
 ghost use Rattle.an_search.specs.Site.{Site};
+ghost use Rattle.an_routes.specs.declared.kinds.Read.{Read};
+ghost use Rattle.an_answers.specs.Cost.{cost_of};
+ghost use Rattle.an_answers.specs.Isolation.{SeesAlike};
 ghost use Rattle.an_lines.specs.Asked.{asked_of};
 ghost use Rattle.an_lines.specs.Find.{turn_of};
 ghost use Rattle.an_lines.specs.Isolation.{ReaderSeesAlike};
@@ -11,11 +17,14 @@ ghost use Rattle.an_serve.specs.Respond.{response_of};
 
 /// A law: in two states of which a caller has one view, the caller is answered alike. A request
 /// has the same reply in both, unless the machine is asked to write, and then it is asked the same;
-/// a line that reads prints the same.
+/// a line that reads prints the same. A read takes as many steps in both.
 #[tactic(auto, using(crate::proofs::Isolation::alike))]
 pub fn equal_views_are_answered_alike()
     ensures requests { (site : Site) (s t : State) (request : Request)
         → SenderSeesAlike s t request → response_of site s request ≡ response_of site t request }
     ensures lines { (site : Site) (s t : State) (line : List ℕ)
         → ReaderSeesAlike s t (asked_of line) → turn_of site s line ≡ turn_of site t line }
+    ensures steps { (site : Site) (s t : State) (caller : Caller) (prefer : Prefer) (read : Read)
+        → SeesAlike s t caller → cost_of site (view_by s caller) prefer read
+        ≡ cost_of site (view_by t caller) prefer read }
 {}

@@ -1,8 +1,9 @@
-ghost use Rattle.std.specs.Prelude.{◌≡◌, IfNone, IfSome, IsSome, IsTrue, map, string_bytes};
+ghost use Rattle.std.specs.Prelude.{◌≡◌, IfNone, IfSome, IsTrue, map, string_bytes};
 ghost use Rattle.an_base.specs.Faults.{Rises};
 ghost use Rattle.an_session.specs.Session.{line};
 ghost use Rattle.an_lines.specs.Status.{IsUnfailing, Misunderstands, ReadsLittle};
 ghost use Rattle.an_app.specs.Form.{form_of};
+ghost use Rattle.an_app.specs.Outside.{outside_of};
 ghost use Rattle.an_app.specs.Runs.{ReadsInput, Runs};
 
 use crate::form::{Form, form_of};
@@ -26,13 +27,10 @@ pub fn run<L: Link, K: Keeper, C: Clock>(
     clock: &C,
 ) -> Status
     ensures understood { IfSome (form_of (map string_bytes words.now)) (Runs
-        (record {
-          read_failed = Rises (L.read_faults link.old) (L.read_faults link.new);
-          write_failed = Rises (L.write_faults link.old) (L.write_faults link.new);
-          keeper_can_fail = ¬ (IsTrue K.is_sure);
-          keepers_tell = (kept : K) → IsSome (K.told kept);
-        })
-        (C.answers clock.now) (K.told keeper)
+        (outside_of K.told (K.told keeper) (¬ (IsTrue K.is_sure))
+        (Rises (L.read_faults link.old) (L.read_faults link.new))
+        (Rises (L.write_faults link.old) (L.write_faults link.new)))
+        (C.answers clock.now)
         (line (L.traffic link.old) (L.read_faults link.old) (L.write_faults link.old))
         (line (L.traffic link.new) (L.read_faults link.new) (L.write_faults link.new)) result) }
     ensures misunderstood { IfNone (form_of (map string_bytes words.now)) (Misunderstands
@@ -58,13 +56,10 @@ fn run_words<L: Link, K: Keeper, C: Clock>(
     clock: &C,
 ) -> Status
     ensures understood { IfSome (form_of (map string_bytes words.now)) (Runs
-        (record {
-          read_failed = Rises (L.read_faults link.old) (L.read_faults link.new);
-          write_failed = Rises (L.write_faults link.old) (L.write_faults link.new);
-          keeper_can_fail = ¬ (IsTrue K.is_sure);
-          keepers_tell = (kept : K) → IsSome (K.told kept);
-        })
-        (C.answers clock.now) (K.told keeper)
+        (outside_of K.told (K.told keeper) (¬ (IsTrue K.is_sure))
+        (Rises (L.read_faults link.old) (L.read_faults link.new))
+        (Rises (L.write_faults link.old) (L.write_faults link.new)))
+        (C.answers clock.now)
         (line (L.traffic link.old) (L.read_faults link.old) (L.write_faults link.old))
         (line (L.traffic link.new) (L.read_faults link.new) (L.write_faults link.new)) result) }
     ensures misunderstood { IfNone (form_of (map string_bytes words.now)) (Misunderstands
@@ -89,13 +84,10 @@ fn run_form<L: Link, K: Keeper, C: Clock>(
     clock: &C,
 ) -> Status
     ensures runs { Runs
-        (record {
-          read_failed = Rises (L.read_faults link.old) (L.read_faults link.new);
-          write_failed = Rises (L.write_faults link.old) (L.write_faults link.new);
-          keeper_can_fail = ¬ (IsTrue K.is_sure);
-          keepers_tell = (kept : K) → IsSome (K.told kept);
-        })
-        (C.answers clock.now) (K.told keeper)
+        (outside_of K.told (K.told keeper) (¬ (IsTrue K.is_sure))
+        (Rises (L.read_faults link.old) (L.read_faults link.new))
+        (Rises (L.write_faults link.old) (L.write_faults link.new)))
+        (C.answers clock.now)
         (line (L.traffic link.old) (L.read_faults link.old) (L.write_faults link.old))
         (line (L.traffic link.new) (L.read_faults link.new) (L.write_faults link.new)) result form }
     ensures bounded { ReadsInput (L.traffic link.old) (L.traffic link.new) form }

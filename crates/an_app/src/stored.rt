@@ -1,18 +1,18 @@
 //! Runs at a store, which is opened first.
-ghost use Rattle.std.specs.Prelude.{◌≡◌, [], IfOk, IsSome, IsTrue, string_bytes};
+ghost use Rattle.std.specs.Prelude.{◌≡◌, [], IfOk, IfSome, IsTrue, string_bytes};
 ghost use Rattle.an_base.specs.Faults.{Rises};
+ghost use Rattle.an_rows.specs.Cells.{cells};
 ghost use Rattle.an_state.specs.State.{State};
 ghost use Rattle.an_serve.specs.AtDesk.{Connection};
-ghost use Rattle.an_serve.specs.Events.{Event, IsLegal, opened};
+ghost use Rattle.an_serve.specs.Events.{Event, IsLegal, opened, state_at, told_at};
 ghost use Rattle.an_session.specs.Session.{ReadsRequests, line};
 ghost use Rattle.an_session.specs.Trail.{Known};
-ghost use Rattle.an_app.specs.AtStore.{ExportsAt};
-ghost use Rattle.an_lines.specs.Export.{export_report};
+ghost use Rattle.an_app.specs.AtStore.{ExportsAt, ImportsAt};
+ghost use Rattle.an_app.specs.Outside.{WasLeft, outside_of};
 ghost use Rattle.an_lines.specs.ImportEnds.{Imports};
-ghost use Rattle.an_app.specs.AtStore.{ImportsAt};
 ghost use Rattle.an_app.specs.Unopened.{Unopened, damage_text};
 ghost use Rattle.an_app.specs.SessionEnds.{SessionAt, ended_status};
-ghost use Rattle.an_lines.specs.Status.{ReadsLittle, TellsReport};
+ghost use Rattle.an_lines.specs.Status.{ReadsLittle};
 
 use an_keep::Keeper;
 use an_lines::{Status, export, import, tell};
@@ -26,13 +26,9 @@ use std::alloc::{AllocError, Global};
 /// Writes lines to the store of a keeper.
 pub(crate) fn import_at<L: Link, K: Keeper>(alloc: Global, link: &mut L, keeper: K) -> Status
     ensures imports { ImportsAt
-        (record {
-          read_failed = Rises (L.read_faults link.old) (L.read_faults link.new);
-          write_failed = Rises (L.write_faults link.old) (L.write_faults link.new);
-          keeper_can_fail = ¬ (IsTrue K.is_sure);
-          keepers_tell = (kept : K) → IsSome (K.told kept);
-        })
-        (K.told keeper)
+        (outside_of K.told (K.told keeper) (¬ (IsTrue K.is_sure))
+        (Rises (L.read_faults link.old) (L.read_faults link.new))
+        (Rises (L.write_faults link.old) (L.write_faults link.new)))
         (L.traffic link.old) (L.traffic link.new) result }
     ensures bounded { ReadsLittle (L.traffic link.old) (L.traffic link.new) }
 {
@@ -42,15 +38,14 @@ pub(crate) fn import_at<L: Link, K: Keeper>(alloc: Global, link: &mut L, keeper:
     }
 }
 
-/// Writes lines to an open store. The keeper is taken back, since a keeper of a sure kind is known
-/// to have failed no call.
+/// Writes lines to an open store. The keeper is taken back: one of a sure kind is known to have
+/// failed no call, and the cells of each are those of its state.
 fn import_into<L: Link, K: Keeper>(alloc: Global, link: &mut L, desk: Desk<K>) -> Status
-    ensures imports { (after : State) × Imports
+    ensures imports { (after : State) × WasLeft K.told desk.told after × Imports
         (Rises (L.read_faults link.old) (L.read_faults link.new))
         (Rises (L.write_faults link.old) (L.write_faults link.new))
         (¬ (IsTrue K.is_sure))
         (L.traffic link.old) (L.traffic link.new) desk.state after result }
-    ensures told { ((kept : K) → IsSome (K.told kept)) → IsSome desk.told }
     ensures bounded { ReadsLittle (L.traffic link.old) (L.traffic link.new) }
 {
     let mut desk = desk;
@@ -67,34 +62,16 @@ pub(crate) fn export_at<L: Link, K: Keeper>(
     by: &str,
 ) -> Status
     ensures exports { ExportsAt
-        (record {
-          read_failed = Rises (L.read_faults link.old) (L.read_faults link.new);
-          write_failed = Rises (L.write_faults link.old) (L.write_faults link.new);
-          keeper_can_fail = ¬ (IsTrue K.is_sure);
-          keepers_tell = (kept : K) → IsSome (K.told kept);
-        })
-        (K.told keeper) by.now
-        (L.traffic link.old) (L.traffic link.new) result }
+        (outside_of K.told (K.told keeper) (¬ (IsTrue K.is_sure))
+        (Rises (L.read_faults link.old) (L.read_faults link.new))
+        (Rises (L.write_faults link.old) (L.write_faults link.new)))
+        by.now (L.traffic link.old) (L.traffic link.new) result }
     ensures bounded { ReadsLittle (L.traffic link.old) (L.traffic link.new) }
 {
     match Desk::open(alloc, keeper) {
-        Ok(desk) => export_from(alloc, link, desk, by),
+        Ok(desk) => export(alloc, link, &desk, by),
         Err(error) => unopened(alloc, link, error),
     }
-}
-
-/// Prints what a reader sees of an open store. The keeper is taken back, since it tells its cells
-/// still where it told them before.
-fn export_from<L: Link, K: Keeper>(alloc: Global, link: &mut L, desk: Desk<K>, by: &str) -> Status
-    ensures exports { TellsReport (export_report desk.state by.now)
-        (Rises (L.write_faults link.old) (L.write_faults link.new))
-        (L.traffic link.old) (L.traffic link.new) result }
-    ensures told { ((kept : K) → IsSome (K.told kept)) → IsSome desk.told }
-    ensures bounded { ReadsLittle (L.traffic link.old) (L.traffic link.new) }
-{
-    let status = export(alloc, link, &desk, by);
-    drop(desk.into_keeper());
-    status
 }
 
 /// Serves one connection at the store of a keeper.
@@ -106,13 +83,10 @@ pub(crate) fn session_at<L: Link, K: Keeper, C: Clock>(
     clock: &C,
 ) -> Status
     ensures session { SessionAt
-        (record {
-          read_failed = Rises (L.read_faults link.old) (L.read_faults link.new);
-          write_failed = Rises (L.write_faults link.old) (L.write_faults link.new);
-          keeper_can_fail = ¬ (IsTrue K.is_sure);
-          keepers_tell = (kept : K) → IsSome (K.told kept);
-        })
-        (C.answers clock.now) settings.now (K.told keeper)
+        (outside_of K.told (K.told keeper) (¬ (IsTrue K.is_sure))
+        (Rises (L.read_faults link.old) (L.read_faults link.new))
+        (Rises (L.write_faults link.old) (L.write_faults link.new)))
+        (C.answers clock.now) settings.now
         (line (L.traffic link.old) (L.read_faults link.old) (L.write_faults link.old))
         (line (L.traffic link.new) (L.read_faults link.new) (L.write_faults link.new)) result }
     ensures bounded { ReadsRequests (L.traffic link.old) (L.traffic link.new) }
@@ -123,8 +97,8 @@ pub(crate) fn session_at<L: Link, K: Keeper, C: Clock>(
     }
 }
 
-/// Serves one connection at an open store. The keeper is taken back, since it tells its cells still
-/// where it told them before.
+/// Serves one connection at an open store. The keeper is taken back, since its cells are those of
+/// its state.
 fn session_into<L: Link, K: Keeper, C: Clock>(
     alloc: Global,
     link: &mut L,
@@ -132,12 +106,13 @@ fn session_into<L: Link, K: Keeper, C: Clock>(
     settings: &Settings,
     clock: &C,
 ) -> Ended
-    ensures connection { (behind : Known Event) × IsLegal behind.list × Connection
+    requires cells { IfSome desk.told (λ found. found ≡ cells desk.state) }
+    ensures connection { (behind : Known Event) × IsLegal behind.list
+        × WasLeft K.told (told_at behind.list) (state_at behind.list) × Connection
         (¬ (IsTrue K.is_sure)) (C.answers clock.now) settings.now result
         (line (L.traffic link.old) (L.read_faults link.old) (L.write_faults link.old))
         (line (L.traffic link.new) (L.read_faults link.new) (L.write_faults link.new))
-        (opened desk.state) behind }
-    ensures told { ((kept : K) → IsSome (K.told kept)) → IsSome desk.told }
+        (opened desk.state desk.told) behind }
     ensures bounded { ReadsRequests (L.traffic link.old) (L.traffic link.new) }
 {
     let mut desk = desk;

@@ -1,4 +1,5 @@
 use crate::http_calls::{memory_reply, requests};
+use crate::index_calls::{classes, counts, postings};
 use crate::model_calls::{note, parts, sheet};
 use crate::policy_calls::{may_read, settings};
 use crate::row_calls::row;
@@ -39,6 +40,12 @@ pub enum Call {
     Sheet,
     /// Whether a caller may read what has an audience.
     May,
+    /// The classes of audiences.
+    Classes,
+    /// What lists of places tell.
+    Postings,
+    /// What counts of terms tell.
+    Counts,
     /// The settings that two words are.
     Settings,
     /// The row that bytes are.
@@ -66,6 +73,9 @@ pub fn call_named(name: &str) -> Option<Call> {
         "parts" => Call::Parts,
         "sheet" => Call::Sheet,
         "may" => Call::May,
+        "classes" => Call::Classes,
+        "postings" => Call::Postings,
+        "counts" => Call::Counts,
         "settings" => Call::Settings,
         "row" => Call::Row,
         "requests" => Call::Requests,
@@ -91,6 +101,9 @@ impl Answers for Call {
             Call::Parts => parts(alloc, argument),
             Call::Sheet => sheet(alloc, argument),
             Call::May => may_read(alloc, argument),
+            Call::Classes => classes(alloc, argument),
+            Call::Postings => postings(alloc, argument),
+            Call::Counts => counts(alloc, argument),
             Call::Settings => settings(alloc, argument),
             Call::Row => row(alloc, argument),
             Call::Requests => requests(alloc, argument),

@@ -3,12 +3,22 @@ use crate::rows::{RowError, two_parts, two_words};
 use crate::shown::written;
 use crate::tree_calls::read;
 use an_base::Name;
-use an_policy::{Audience, Group, Reader, Who, group_named, may, read_reader};
+use an_policy::{Audience, Caller, Group, Reader, Who, group_named, may, read_reader};
 use an_search::read_settings;
 use std::alloc::Global;
 
-fn name(alloc: Global, text: &str) -> Result<Name, RowError> {
+/// The name that a text is.
+pub fn name(alloc: Global, text: &str) -> Result<Name, RowError> {
     Name::new(alloc, text).map_err(|_| RowError::Form)
+}
+
+/// The reader of this name, or who writes or reads in nobody's name: `-`.
+pub fn caller_named(alloc: Global, by: &str, nobody: Caller) -> Result<Caller, RowError> {
+    if by == "-" {
+        Ok(nobody)
+    } else {
+        Ok(Caller::Named(name(alloc, by)?))
+    }
 }
 
 fn group(alloc: Global, text: &str) -> Result<Group, RowError> {
@@ -18,18 +28,18 @@ fn group(alloc: Global, text: &str) -> Result<Group, RowError> {
 /// Whether the caller may read what has the audience: `mara a | public b`.
 pub fn may_read(alloc: Global, argument: &str) -> Result<String, RowError> {
     let (caller, groups) = two_parts(argument)?;
-    let audience = audience(alloc, groups)?;
+    let audience = owned_audience(alloc, groups, "mara")?;
     let is_allowed = caller_may(alloc, caller, &audience)?;
     Ok(written(alloc, &is_allowed)?)
 }
 
-/// What belongs to `mara` and is shown to a group within a group: `public a`.
-fn audience(alloc: Global, groups: &str) -> Result<Audience, RowError> {
+/// What belongs to an owner and is shown to a group within a group: `public a`.
+pub fn owned_audience(alloc: Global, groups: &str, owner: &str) -> Result<Audience, RowError> {
     let (outer, inner) = two_words(groups)?;
     Ok(Audience {
         outer: group(alloc, outer)?,
         inner: group(alloc, inner)?,
-        owner: Some(name(alloc, "mara")?),
+        owner: Some(name(alloc, owner)?),
     })
 }
 

@@ -15,6 +15,8 @@ pub enum Kind {
     SureRuns,
     /// What is done with a store in memory, one after the other, a row each.
     Store,
+    /// What a snapshot answers behind writes, beside a plain book.
+    Snapshot,
 }
 
 /// What rows with this name play.
@@ -22,6 +24,7 @@ pub fn rows_named(name: &str) -> Option<Kind> {
     match name {
         "sure_run" => Some(Kind::SureRuns),
         "store" => Some(Kind::Store),
+        "snapshot" => Some(Kind::Snapshot),
         _ => call_named(name).map(Kind::Rows),
     }
 }

@@ -4,7 +4,7 @@ use crate::stores::Stores;
 use crate::sure_runs::SureRuns;
 use an_app::{import, run};
 use an_base::{Bytes, TryCopy};
-use an_calls::Answers;
+use an_calls::{Answers, TwinRows};
 use an_keep::{Cell, Change, KeepError, Keeper, MemKeeper};
 use an_report::Outcome;
 use an_shelf::Desk;
@@ -21,6 +21,7 @@ pub fn play(alloc: Global, case: &Case) -> Result<Outcome, AllocError> {
         Kind::Rows(call) => play_rows(alloc, call, case),
         Kind::SureRuns => play_rows(alloc, SureRuns, case),
         Kind::Store => play_rows(alloc, Stores::new(keeper_of(alloc, case)?), case),
+        Kind::Snapshot => play_twins(alloc, case),
     }
 }
 
@@ -31,6 +32,12 @@ fn play_rows<A: Answers + Drop>(
 ) -> Result<Outcome, AllocError> {
     let output = answer_rows(alloc, &mut answers, case.due.output.as_slice())?;
     Ok(Outcome { status: 0, output })
+}
+
+/// The lines of the store come first, those of the input are played in rounds.
+fn play_twins(alloc: Global, case: &Case) -> Result<Outcome, AllocError> {
+    let rows = TwinRows::new(alloc, case.imported.as_slice(), case.input.as_slice())?;
+    play_rows(alloc, rows, case)
 }
 
 /// Runs the server over a link in memory.

@@ -13,12 +13,13 @@ use Rattle.unicode_segmentation.proofs.Computing.{unicode_segmentation}
 use Rattle.an_policy.specs.declared.group.Group.TheVariants.{Public}
 use Rattle.an_terms.specs.Terms.{term_of, placed, occurrences_of}
 use Rattle.an_model.specs.Bodies.{texts_of, note_occurrences, note_terms}
-use Rattle.an_state.specs.State.{KeptManifest, KeptNote}
+use Rattle.an_state.specs.State.{ManifestState, NoteState}
 use Rattle.an_base.specs.Totals.{capped, totals_of}
 use Rattle.an_state.specs.View.{View}
 use Rattle.an_search.specs.Site.{Site}
 use Rattle.an_search.specs.Filters.{FiltersRecord}
 use Rattle.an_complete.specs.Ask.{AskRecord}
+use Rattle.an_complete.specs.Cost.{complete_cost}
 use Rattle.an_complete.specs.Complete.{asked_terms, ask_form, ask_iri, complete_of, terms_page}
 use Rattle.an_complete.specs.declared.completion.CompleteError.TheVariants.{NoManifest}
 
@@ -29,10 +30,10 @@ completions_on_literals = tt
 abbrev site : Site
 site = record { base = codes "http://a.example"; size = 10 }
 
-abbrev manifest : KeptManifest
+abbrev manifest : ManifestState
 manifest = record { name = codes "m1"; version = 1; group = Public; live = Some (record { created = pos 0; modified = None; tree = object no_members }) }
 
-abbrev note : List ℕ → List ℕ → KeptNote
+abbrev note : List ℕ → List ℕ → NoteState
 note name text = record {
   owner = codes "mara";
   name = name;
@@ -48,7 +49,7 @@ note name text = record {
 }
 
 -- a view of one manifest with these annotations
-abbrev view : List KeptNote → View
+abbrev view : List NoteState → View
 view notes = record { who = None; manifests = manifest ∷ []; notes = notes; seen = [] }
 
 abbrev unfiltered : FiltersRecord
@@ -72,7 +73,7 @@ row-absent = refl
 
 -- ---- the terms
 
-abbrev herons : List KeptNote
+abbrev herons : List NoteState
 herons = note (codes "n1") (codes "heron") ∷ note (codes "n2") (codes "heron heron") ∷ []
 
 row-both : asked_terms (view herons) (codes "m1") ask ≡ record { term = codes "heron"; total = 3 } ∷ []
@@ -90,6 +91,21 @@ row-folded = refl
 row-another_user : asked_terms (view herons) (codes "m1") (record ask { filters = record unfiltered { user = Some (codes "http://a.example/readers/tom") } }) ≡ []
 unfolding completions_on_literals
 row-another_user = refl
+
+-- ---- steps
+
+row-no_filter : complete_cost (view herons) (codes "m1") ask ≡ 0
+unfolding completions_on_literals
+row-no_filter = refl
+
+row-filter : complete_cost (view herons) (codes "m1") (record ask { filters = record unfiltered { user = Some (codes "http://a.example/readers/tom") } }) ≡ 2
+unfolding completions_on_literals
+row-filter = refl
+
+-- a filter without a piece lets all pass
+row-empty_filter : complete_cost (view herons) (codes "m1") (record ask { filters = record unfiltered { user = Some (codes " ") } }) ≡ 0
+unfolding completions_on_literals
+row-empty_filter = refl
 
 -- ---- the page
 

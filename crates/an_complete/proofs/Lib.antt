@@ -3,3 +3,4 @@ mod AskRows
 mod CompleteRows
 pub mod NoteLemmas
 pub mod TextLemmas
+mod SearchCostRows

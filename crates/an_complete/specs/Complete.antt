@@ -1,5 +1,5 @@
 -- The terms of a manifest's annotations that begin as a prefix does (IIIF Content Search API 2.0).
-use Rattle.std.specs.Prelude.{ℕ, List, [], ◌∷◌, ◌++◌, codes, decimal, take, map, filter, nat_le}
+use Rattle.std.specs.Prelude.{ℕ, List, ◌∷◌, ◌++◌, codes, decimal, take, map, filter, nat_le}
 use Rattle.std.specs.Prelude.{Bool, if◌then◌else◌, is_some, Option, Some, None, option_map}
 use Rattle.std.specs.Prelude.{unwrap_or, Result, Ok, Err}
 use Rattle.serde_json.specs.Data.{Data, number, unsigned, string, array, object, member}
@@ -8,7 +8,7 @@ use Rattle.serde_json.specs.View.{items_of}
 use Rattle.serde_json.specs.Written.{compact_text}
 use Rattle.an_base.specs.Object.{with_member_if}
 use Rattle.an_terms.specs.Terms.{term_of}
-use Rattle.an_state.specs.State.{KeptNote}
+use Rattle.an_state.specs.State.{NoteState}
 use Rattle.an_state.specs.Terms.{totals_in}
 use Rattle.an_state.specs.View.{View, is_on, manifest_in}
 use Rattle.an_base.specs.declared.span.TermTotal.{TermTotal}
@@ -31,7 +31,7 @@ abbrev pub filters_of : AskRecord → Wanted
 filters_of ask = wanted_by None ask.filters
 
 -- the annotations of the view on the manifest that the filters let pass, in their order
-abbrev pub asked_notes : View → List ℕ → Wanted → List KeptNote
+abbrev pub asked_notes : View → List ℕ → Wanted → List NoteState
 asked_notes view manifest filters = filter (matches filters) (filter (is_on manifest) view.notes)
 
 -- a term occurs often enough: once, where no number is given

@@ -1,2 +1,3 @@
 pub mod Ask
 pub mod Complete
+pub mod Cost

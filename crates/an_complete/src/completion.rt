@@ -1,10 +1,12 @@
-ghost use Rattle.std.specs.Prelude.{◌≡◌, IfOk};
+ghost use Rattle.std.specs.Prelude.{◌≡◌, ◌+◌, ◌≤◌, IfOk, OnOk};
 ghost use Rattle.serde_json.specs.Written.{compact_text};
 ghost use Rattle.an_base.specs.Outcome.{Gives};
 ghost use Rattle.an_policy.specs.Audience.{identity};
 ghost use Rattle.an_state.specs.View.{view_of};
 ghost use Rattle.an_complete.specs.Complete.{ask_iri, asked_terms, complete_of, filters_of};
 ghost use Rattle.an_complete.specs.Complete.{terms_page};
+ghost use Rattle.an_complete.specs.Cost.{complete_cost, terms_cost};
+ghost use Rattle.an_search.specs.Cost.{Takes};
 
 use crate::ask::Ask;
 use crate::page::{ask_iri, terms_text};
@@ -27,7 +29,8 @@ pub enum CompleteError {
 
 /// The terms that complete a prefix (IIIF Content Search API 2.0): the first 100 of those that
 /// begin with it and occur often enough in the annotations on a manifest that the caller may read
-/// and that pass the filters, each with its total.
+/// and that pass the filters, each with its total. Without a filter no annotation is fetched, and
+/// with one each that the caller may read is fetched once.
 pub fn complete<T: Look, L: Ledger>(
     alloc: Global,
     look: &T,
@@ -39,6 +42,11 @@ pub fn complete<T: Look, L: Ledger>(
 ) -> Result<Bytes, CompleteError>
     ensures answer { Gives (λ page. page) CompleteError.Memory result (complete_of settings.now
         (view_of (T.state look.now) (identity who.now)) manifest.now ask.now) }
+    ensures steps { Takes CompleteError.Memory result steps.old steps.new (complete_cost
+        (view_of (T.state look.now) (identity who.now)) manifest.now ask.now) }
+    ensures steps_most { steps.new ≤ steps.old + complete_cost
+        (view_of (T.state look.now) (identity who.now)) manifest.now ask.now }
+    ensures steps_least { steps.old ≤ steps.new }
 {
     match shown_manifest(look, who, manifest) {
         Some(_) => match page_of_terms(alloc, look, who, manifest, ask, settings, steps) {
@@ -58,9 +66,14 @@ fn page_of_terms<T: Look, L: Ledger>(
     settings: &Settings,
     steps: &mut Steps<L>,
 ) -> Result<Bytes, AllocError>
-    ensures { IfOk result (λ page. page ≡ compact_text
+    ensures page { IfOk result (λ page. page ≡ compact_text
         (terms_page (ask_iri settings.now.base manifest.now ask.now) ask.now.ignored
         (asked_terms (view_of (T.state look.now) (identity who.now)) manifest.now ask.now))) }
+    ensures steps { OnOk result (steps.new ≡ steps.old + terms_cost
+        (view_of (T.state look.now) (identity who.now)) manifest.now ask.now) }
+    ensures steps_most { steps.new ≤ steps.old + terms_cost
+        (view_of (T.state look.now) (identity who.now)) manifest.now ask.now }
+    ensures steps_least { steps.old ≤ steps.new }
 {
     let terms = asked_terms(alloc, look, who, manifest, ask, steps)?;
     let iri = ask_iri(alloc, settings.base(), manifest, ask)?;
@@ -78,6 +91,11 @@ pub fn asked_terms<T: Look, L: Ledger>(
 ) -> Result<Vec<TermTotal>, AllocError>
     ensures terms { IfOk result (λ terms. terms.items ≡ asked_terms
         (view_of (T.state look.now) (identity who.now)) manifest.now ask.now) }
+    ensures steps { OnOk result (steps.new ≡ steps.old + terms_cost
+        (view_of (T.state look.now) (identity who.now)) manifest.now ask.now) }
+    ensures steps_most { steps.new ≤ steps.old + terms_cost
+        (view_of (T.state look.now) (identity who.now)) manifest.now ask.now }
+    ensures steps_least { steps.old ≤ steps.new }
 {
     let prefix = term_of(alloc, ask.q())?;
     let filters = filters_of(alloc, ask)?;

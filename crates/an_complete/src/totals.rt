@@ -1,11 +1,13 @@
-ghost use Rattle.std.specs.Prelude.{◌≡◌, List, [], ◌∷◌, ◌++◌, filter, slice_get, IfOk, OnOk};
+ghost use Rattle.std.specs.Prelude.{◌≡◌, ◌+◌, ◌≤◌, List, [], ◌∷◌, ◌++◌, filter, length, slice_get};
+ghost use Rattle.std.specs.Prelude.{IfOk, OnOk};
 ghost use Rattle.std.specs.List.{filter_map};
 ghost use Rattle.an_policy.specs.Audience.{identity};
-ghost use Rattle.an_state.specs.State.{KeptNote};
+ghost use Rattle.an_state.specs.State.{NoteState};
 ghost use Rattle.an_state.specs.Terms.{totals_in};
 ghost use Rattle.an_state.specs.View.{view_of};
 ghost use Rattle.an_search.specs.Wanted.{matches};
 ghost use Rattle.an_complete.specs.Complete.{asked_notes, first_terms, is_enough};
+ghost use Rattle.an_complete.specs.Cost.{filter_cost};
 
 use an_base::{Name, Steps, TermTotal, TermTotals};
 use an_policy::Who;
@@ -31,6 +33,11 @@ pub(crate) fn asked_totals<T: Look, L: Ledger>(
 ) -> Result<Vec<TermTotal>, AllocError>
     ensures totals { IfOk result (λ totals. totals.items ≡ totals_in prefix.now
         (asked_notes (view_of (T.state look.now) (identity who.now)) manifest.now filters.now)) }
+    ensures steps { OnOk result (steps.new ≡ steps.old + filter_cost
+        (view_of (T.state look.now) (identity who.now)) manifest.now filters.now) }
+    ensures steps_most { steps.new ≤ steps.old + filter_cost
+        (view_of (T.state look.now) (identity who.now)) manifest.now filters.now }
+    ensures steps_least { steps.old ≤ steps.new }
 {
     if wants_nothing(filters) {
         look.terms_from(alloc, who, manifest, prefix)
@@ -49,9 +56,12 @@ fn count<T: Look, L: Ledger>(
     filters: &Wanted,
     steps: &mut Steps<L>,
 ) -> Result<Vec<TermTotal>, AllocError>
-    ensures { IfOk result (λ totals. totals.items ≡ totals_in prefix.now
+    ensures totals { IfOk result (λ totals. totals.items ≡ totals_in prefix.now
         (filter (matches filters.now)
         (filter_map (slice_get (T.state look.now).notes) places.now))) }
+    ensures steps { OnOk result (steps.new ≡ steps.old + length places.now) }
+    ensures steps_most { steps.new ≤ steps.old + length places.now }
+    ensures steps_least { steps.old ≤ steps.new }
 {
     let mut totals = TermTotals::new(alloc);
     for place in places {
@@ -70,7 +80,7 @@ fn try_row(
     prefix: &str,
     filters: &Wanted,
 ) -> Result<(), AllocError>
-    ensures row { OnOk result ((rows : List KeptNote) → totals.old ≡ totals_in prefix.now rows
+    ensures row { OnOk result ((rows : List NoteState) → totals.old ≡ totals_in prefix.now rows
         → totals.new ≡ totals_in prefix.now (rows ++ filter (matches filters.now) (row.now ∷ []))) }
 {
     if matches(row, filters) {

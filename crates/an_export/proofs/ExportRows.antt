@@ -8,7 +8,7 @@ use Rattle.an_base.specs.Moment.{date_time_after, days_of_months, moment_text}
 use Rattle.an_policy.specs.Audience.{anonymous}
 use Rattle.an_policy.specs.declared.group.Group.{Group}
 use Rattle.an_policy.specs.declared.group.Group.TheVariants.{Public, Private, Named}
-use Rattle.an_state.specs.State.{KeptManifest, KeptNote, LiveNote, State}
+use Rattle.an_state.specs.State.{ManifestState, NoteState, LiveNote, State}
 use Rattle.an_state.specs.View.{View, view_of}
 use Rattle.an_export.specs.Export.{exported}
 
@@ -20,7 +20,7 @@ abbrev tree : List ℕ → Data
 tree text = object (member (codes "label") (string text) no_members)
 
 -- a manifest that was changed a minute after it was made
-abbrev manifest : List ℕ → Group → KeptManifest
+abbrev manifest : List ℕ → Group → ManifestState
 manifest name group = record {
   name = name;
   version = 2;
@@ -38,10 +38,10 @@ live on group = record {
   tree = tree (codes "c");
 }
 
-abbrev note : List ℕ → Option LiveNote → KeptNote
+abbrev note : List ℕ → Option LiveNote → NoteState
 note name kept = record { owner = codes "mara"; name = name; version = 3; live = kept }
 
-abbrev view : List KeptManifest → List KeptNote → View
+abbrev view : List ManifestState → List NoteState → View
 view manifests notes = record { who = None; manifests = manifests; notes = notes; seen = [] }
 
 row-nothing : exported (view [] []) ≡ []

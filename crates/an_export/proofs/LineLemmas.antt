@@ -5,7 +5,7 @@ use Rattle.serde_json.specs.Data.{Data}
 use Rattle.serde_json.specs.Written.{compact_text}
 use Rattle.an_base.specs.Moment.{moment_text}
 use Rattle.an_policy.specs.Group.{group_text}
-use Rattle.an_state.specs.State.{KeptManifest, KeptNote, LiveManifest, LiveNote}
+use Rattle.an_state.specs.State.{ManifestState, NoteState, LiveManifest, LiveNote}
 use Rattle.an_export.specs.Export.{live_manifest_line, live_note_line, manifest_line}
 
 -- ---- the head of a line, and what follows it
@@ -18,14 +18,14 @@ behind_twelve : (a b c d e f g h i j k l rest : List ℕ)
     ≡ a ++ (b ++ (c ++ (d ++ (e ++ (f ++ (g ++ (h ++ (i ++ (j ++ (k ++ (l ++ rest)))))))))))
 behind_twelve a b c d e f g h i j k l rest = simp append_assoc
 
-pub written_manifest : (row : KeptManifest) (created : ℤ) (tree : Data) (head text : List ℕ)
+pub written_manifest : (row : ManifestState) (created : ℤ) (tree : Data) (head text : List ℕ)
     → head ≡ moment_text created ++ (codes " - PUT /manifests/" ++ (row.name ++ (codes "?version=1&group=" ++ (group_text row.group ++ codes " "))))
     → text ≡ compact_text tree
     → head ++ (text ++ codes "\n") ≡ live_manifest_line row (record { created = created; modified = None; tree = tree })
 written_manifest row created tree head text head_is text_is =
     rw (head_is, text_is) (behind_six (moment_text created) (codes " - PUT /manifests/") row.name (codes "?version=1&group=") (group_text row.group) (codes " ") (compact_text tree ++ codes "\n"))
 
-pub written_note : (row : KeptNote) (live : LiveNote) (head text : List ℕ)
+pub written_note : (row : NoteState) (live : LiveNote) (head text : List ℕ)
     → head ≡ moment_text live.created ++ (codes " " ++ (row.owner ++ (codes " PUT /annotations/" ++ (row.owner ++ (codes "/" ++ (row.name
     ++ (codes "?version=1&manifest=" ++ (live.manifest ++ (codes "&group=" ++ (group_text live.group ++ codes " "))))))))))
     → text ≡ compact_text live.tree
@@ -36,7 +36,7 @@ written_note row live head text head_is text_is =
 
 -- ---- the line of a manifest, by what is kept of it
 
-pub live_line : (row : KeptManifest) (created : ℤ) (tree : Data)
+pub live_line : (row : ManifestState) (created : ℤ) (tree : Data)
     → Some created ≡ option_map (λ live. live.created) row.live → Some tree ≡ option_map (λ live. live.tree) row.live
     → live_manifest_line row (record { created = created; modified = None; tree = tree }) ≡ manifest_line row
 live_line row created tree made kept = by row.live made kept
@@ -46,7 +46,7 @@ live_line row created tree made kept = by row.live made kept
     by None made kept = cc
     by (Some live) made kept = cc
 
-pub no_line : (row : KeptManifest) → None ≡ option_map (λ live. live.tree) row.live → [] ≡ manifest_line row
+pub no_line : (row : ManifestState) → None ≡ option_map (λ live. live.tree) row.live → [] ≡ manifest_line row
 no_line row none = by row.live none
   where
     by : (live : Option LiveManifest) → None ≡ option_map (λ l. l.tree) live → [] ≡ manifest_line (record row { live = live })

@@ -5,18 +5,18 @@ use Rattle.std.specs.Option.{option_map_or}
 use Rattle.serde_json.specs.Written.{compact_text}
 use Rattle.an_base.specs.Moment.{moment_text}
 use Rattle.an_policy.specs.Group.{group_text}
-use Rattle.an_state.specs.State.{KeptManifest, KeptNote, LiveManifest, LiveNote}
+use Rattle.an_state.specs.State.{ManifestState, NoteState, LiveManifest, LiveNote}
 use Rattle.an_state.specs.View.{View}
 
 -- CREATED - PUT /manifests/NAME?version=1&group=GROUP TREE
-abbrev pub live_manifest_line : KeptManifest → LiveManifest → List ℕ
+abbrev pub live_manifest_line : ManifestState → LiveManifest → List ℕ
 live_manifest_line row live =
     moment_text live.created ++ (codes " - PUT /manifests/" ++ (row.name
     ++ (codes "?version=1&group=" ++ (group_text row.group
     ++ (codes " " ++ (compact_text live.tree ++ codes "\n"))))))
 
 -- CREATED OWNER PUT /annotations/OWNER/NAME?version=1&manifest=MANIFEST&group=GROUP TREE
-abbrev pub live_note_line : KeptNote → LiveNote → List ℕ
+abbrev pub live_note_line : NoteState → LiveNote → List ℕ
 live_note_line row live =
     moment_text live.created ++ (codes " " ++ (row.owner
     ++ (codes " PUT /annotations/" ++ (row.owner ++ (codes "/" ++ (row.name
@@ -25,11 +25,11 @@ live_note_line row live =
     ++ (codes " " ++ (compact_text live.tree ++ codes "\n"))))))))))))
 
 -- the line of a manifest; none of one that was deleted
-abbrev pub manifest_line : KeptManifest → List ℕ
+abbrev pub manifest_line : ManifestState → List ℕ
 manifest_line row = option_map_or (live_manifest_line row) row.live []
 
 -- the line of an annotation; none of one that was deleted
-abbrev pub note_line : KeptNote → List ℕ
+abbrev pub note_line : NoteState → List ℕ
 note_line row = option_map_or (live_note_line row) row.live []
 
 -- the lines of the manifests of the view, and behind them those of its annotations, in their order

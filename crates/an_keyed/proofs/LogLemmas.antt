@@ -9,7 +9,8 @@ use Rattle.an_keyed.specs.Key.{Key, same_key}
 use Rattle.an_keyed.specs.KeyHash.{key_hash}
 use Rattle.an_keyed.specs.Hashes.{IsLast}
 use Rattle.an_keyed.specs.Log.{IsLastBefore}
-use Rattle.an_keyed.proofs.PlaceLemmas.{IsOther, same_key-apart, same_key-true}
+use Rattle.an_keyed.proofs.KeyLemmas.{same_key-apart, same_key-true}
+use Rattle.an_keyed.proofs.PlaceLemmas.{IsOther}
 use Rattle.an_keyed.proofs.WalkLemmas.{IsWalk, places_left, walk_goes}
 
 -- those that pass are among the first n, where none behind passes
@@ -53,7 +54,7 @@ module _ {R : Type 0} (key : R → Key) (items : List R) (hashes : List ℕ) (en
 
 module _ {R : Type 0} (key : R → Key) (items : List R) (hashes : List ℕ) (end : ℕ) (hashed : hashes ≡ map key_hash (map key items)) (short : end ≤ length items) (wanted : Key) where
   -- a place that the walk has passed has another key
-  other-passed : (next : Option ℕ) → IsWalk (take end hashes) (key_hash wanted) (IsOther (map key items) wanted) next → (q : ℕ) → places_left next ≤ q → q < end → IsOther (map key items) wanted q
+  other-passed : (next : Option ℕ) → IsWalk (take end hashes) (key_hash wanted) (IsOther same_key (map key items) wanted) next → (q : ℕ) → places_left next ≤ q → q < end → IsOther same_key (map key items) wanted q
   other-passed next walk q left within =
       let inside : q < length (map key items) = rw (length-map items key) (omega arith) in
       let at : get_or (take end hashes) q 0 ≡ key_hash (get_or (map key items) q wanted) = get_or-take end hashes q 0 within ∙ rw hashed (get_or-map key_hash (map key items) q wanted 0 inside) in
@@ -62,18 +63,18 @@ module _ {R : Type 0} (key : R → Key) (items : List R) (hashes : List ℕ) (en
       (λ (ne : key_hash (get_or (map key items) q wanted) ≡ key_hash wanted → ⊥). same_key-apart (get_or (map key items) q wanted) wanted ne)
       (cases_eq (key_hash (get_or (map key items) q wanted)) (key_hash wanted))
 
-  item-passed : (next : Option ℕ) → IsWalk (take end hashes) (key_hash wanted) (IsOther (map key items) wanted) next → (q : ℕ) (item : R) → places_left next ≤ q → slice_get (take end items) q ≡ Some item → same_key (key item) wanted ≡ false
+  item-passed : (next : Option ℕ) → IsWalk (take end hashes) (key_hash wanted) (IsOther same_key (map key items) wanted) next → (q : ℕ) (item : R) → places_left next ≤ q → slice_get (take end items) q ≡ Some item → same_key (key item) wanted ≡ false
   item-passed next walk q item left at =
       let there = slice_get-take items end q item at in
       let is : get_or (map key items) q wanted ≡ key item = get_or_from_slice_get (map key items) q (key item) wanted (rw (slice_get-map key items q, there.1) refl) in
       rw is at (other-passed next walk q left there.0)
 
   -- where the walk ends no item has the key
-  pub last-nowhere : IsWalk (take end hashes) (key_hash wanted) (IsOther (map key items) wanted) None → IsLastBefore key wanted items end None
+  pub last-nowhere : IsWalk (take end hashes) (key_hash wanted) (IsOther same_key (map key items) wanted) None → IsLastBefore key wanted items end None
   last-nowhere walk = filter-front (λ item. same_key (key item) wanted) (take end items) 0 (item-passed None walk)
 
   -- an item with the key, at a place where the walk stands, is the last
-  pub last-here : (place : ℕ) (item : R) → IsWalk (take end hashes) (key_hash wanted) (IsOther (map key items) wanted) (Some place) → item ≡ get_or items place item → same_key (key item) wanted ≡ true → IsLastBefore key wanted items end (Some place)
+  pub last-here : (place : ℕ) (item : R) → IsWalk (take end hashes) (key_hash wanted) (IsOther same_key (map key items) wanted) (Some place) → item ≡ get_or items place item → same_key (key item) wanted ≡ true → IsLastBefore key wanted items end (Some place)
   last-here place item walk is same =
       let below : place < end = rw (length-hashes key items hashes end hashed short) at (walk.at_hash place refl).0 in
       let test : R → Bool = λ x. same_key (key x) wanted in
@@ -92,7 +93,7 @@ module _ {R : Type 0} (key : R → Key) (items : List R) (hashes : List ℕ) (en
       }
 
   -- an item with another key is passed
-  pub other-here : (place : ℕ) (item : R) → place < end → item ≡ get_or items place item → same_key (key item) wanted ≡ false → IsOther (map key items) wanted place
+  pub other-here : (place : ℕ) (item : R) → place < end → item ≡ get_or items place item → same_key (key item) wanted ≡ false → IsOther same_key (map key items) wanted place
   other-here place item below is other =
       let there : slice_get items place ≡ Some item = slice_get-get_or items place item (omega arith) ∙ ap (λ x. Some x) (sym is) in
       rw (get_or_from_slice_get (map key items) place (key item) wanted (rw (slice_get-map key items place, there) refl)) other

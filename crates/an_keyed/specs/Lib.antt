@@ -1,3 +1,4 @@
+pub mod Distinct
 pub mod Hashes
 pub mod Index
 pub mod Key

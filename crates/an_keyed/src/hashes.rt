@@ -9,7 +9,7 @@ use std::marker::Model;
 /// A list of hashes, in which the last place of each hash is found at once. Contracts see the list,
 /// and for how many more there is memory.
 #[derive(Drop)]
-pub(crate) struct Hashes {
+pub struct Hashes {
     newest: HashMap<u64, usize>,
     hashes: Vec<u64>,
     before: Vec<Option<usize>>,

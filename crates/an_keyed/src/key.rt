@@ -37,7 +37,8 @@ pub(crate) fn has_key<R: Keyed>(row: &R, owner: Option<&Name>, name: &Name) -> b
     is_same_owner(row.owner(), owner) && row.name() == name
 }
 
-fn is_same_owner(one: Option<&Name>, other: Option<&Name>) -> bool
+/// Whether both are one owner, or both none. Takes no memory.
+pub fn is_same_owner(one: Option<&Name>, other: Option<&Name>) -> bool
     ensures { result ≡ same_owner (option_copied one.entry) (option_copied other.entry) }
 {
     match one {

@@ -1,7 +1,8 @@
 //! Rows that are kept in a list and found by their keys.
 #![tactic(auto)]
 
-pub use key::Keyed;
+pub use hashes::Hashes;
+pub use key::{Keyed, is_same_owner};
 pub use log::Log;
 pub use mark::Marked;
 pub use marked::MarkedRows;

@@ -1,6 +1,7 @@
 ghost use Rattle.std.specs.Prelude.{◌≡◌, ◌+◌, ◌<◌, ◌≤◌, [], IsTrue, OnOk, map};
 ghost use Rattle.std.specs.Option.{option_copied};
 ghost use Rattle.an_keyed.specs.Index.{IsHashed};
+ghost use Rattle.an_keyed.specs.Key.{same_key};
 ghost use Rattle.an_keyed.specs.KeyHash.{key_hash};
 ghost use Rattle.an_keyed.specs.Rows.{keys_are_distinct, place_of, row_of, put_row};
 
@@ -22,6 +23,8 @@ pub struct Rows<R: Keyed> {
 impl<R: Keyed> Model for Rows<R> {
     ghost use Rattle.std.specs.Prelude.{◌+◌, ◌≤◌, map, vec_len, vec_capacity};
     ghost use Rattle.an_keyed.specs.Index.{IsHashed};
+    ghost use Rattle.an_keyed.specs.Key.{same_key};
+    ghost use Rattle.an_keyed.specs.KeyHash.{key_hash};
     ghost use Rattle.an_keyed.specs.Rows.{Kept};
 
     ghost Value = { Kept R };
@@ -29,7 +32,7 @@ impl<R: Keyed> Model for Rows<R> {
     ghost view = { λ r. record { rows = r.rows.items; room = r.room } };
 
     ghost invariant = { λ r. record {
-      hashed : IsHashed (map R.key r.rows.items) r.index.hashes;
+      hashed : IsHashed same_key key_hash (map R.key r.rows.items) r.index.hashes;
       rows : vec_len r.rows + r.room ≤ vec_capacity r.rows;
       index : r.room ≤ r.index.room;
     } };
@@ -130,7 +133,7 @@ fn place_in<R: Keyed>(
     owner: Option<&Name>,
     name: &Name,
 ) -> Option<usize>
-    requires hashed { IsHashed (map R.key rows.now) index.now.hashes }
+    requires hashed { IsHashed same_key key_hash (map R.key rows.now) index.now.hashes }
     requires hash { hash ≡ key_hash (record { owner = option_copied owner; name = name.now }) }
     ensures place { result ≡ place_of R.key
         (record { owner = option_copied owner.entry; name = name.now }) rows.now }

@@ -7,12 +7,14 @@ use Rattle.std.proofs.lemmas.List.Folds.{list_all-append, list_all-map}
 use Rattle.std.proofs.lemmas.Option.{same_Some}
 use Rattle.an_base.specs.Outcome.{first_of}
 use Rattle.an_keyed.specs.Key.{Key, same_key}
+use Rattle.an_keyed.proofs.KeyLemmas.{same_key-refl}
+use Rattle.an_keyed.proofs.PutLemmas.{row_found}
 use Rattle.an_policy.specs.Audience.{Identity}
 use Rattle.an_policy.specs.declared.who.Caller.{Caller}
 use Rattle.an_machine.specs.Accepted.{decided as decided_by, effect_of, entry_of, moment_of_write, buried, notes_on, manifest_tombstone}
 use Rattle.an_machine.specs.Asked.{asked_of}
 use Rattle.an_machine.specs.Refusals.{signer_of, refusals_before, refusals_behind}
-use Rattle.an_state.specs.State.{State, KeptManifest, KeptNote, manifest_key, note_key, manifest_row}
+use Rattle.an_state.specs.State.{State, ManifestState, NoteState, manifest_key, note_key, manifest_row}
 use Rattle.an_machine.specs.Step.{step, step_if_signed, refused_or, and_then, judged}
 use Rattle.an_machine.specs.Versions.{is_next}
 use Rattle.an_state.specs.View.{is_on}
@@ -27,8 +29,6 @@ use Rattle.an_machine.specs.declared.effect.Effect.{Effect}
 use Rattle.an_state.specs.declared.entry.Entry.{Entry}
 use Rattle.an_state.specs.declared.entry.Row.{Row}
 use Rattle.an_state.specs.declared.entry.Row.TheVariants as kept
-use Rattle.an_state.proofs.DistinctLemmas.{same_key-self}
-use Rattle.an_state.proofs.ViewLemmas.{row_found}
 use Rattle.an_rows.specs.Changes.{stands_in, all_but_first_stand, is_settled}
 
 -- ---- rows and their keys
@@ -59,7 +59,7 @@ module _ {R : Type 0} where
   all-own : (key : R → Key) (rows : List R) → list_all (λ row. list_any (λ other. same_key (key other) (key row)) rows) rows ≡ true
   all-own key [] = refl
   all-own key (first ∷ rows) =
-      and_from _ _ (or_left _ _ (same_key-self (key first)))
+      and_from _ _ (or_left _ _ (same_key-refl (key first)))
       (all-weaker (λ row. list_any (λ other. same_key (key other) (key row)) rows) (λ row. list_any (λ other. same_key (key other) (key row)) (first ∷ rows))
       (λ row any. or_right (same_key (key first) (key row)) _ any) rows (all-own key rows))
 
@@ -77,11 +77,11 @@ module _ (s : State) where
       ∙ all-filter (λ row. stands_in s (kept.Note (buried row))) (is_on name) s.notes (all-own note_key s.notes)
 
   -- and so does the manifest
-  tombstone-stands : (name : List ℕ) (version : ℕ) (before : Option KeptManifest) → manifest_row s name ≡ before
+  tombstone-stands : (name : List ℕ) (version : ℕ) (before : Option ManifestState) → manifest_row s name ≡ before
       → list_all (stands_in s) (option_to_list (option_map kept.Manifest (option_map (manifest_tombstone name version) before))) ≡ true
   tombstone-stands name version None is = refl
   tombstone-stands name version (Some row) is =
-      let test = λ (other : KeptManifest). same_key (manifest_key other) (record { owner = None; name = name }) in
+      let test = λ (other : ManifestState). same_key (manifest_key other) (record { owner = None; name = name }) in
       and_from _ _ (any-found test s.manifests row (sym (row_found test s.manifests) ∙ is)) refl
 
   effect-settled : (who : Identity) (at : ℤ) (what : Asked) → all_but_first_stand s (effect_of s who at what).rows ≡ true
@@ -91,7 +91,7 @@ module _ (s : State) where
   effect-settled who at (Deletion (object.Reader name) version) = refl
   effect-settled who at (Deletion (object.Note owner name) version) = refl
   effect-settled who at (Deletion (object.Manifest name) version) =
-      let notes = map (λ (row : KeptNote). kept.Note (buried row)) (notes_on s name) in
+      let notes = map (λ (row : NoteState). kept.Note (buried row)) (notes_on s name) in
       let manifest = option_to_list (option_map kept.Manifest (option_map (manifest_tombstone name version) (manifest_row s name))) in
       settled-all (notes ++ manifest)
       (list_all-append (stands_in s) notes manifest ∙ and_from _ _ (buried-stand name) (tombstone-stands name version (manifest_row s name) refl))

@@ -5,6 +5,8 @@ use Rattle.std.proofs.lemmas.Bool.{cases_Bool, not-false, both_ways, false_from_
 use Rattle.std.proofs.lemmas.Option.{same_Some}
 use Rattle.an_base.specs.Outcome.{first_of, passes, only_if, when}
 use Rattle.an_keyed.specs.Key.{same_key}
+use Rattle.an_keyed.proofs.KeyLemmas.{same_key-true}
+use Rattle.an_keyed.proofs.PutLemmas.{row_of-find}
 use Rattle.an_policy.specs.Audience.{Identity, anonymous, operator, signed, is_named}
 use Rattle.an_policy.specs.declared.who.Caller.{Caller}
 use Rattle.an_machine.specs.Accepted.{decided as decided_by, effect_of, moment_of_write, reply_to}
@@ -12,7 +14,7 @@ use Rattle.an_machine.specs.Asked.{asked_of, manifest_under, object_asked}
 use Rattle.an_state.specs.Commands.{object_of}
 use Rattle.an_machine.specs.Refusals.{is_anothers, is_hidden, is_outside, may_write, refusals_before, refusals_behind, signed_by, signer_of}
 use Rattle.an_machine.specs.Asked.{group_within}
-use Rattle.an_state.specs.State.{State, KeptNote, note_key, manifest_row, note_row, who_of, manifests_are_distinct}
+use Rattle.an_state.specs.State.{State, NoteState, note_key, manifest_row, note_row, who_of, manifests_are_distinct}
 use Rattle.an_machine.specs.Step.{step, step_by, step_if_signed, refused_or, and_then, judged}
 use Rattle.an_machine.specs.Versions.{is_next}
 use Rattle.an_state.specs.View.{view_of, view_for, shows_manifest, manifest_in}
@@ -28,11 +30,10 @@ use Rattle.an_machine.specs.declared.command.Refused.{Refused}
 use Rattle.an_machine.specs.declared.command.Refused.TheVariants.{NotWriter, NotOwn, NoManifest, NotMember}
 use Rattle.an_machine.specs.declared.command.WriteReply.{WriteReply}
 use Rattle.an_machine.specs.declared.effect.Effect.{Effect}
-use Rattle.an_state.proofs.ViewLemmas.{manifest_in-distinct, same_key-equal}
+use Rattle.an_state.proofs.ViewLemmas.{manifest_in-distinct}
 use Rattle.an_laws.specs.Isolation.{LookAlike, answer_of, is_note, own_notes}
 use Rattle.an_laws.proofs.LeadLemmas.{key_at}
 use Rattle.an_laws.proofs.RefusalLemmas.{asked-agrees, none-of, none-when}
-use Rattle.an_laws.proofs.RowLemmas.{row_of-find}
 
 -- ---- what two states agree on
 
@@ -47,10 +48,10 @@ find-among test some within (row ∷ rows) = elim (cases_Bool (some row)) [
 ]
 
 module _ (who : Identity) where
-  abbrev is_own : KeptNote → Bool
+  abbrev is_own : NoteState → Bool
   is_own row = is_named who row.owner
 
-  abbrev own : State → List KeptNote
+  abbrev own : State → List NoteState
   own s = filter is_own s.notes
 
   -- an annotation of the caller's stands among its own
@@ -58,7 +59,7 @@ module _ (who : Identity) where
   own-found s owner name named =
       row_of-find note_key (key_at (Some owner) name) s.notes
       ∙ sym (find-among (λ row. same_key (note_key row) (key_at (Some owner) name)) is_own
-      (λ row same. let owners : Some row.owner ≡ Some owner = ap (λ key. key.owner) (same_key-equal (note_key row) (key_at (Some owner) name) same) in
+      (λ row same. let owners : Some row.owner ≡ Some owner = ap (λ key. key.owner) (same_key-true (note_key row) (key_at (Some owner) name) same) in
       ap (is_named who) (same_Some row.owner owner owners) ∙ named) s.notes)
 
   own-same : (s t : State) (owner name : List ℕ) → own s ≡ own t → is_named who owner ≡ true → note_row s owner name ≡ note_row t owner name

@@ -5,13 +5,14 @@ use Rattle.std.proofs.lemmas.Bool.{cases_Bool, cond-true, cond-false}
 use Rattle.std.proofs.lemmas.List.Elements.{All-nil, All-cons, All-head}
 use Rattle.std.proofs.lemmas.Option.{same_Some}
 use Rattle.an_keyed.specs.Key.{Key, same_key}
+use Rattle.an_keyed.proofs.PutLemmas.{row_of-find}
 use Rattle.an_policy.specs.declared.group.Audience.{Audience}
 use Rattle.an_state.specs.View.{audience_of_manifest, audience_of_note}
-use Rattle.an_state.specs.State.{State, KeptManifest, KeptNote, manifest_key, note_key, manifest_row, note_row, is_distinct}
+use Rattle.an_state.specs.State.{State, ManifestState, NoteState, manifest_key, note_key, manifest_row, note_row, is_distinct}
 use Rattle.an_state.specs.declared.activity.Activity.{Activity}
 use Rattle.an_state.proofs.DistinctLemmas.{manifests-distinct, notes-distinct}
 use Rattle.an_laws.specs.Coherent.{activities_of, audiences_of, has_row, Chain, has_any, Coherent}
-use Rattle.an_laws.proofs.RowLemmas.{one_of, row_of-find}
+use Rattle.an_laws.proofs.RowLemmas.{one_of}
 
 -- a manifest is told by no owner, an annotation by its own
 abbrev pub key_at : Option (List ℕ) → List ℕ → Key
@@ -58,13 +59,13 @@ module _ (s : State) (key : Key) where
   abbrev EndsIn : Option Audience → Type 0
   EndsIn audience = Chain None (activities_of key s.activities) audience
 
-first-manifest : (s : State) (name : List ℕ) (o : Option KeptManifest) → manifest_row s name ≡ o
+first-manifest : (s : State) (name : List ℕ) (o : Option ManifestState) → manifest_row s name ≡ o
     → All (EndsIn s (key_at None name)) (audiences_of s (key_at None name)) → has_row s (key_at None name) ≡ has_any (activities_of (key_at None name) s.activities)
     → EndsIn s (key_at None name) (option_and_then audience_of_manifest (manifest_row s name))
 first-manifest s name None is all rows = rw is (chain-none _ (sym rows ∙ ap is_some is))
 first-manifest s name (Some row) is all rows = rw is (first_of_all (λ r. same_key (manifest_key r) (key_at None name)) audience_of_manifest (EndsIn s (key_at None name)) row s.manifests all (sym (row_of-find manifest_key (key_at None name) s.manifests) ∙ is))
 
-first-note : (s : State) (owner name : List ℕ) (o : Option KeptNote) → note_row s owner name ≡ o
+first-note : (s : State) (owner name : List ℕ) (o : Option NoteState) → note_row s owner name ≡ o
     → All (EndsIn s (key_at (Some owner) name)) (audiences_of s (key_at (Some owner) name)) → has_row s (key_at (Some owner) name) ≡ has_any (activities_of (key_at (Some owner) name) s.activities)
     → EndsIn s (key_at (Some owner) name) (option_and_then (audience_of_note s) (note_row s owner name))
 first-note s owner name None is all rows = rw is (chain-none _ (sym rows ∙ ap is_some is))

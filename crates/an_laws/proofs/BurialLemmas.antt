@@ -7,15 +7,16 @@ use Rattle.std.proofs.lemmas.Bool.{cases_Bool, and_parts, or_parts, cond-false}
 use Rattle.an_base.specs.Outcome.{only_if}
 use Rattle.an_keyed.specs.Key.{Key, same_key}
 use Rattle.an_keyed.specs.Rows.{row_of, put_row}
+use Rattle.an_keyed.proofs.PutLemmas.{row_of-find, row_of-put_row}
 use Rattle.an_machine.specs.Accepted.{buried, notes_on}
 use Rattle.an_state.specs.Entries.{with_row, with_rows}
-use Rattle.an_state.specs.State.{State, KeptNote, note_key, note_row, keys_are_distinct, is_distinct}
+use Rattle.an_state.specs.State.{State, NoteState, note_key, note_row, keys_are_distinct, is_distinct}
 use Rattle.an_state.specs.View.{is_on}
 use Rattle.an_state.specs.declared.entry.Row.{Row}
 use Rattle.an_state.specs.declared.entry.Row.TheVariants as kept
 use Rattle.an_state.proofs.DistinctLemmas.{notes-distinct}
 use Rattle.an_state.proofs.ViewLemmas.{one_shown}
-use Rattle.an_laws.proofs.RowLemmas.{distinct-filter, none-behind, row_of-find, row_of-put_row}
+use Rattle.an_laws.proofs.RowLemmas.{distinct-filter, none-behind}
 
 -- ---- rows that are put one after another
 
@@ -51,15 +52,15 @@ module _ {R : Type 0} (key : R → Key) (wanted : Key) where
 -- ---- the rows that are buried
 
 -- a tombstone has its row's key
-any-buried : (k : Key) (rows : List KeptNote) → list_any (λ other. same_key (note_key other) k) (map buried rows) ≡ list_any (λ other. same_key (note_key other) k) rows
+any-buried : (k : Key) (rows : List NoteState) → list_any (λ other. same_key (note_key other) k) (map buried rows) ≡ list_any (λ other. same_key (note_key other) k) rows
 any-buried k [] = refl
 any-buried k (row ∷ rows) = ap (λ b. same_key (note_key row) k || b) (any-buried k rows)
 
-distinct-buried : (rows : List KeptNote) → keys_are_distinct note_key (map buried rows) ≡ keys_are_distinct note_key rows
+distinct-buried : (rows : List NoteState) → keys_are_distinct note_key (map buried rows) ≡ keys_are_distinct note_key rows
 distinct-buried [] = refl
 distinct-buried (row ∷ rows) = ap₂ (λ some rest. not some && rest) (any-buried (note_key row) rows) (distinct-buried rows)
 
-find-buried : (k : Key) (rows : List KeptNote) → find (λ r. same_key (note_key r) k) (map buried rows) ≡ option_map buried (find (λ r. same_key (note_key r) k) rows)
+find-buried : (k : Key) (rows : List NoteState) → find (λ r. same_key (note_key r) k) (map buried rows) ≡ option_map buried (find (λ r. same_key (note_key r) k) rows)
 find-buried k [] = refl
 find-buried k (row ∷ rows) = elim (cases_Bool (same_key (note_key row) k)) [
   | inl is ↦ rw is refl
@@ -67,17 +68,17 @@ find-buried k (row ∷ rows) = elim (cases_Bool (same_key (note_key row) k)) [
 ]
 
 -- a note as it stands behind the deletion of a manifest
-abbrev pub as_left : List ℕ → KeptNote → KeptNote
+abbrev pub as_left : List ℕ → NoteState → NoteState
 as_left manifest row = cond (is_on manifest row) (buried row) row
 
-left-found : (manifest : List ℕ) (found : Option KeptNote) → option_or (option_map buried (option_and_then (only_if (is_on manifest)) found)) found ≡ option_map (as_left manifest) found
+left-found : (manifest : List ℕ) (found : Option NoteState) → option_or (option_map buried (option_and_then (only_if (is_on manifest)) found)) found ≡ option_map (as_left manifest) found
 left-found manifest None = refl
 left-found manifest (Some row) = elim (cases_Bool (is_on manifest row)) [
   | inl is ↦ rw is refl
   | inr isnt ↦ rw isnt refl
 ]
 
-pub row_of-left : (manifest : List ℕ) (k : Key) (rows : List KeptNote) → keys_are_distinct note_key rows ≡ true
+pub row_of-left : (manifest : List ℕ) (k : Key) (rows : List NoteState) → keys_are_distinct note_key rows ≡ true
     → row_of note_key k (put_all note_key (map buried (filter (is_on manifest) rows)) rows) ≡ option_map (as_left manifest) (row_of note_key k rows)
 row_of-left manifest k rows distinct =
     row_of-put_all note_key k (map buried (filter (is_on manifest) rows)) rows (distinct-buried (filter (is_on manifest) rows) ∙ distinct-filter note_key (is_on manifest) rows distinct)
@@ -89,7 +90,7 @@ row_of-left manifest k rows distinct =
 -- ---- the state
 
 -- the notes are put first, and then the rest
-pub with_rows-notes : (notes : List KeptNote) (rest : List Row) (s : State)
+pub with_rows-notes : (notes : List NoteState) (rest : List Row) (s : State)
     → with_rows (map (λ row. kept.Note (buried row)) notes ++ rest) s ≡ with_rows rest (record s { notes = put_all note_key (map buried notes) s.notes })
 with_rows-notes [] rest s = refl
 with_rows-notes (note ∷ notes) rest s = with_rows-notes notes rest (with_row s (kept.Note (buried note)))

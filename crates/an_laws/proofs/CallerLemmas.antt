@@ -6,6 +6,7 @@ use Rattle.std.proofs.lemmas.Bool.{cases_Bool, and_parts, not-true, cond-true, c
 use Rattle.an_base.specs.Outcome.{passes}
 use Rattle.an_keyed.specs.Key.{same_key}
 use Rattle.an_keyed.specs.Rows.{row_of, put_row}
+use Rattle.an_keyed.proofs.PutLemmas.{put_at-position, row_of-find, row_of-put_row, set_or_push}
 use Rattle.an_policy.specs.Audience.{Identity, signed}
 use Rattle.an_policy.specs.declared.reader.Reader.{Reader}
 use Rattle.an_policy.specs.declared.who.Caller.{Caller}
@@ -13,26 +14,24 @@ use Rattle.an_policy.specs.declared.who.Caller.TheVariants.{Anonymous, Operator,
 use Rattle.an_machine.specs.Accepted.{effect_of, moment_of_write, reader_tombstone}
 use Rattle.an_state.specs.Entries.{after, with_row, with_rows}
 use Rattle.an_machine.specs.Legal.{Write, Accepts}
-use Rattle.an_state.specs.State.{State, KeptReader, reader_key, reader_row, who_of}
+use Rattle.an_state.specs.State.{State, ReaderState, reader_key, reader_row, who_of}
 use Rattle.an_machine.specs.declared.asked.Asked.{Asked}
 use Rattle.an_machine.specs.declared.asked.Asked.TheVariants.{Deletion}
 use Rattle.an_machine.specs.declared.asked.Asked.TheVariants as put
 use Rattle.an_state.specs.declared.command.Object.TheVariants as object
 use Rattle.an_state.specs.declared.entry.Row.TheVariants as kept
-use Rattle.an_state.proofs.DistinctLemmas.{set_or_push, put_at-position}
 use Rattle.an_laws.specs.Isolation.{is_row_of, is_anothers_row, leaves_caller}
 use Rattle.an_laws.proofs.DropLemmas.{with_rows-dropped}
 use Rattle.an_laws.proofs.LeadLemmas.{key_at}
-use Rattle.an_laws.proofs.RowLemmas.{row_of-find, row_of-put_row}
 use Rattle.an_laws.proofs.StepLemmas.{accepted-is}
 
 -- ---- the reader with a token
 
 module _ (p : Reader → Bool) where
-  abbrev lives : List KeptReader → List Reader
+  abbrev lives : List ReaderState → List Reader
   lives rows = filter_map (λ row. row.live) rows
 
-  abbrev has_such : KeptReader → Bool
+  abbrev has_such : ReaderState → Bool
   has_such row = passes p row.live
 
   find-past : (live : Option Reader) (more : List Reader) → passes p live ≡ false → find p (cons_option live more) ≡ find p more
@@ -44,7 +43,7 @@ module _ (p : Reader → Bool) where
   find-behind (Some reader) some more same = ap (λ found. cond (p reader) (Some reader) found) same
 
   -- a row that has no such reader, in place of one that has none
-  find-set_or_push : (has : KeptReader → Bool) (row : KeptReader) (rows : List KeptReader) → has_such row ≡ false → passes has_such (find has rows) ≡ false
+  find-set_or_push : (has : ReaderState → Bool) (row : ReaderState) (rows : List ReaderState) → has_such row ≡ false → passes has_such (find has rows) ≡ false
       → find p (lives (set_or_push has row rows)) ≡ find p (lives rows)
   find-set_or_push has row [] new old = find-past row.live [] new
   find-set_or_push has row (first ∷ rows) new old = elim (cases_Bool (has first)) [
@@ -59,10 +58,10 @@ module _ (p : Reader → Bool) where
         ∙ find-behind first.live (lives (set_or_push has row rows)) (lives rows) later
   ]
 
-  find-put_row : (row : KeptReader) (rows : List KeptReader) → has_such row ≡ false → passes has_such (row_of reader_key (reader_key row) rows) ≡ false
+  find-put_row : (row : ReaderState) (rows : List ReaderState) → has_such row ≡ false → passes has_such (row_of reader_key (reader_key row) rows) ≡ false
       → find p (lives (put_row reader_key row rows)) ≡ find p (lives rows)
   find-put_row row rows new old =
-      let has = λ (other : KeptReader). same_key (reader_key other) (reader_key row) in
+      let has = λ (other : ReaderState). same_key (reader_key other) (reader_key row) in
       ap (λ l. find p (lives l)) (put_at-position reader_key has row rows)
       ∙ find-set_or_push has row rows new (ap (passes has_such) (sym (row_of-find reader_key (reader_key row) rows)) ∙ old)
 
@@ -76,7 +75,7 @@ who-readers s t (Token token) same = ap (λ readers. option_map signed (find (λ
 who-readers s t (Named name) same = ap (λ readers. option_map signed (option_and_then (λ row. row.live) (row_of reader_key (key_at None name) readers))) same
 
 -- where a row of another is put it is the same
-who-put : (s : State) (row : KeptReader) (caller : Caller) → is_anothers_row s caller (kept.Reader row) ≡ true → who_of (with_row s (kept.Reader row)) caller ≡ who_of s caller
+who-put : (s : State) (row : ReaderState) (caller : Caller) → is_anothers_row s caller (kept.Reader row) ≡ true → who_of (with_row s (kept.Reader row)) caller ≡ who_of s caller
 who-put s row Anonymous anothers = refl
 who-put s row Operator anothers = refl
 who-put s row (Token token) anothers =

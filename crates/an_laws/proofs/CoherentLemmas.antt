@@ -12,7 +12,7 @@ use Rattle.an_state.specs.View.{audience_of_manifest, audience_of_note}
 use Rattle.an_state.specs.Entries.{after, with_row, with_rows}
 use Rattle.an_machine.specs.Refusals.{refusals_behind}
 use Rattle.an_state.specs.Sound.{is_sound, stands_on_live}
-use Rattle.an_state.specs.State.{State, KeptReader, KeptManifest, empty, manifest_row, note_row, is_distinct}
+use Rattle.an_state.specs.State.{State, ReaderState, ManifestState, empty, manifest_row, note_row, is_distinct}
 use Rattle.an_machine.specs.Versions.{is_next}
 use Rattle.an_policy.specs.Group.{same_group}
 use Rattle.an_state.specs.declared.activity.Activity.{Activity}
@@ -60,7 +60,7 @@ coherent-arrives s t new coherent arrives =
     subst (λ activities. CoherentFirst (record t { activities = activities ++ new })) (sym arrives.same) (coherent-behind s t new coherent arrives.leads)
 
 -- readers have no activities, and are no object's rows
-arrives-reader : (s : State) (row : KeptReader) → Arrives s [] (with_row s (kept.Reader row))
+arrives-reader : (s : State) (row : ReaderState) → Arrives s [] (with_row s (kept.Reader row))
 arrives-reader s row = record { leads = leads-none s (with_row s (kept.Reader row)) (λ key. (refl, refl)); same = refl }
 
 module _ (s : State) (who : Identity) (at : ℤ) where
@@ -68,7 +68,7 @@ module _ (s : State) (who : Identity) (at : ℤ) where
   ArrivesBy asked = Arrives s (effect_of s who at asked).activities (with_rows (effect_of s who at asked).rows s)
 
   -- a manifest that is put has the group of the one that it replaces
-  stay-put : (row : KeptManifest) (found : Option KeptManifest) → manifest_row s row.name ≡ found → passes (λ other. not (same_group other.group row.group)) found ≡ false
+  stay-put : (row : ManifestState) (found : Option ManifestState) → manifest_row s row.name ≡ found → passes (λ other. not (same_group other.group row.group)) found ≡ false
       → IsTrue (list_all (stands_on_live s) s.notes) → NotesStay s row
   stay-put row None is fixed stand = stay-new s row is stand
   stay-put row (Some old) is fixed stand = stay-kept s row (ap group_in is ∙ ap (λ group. Some group) (same_group-equal old.group row.group (not-false _ fixed)))
@@ -89,7 +89,7 @@ module _ (s : State) (who : Identity) (at : ℤ) where
   arrives-drop_note owner name version = record { leads = leads-note s (note_tombstone owner name version) who at None refl; same = refl }
 
   -- the tombstone of a manifest is put behind those of its annotations
-  arrives-buried : (name : List ℕ) (version : ℕ) (old : KeptManifest) → manifest_row s name ≡ Some old → IsTrue (is_distinct s) → ArrivesBy (Deletion (object.Manifest name) version)
+  arrives-buried : (name : List ℕ) (version : ℕ) (old : ManifestState) → manifest_row s name ≡ Some old → IsTrue (is_distinct s) → ArrivesBy (Deletion (object.Manifest name) version)
   arrives-buried name version old is distinct =
       let left = left_state s name in
       let row = manifest_tombstone name version old in

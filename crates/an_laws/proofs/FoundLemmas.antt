@@ -2,15 +2,14 @@
 use Rattle.std.proofs.Common.{◌≡◌, Bool, true, false, List, [], ◌∷◌, Option, Some, None, inl, inr, refl, sym, ap, subst, ◌∙◌}
 use Rattle.std.specs.Prelude.{find}
 use Rattle.std.specs.List.{list_all, list_any}
-use Rattle.std.proofs.lemmas.Bool.{cases_Bool, and_parts, and_from, or_left, or_right, not-true, cond-true, cond-false, cond_both, both_ways, false_from_ne_true}
+use Rattle.std.proofs.lemmas.Bool.{cases_Bool, and_parts, and_from, or_left, or_right, not-true, cond-true, cond-false, both_ways, false_from_ne_true}
 use Rattle.std.proofs.lemmas.Option.{same_Some}
 use Rattle.an_base.specs.Outcome.{passes}
 use Rattle.an_keyed.specs.Key.{Key, same_key}
-use Rattle.an_keyed.specs.Rows.{row_of, put_row}
+use Rattle.an_keyed.specs.Rows.{row_of}
+use Rattle.an_keyed.proofs.KeyLemmas.{same_key-refl, same_key-true}
+use Rattle.an_keyed.proofs.PutLemmas.{row_of-find}
 use Rattle.an_state.specs.State.{keys_are_distinct}
-use Rattle.an_state.proofs.DistinctLemmas.{set_or_push, put_at-position, same_key-self}
-use Rattle.an_state.proofs.ViewLemmas.{same_key-equal}
-use Rattle.an_laws.proofs.RowLemmas.{row_of-find}
 
 -- what all pass, all pass by a weaker test
 pub all-weaker : {R : Type 0} (p q : R → Bool) → ((row : R) → p row ≡ true → q row ≡ true) → (rows : List R) → list_all p rows ≡ true → list_all q rows ≡ true
@@ -33,21 +32,6 @@ found-any p test row passes (first ∷ rows) found = elim (cases_Bool (test firs
 ]
 
 module _ {R : Type 0} (key : R → Key) (p : R → Bool) where
-  -- a row that passes is set or pushed among such rows
-  all-set_or_push : (has : R → Bool) (row : R) → p row ≡ true → (rows : List R) → list_all p rows ≡ true → list_all p (set_or_push has row rows) ≡ true
-  all-set_or_push has row passes [] all = and_from _ _ passes refl
-  all-set_or_push has row passes (first ∷ rows) all =
-      let parts = and_parts _ _ all in
-      cond_both (has first) (row ∷ rows) (first ∷ set_or_push has row rows) (λ l. list_all p l ≡ true)
-      (λ h. and_from _ _ passes parts.1)
-      (λ h. and_from _ _ parts.0 (all-set_or_push has row passes rows parts.1))
-
-  -- a row that passes is put among such rows
-  pub all-put_row : (row : R) (rows : List R) → p row ≡ true → list_all p rows ≡ true → list_all p (put_row key row rows) ≡ true
-  all-put_row row rows passes all =
-      let has = λ (other : R). same_key (key other) (key row) in
-      ap (list_all p) (put_at-position key has row rows) ∙ all-set_or_push has row passes rows all
-
   -- where all pass, what a test finds does
   find-passes : (test : R → Bool) (row : R) (rows : List R) → list_all p rows ≡ true → find test rows ≡ Some row → p row ≡ true
   find-passes test row [] all found = absurd (cc)
@@ -67,8 +51,8 @@ module _ {R : Type 0} (key : R → Key) (p : R → Bool) where
       → find (λ r. same_key (key r) (key row)) rows ≡ Some row → find (λ r. same_key (key r) (key row)) (first ∷ rows) ≡ Some row
   find-behind first row rows none found =
       let differs : same_key (key first) (key row) ≡ false = false_from_ne_true _ (λ same.
-      let keys = same_key-equal (key first) (key row) same in
-      both_ways _ none (found-any (λ other. same_key (key other) (key first)) (λ r. same_key (key r) (key row)) row (subst (λ k. same_key (key row) k ≡ true) (sym keys) (same_key-self (key row))) rows found)) in
+      let keys = same_key-true (key first) (key row) same in
+      both_ways _ none (found-any (λ other. same_key (key other) (key first)) (λ r. same_key (key r) (key row)) row (subst (λ k. same_key (key row) k ≡ true) (sym keys) (same_key-refl (key row))) rows found)) in
       cond-false _ _ _ differs ∙ found
 
   -- where keys are distinct, all pass where whatever is found under its own key does
@@ -76,7 +60,7 @@ module _ {R : Type 0} (key : R → Key) (p : R → Bool) where
   all-from_find [] distinct each = refl
   all-from_find (first ∷ rows) distinct each =
       let parts = and_parts _ _ distinct in
-      and_from _ _ (each first (cond-true _ _ _ (same_key-self (key first))))
+      and_from _ _ (each first (cond-true _ _ _ (same_key-refl (key first))))
       (all-from_find rows parts.1 (λ row found. each row (find-behind first row rows (not-true _ parts.0) found)))
 
   -- the same by the row of a key

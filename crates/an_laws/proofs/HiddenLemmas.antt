@@ -6,11 +6,10 @@ use Rattle.std.proofs.lemmas.Bool.{cases_Bool, and_parts, not-true, cond-true, c
 use Rattle.an_base.specs.Outcome.{passes}
 use Rattle.an_keyed.specs.Key.{Key, same_key}
 use Rattle.an_keyed.specs.Rows.{row_of, put_row}
+use Rattle.an_keyed.proofs.PutLemmas.{put_at-position, row_of-find, row_of-put_row, set_or_push}
 use Rattle.an_state.specs.State.{keys_are_distinct}
-use Rattle.an_state.proofs.DistinctLemmas.{set_or_push, put_at-position}
 use Rattle.an_laws.proofs.BurialLemmas.{put_all}
 use Rattle.an_laws.proofs.FoundLemmas.{all-weaker, all-from_found, found-passes}
-use Rattle.an_laws.proofs.RowLemmas.{row_of-find, row_of-put_row}
 
 -- ---- what passes of some of a list
 

@@ -4,21 +4,20 @@ use Rattle.std.proofs.Math.Bool.{or-false, or-true, or_assoc}
 use Rattle.std.proofs.lemmas.Bool.{cases_Bool, cond-true, cond-false}
 use Rattle.std.proofs.lemmas.List.Elements.{filter-append}
 use Rattle.an_keyed.specs.Key.{Key, same_key}
+use Rattle.an_keyed.proofs.KeyLemmas.{same_key-refl, same_key-true}
+use Rattle.an_keyed.proofs.PutLemmas.{row_of-put_row}
 use Rattle.an_policy.specs.Audience.{Identity}
 use Rattle.an_policy.specs.declared.group.Audience.{Audience}
 use Rattle.an_machine.specs.Accepted.{manifest_activity, note_activity}
 use Rattle.an_state.specs.View.{audience_of_manifest, audience_of_note}
 use Rattle.an_state.specs.Entries.{with_row}
-use Rattle.an_state.specs.State.{State, KeptManifest, KeptNote, manifest_key, note_key, manifest_row, note_row}
+use Rattle.an_state.specs.State.{State, ManifestState, NoteState, manifest_key, note_key, manifest_row, note_row}
 use Rattle.an_state.specs.declared.activity.Activity.{Activity}
 use Rattle.an_state.specs.declared.entry.Row.TheVariants as kept
-use Rattle.an_state.proofs.DistinctLemmas.{same_key-self}
-use Rattle.an_state.proofs.ViewLemmas.{same_key-equal}
 use Rattle.an_state.specs.View.{activity_key}
 use Rattle.an_laws.specs.Coherent.{activities_of, has_row, Chain, has_any}
 pub use Rattle.an_laws.proofs.AudienceLemmas.{key_at}
 use Rattle.an_laws.proofs.AudienceLemmas.{audience_of, CoherentFirst}
-use Rattle.an_laws.proofs.RowLemmas.{row_of-put_row}
 
 -- the activities of an object lead from the audience that it has before to the one behind, and make its row where there was none
 abbrev pub LeadsAt : State → List Activity → State → Key → Type 0
@@ -82,7 +81,7 @@ module _ (s t : State) (activity : Activity)
   own_or_other : (key : Key) → LeadsAt s (activity ∷ []) t key
   own_or_other key = elim (cases_Bool (same_key (activity_key activity) key)) [
     | inl is ↦
-        let same = same_key-equal (activity_key activity) key is in
+        let same = same_key-true (activity_key activity) key is in
         rw is ((subst (λ k. activity.before ≡ audience_of s k) same before, subst (λ k. activity.after ≡ audience_of t k) same behind), subst (λ k. has_row t k ≡ true) same there ∙ sym (or-true (has_row s key)))
     | inr isnt ↦ rw isnt ((others key isnt).0, (others key isnt).1 ∙ sym (or-false (has_row s key)))
   ]
@@ -92,7 +91,7 @@ module _ (s t : State) (activity : Activity)
 
 -- ---- an annotation that is put
 
-module _ (s : State) (row : KeptNote) where
+module _ (s : State) (row : NoteState) where
   abbrev with_note : State
   with_note = with_row s (kept.Note row)
 
@@ -101,7 +100,7 @@ module _ (s : State) (row : KeptNote) where
   note_found owner name = row_of-put_row note_key row (key_at (Some owner) name) s.notes
 
   own_note : note_row with_note row.owner row.name ≡ Some row
-  own_note = note_found row.owner row.name ∙ cond-true _ _ _ (same_key-self (note_key row))
+  own_note = note_found row.owner row.name ∙ cond-true _ _ _ (same_key-refl (note_key row))
 
   other_notes : (owner : Option (List ℕ)) (name : List ℕ) → same_key (note_key row) (key_at owner name) ≡ false
       → (audience_of s (key_at owner name) ≡ audience_of with_note (key_at owner name))
@@ -120,7 +119,7 @@ module _ (s : State) (row : KeptNote) where
 
 -- ---- a manifest that is put
 
-module _ (s : State) (row : KeptManifest) where
+module _ (s : State) (row : ManifestState) where
   abbrev pub with_manifest : State
   with_manifest = with_row s (kept.Manifest row)
 
@@ -128,7 +127,7 @@ module _ (s : State) (row : KeptManifest) where
   manifest_found name = row_of-put_row manifest_key row (key_at None name) s.manifests
 
   own_manifest : manifest_row with_manifest row.name ≡ Some row
-  own_manifest = manifest_found row.name ∙ cond-true _ _ _ (same_key-self (manifest_key row))
+  own_manifest = manifest_found row.name ∙ cond-true _ _ _ (same_key-refl (manifest_key row))
 
   -- the annotations have the audiences that they had
   abbrev pub NotesStay : Type 0

@@ -5,16 +5,17 @@ use Rattle.std.proofs.Math.Bool.{or-false}
 use Rattle.std.proofs.lemmas.Bool.{cases_Bool}
 use Rattle.an_base.specs.Outcome.{only_if}
 use Rattle.an_keyed.specs.Key.{Key, same_key}
+use Rattle.an_keyed.proofs.PutLemmas.{row_of-find}
 use Rattle.an_policy.specs.Audience.{Identity}
 use Rattle.an_machine.specs.Accepted.{burial, notes_on}
 use Rattle.an_state.specs.View.{audience_of_note}
-use Rattle.an_state.specs.State.{State, KeptNote, note_key, note_row, keys_are_distinct, is_distinct}
+use Rattle.an_state.specs.State.{State, NoteState, note_key, note_row, keys_are_distinct, is_distinct}
 use Rattle.an_state.specs.View.{is_on}
 use Rattle.an_state.specs.declared.activity.Activity.{Activity}
 use Rattle.an_state.proofs.DistinctLemmas.{notes-distinct}
 use Rattle.an_state.proofs.ViewLemmas.{one_shown}
 use Rattle.an_laws.specs.Coherent.{activities_of, Chain, has_any}
-use Rattle.an_laws.proofs.RowLemmas.{distinct-filter, one_of, row_of-find}
+use Rattle.an_laws.proofs.RowLemmas.{distinct-filter, one_of}
 use Rattle.an_laws.proofs.BurialLemmas.{as_left, left_state, note_row-left}
 use Rattle.an_laws.proofs.LeadLemmas.{key_at, LeadsAt, Leads}
 
@@ -32,11 +33,11 @@ module _ {R : Type 0} (key : R → Key) (wanted : Key) where
 
 module _ (s : State) (who : Identity) (at : ℤ) where
   -- none is of a manifest
-  burials-manifest : (name : List ℕ) (rows : List KeptNote) → activities_of (key_at None name) (map (burial s who at) rows) ≡ []
+  burials-manifest : (name : List ℕ) (rows : List NoteState) → activities_of (key_at None name) (map (burial s who at) rows) ≡ []
   burials-manifest name [] = refl
   burials-manifest name (row ∷ rows) = burials-manifest name rows
 
-  burials-note : (key : Key) (rows : List KeptNote) → activities_of key (map (burial s who at) rows) ≡ map (burial s who at) (filter (λ row. same_key (note_key row) key) rows)
+  burials-note : (key : Key) (rows : List NoteState) → activities_of key (map (burial s who at) rows) ≡ map (burial s who at) (filter (λ row. same_key (note_key row) key) rows)
   burials-note key [] = refl
   burials-note key (row ∷ rows) =
       let later = burials-note key rows in
@@ -49,11 +50,11 @@ module _ (s : State) (who : Identity) (at : ℤ) where
 
   module _ (manifest : List ℕ) where
     -- the burials of the annotation that is found under a key
-    abbrev burials : Option KeptNote → List Activity
+    abbrev burials : Option NoteState → List Activity
     burials found = map (burial s who at) (option_to_list (option_and_then (only_if (is_on manifest)) found))
 
     -- an annotation on the manifest is buried from the audience that it had, and every other stays
-    buried_at : (found : Option KeptNote)
+    buried_at : (found : Option NoteState)
         → Chain (option_and_then (audience_of_note s) found) (burials found) (option_and_then (audience_of_note (left_state s manifest)) (option_map (as_left manifest) found))
         × (is_some (option_map (as_left manifest) found) ≡ (is_some found || has_any (burials found)))
     buried_at None = (refl, refl)

@@ -22,7 +22,7 @@ use Rattle.an_policy.specs.Group.{is_private, same_group}
 use Rattle.an_state.specs.Commands.{object_of, version_of}
 use Rattle.an_machine.specs.Refusals.{has_other_group, is_hidden, is_token_taken, refusals_before, refusals_behind, takes_token}
 use Rattle.an_state.specs.Sound.{is_live_manifest}
-use Rattle.an_state.specs.State.{State, KeptManifest, manifest_row}
+use Rattle.an_state.specs.State.{State, ManifestState, manifest_row}
 use Rattle.an_state.specs.View.{shows_manifest}
 use Rattle.an_machine.specs.declared.asked.Asked.{Asked}
 use Rattle.an_machine.specs.declared.asked.Asked.TheVariants.{Deletion}
@@ -140,7 +140,7 @@ pub manifest-fixed : (s : State) (m : ManifestPut) → first_of (refusals_behind
 manifest-fixed s m none = none-when (has_other_group s (put.Manifest m)) GroupFixed (none-of (refusals_behind s (put.Manifest m)) none).0
 
 -- a manifest that a caller may read is live
-shown-live : (who : Identity) (found : Option KeptManifest) → passes (shows_manifest who) found ≡ true → passes (λ row. is_some row.live) found ≡ true
+shown-live : (who : Identity) (found : Option ManifestState) → passes (shows_manifest who) found ≡ true → passes (λ row. is_some row.live) found ≡ true
 shown-live who None shown = shown
 shown-live who (Some row) shown = (and_parts _ _ shown).0
 

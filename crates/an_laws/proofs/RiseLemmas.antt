@@ -4,12 +4,14 @@ use Rattle.std.specs.Prelude.{◌==◌, ◌^◌, ◌-◌, is_some, nat_lt}
 use Rattle.std.proofs.lemmas.Bool.{cases_Bool, and_parts, cond_both, eqb-true}
 use Rattle.an_keyed.specs.Key.{Key, same_key}
 use Rattle.an_keyed.specs.Rows.{row_of, put_row}
+use Rattle.an_keyed.proofs.KeyLemmas.{same_key-refl, same_key-true}
+use Rattle.an_keyed.proofs.PutLemmas.{row_of-put_row}
 use Rattle.an_policy.specs.Audience.{Identity}
 use Rattle.an_machine.specs.Accepted.{effect_of, deletion, moment_of_write, number_behind, buried, manifest_tombstone}
 use Rattle.an_machine.specs.Asked.{object_asked, version_asked, is_put}
 use Rattle.an_state.specs.Commands.{object_of, version_of}
 use Rattle.an_state.specs.Entries.{with_row, with_rows, after}
-use Rattle.an_state.specs.State.{State, KeptReader, KeptManifest, KeptNote, reader_key, manifest_key, note_key, manifest_row, note_row, is_distinct}
+use Rattle.an_state.specs.State.{State, ReaderState, ManifestState, NoteState, reader_key, manifest_key, note_key, manifest_row, note_row, is_distinct}
 use Rattle.an_machine.specs.Versions.{current, standing, note_standing, number_of, is_next}
 use Rattle.an_state.specs.View.{is_on}
 use Rattle.an_state.specs.declared.activity.Activity.{Activity}
@@ -19,14 +21,11 @@ use Rattle.an_machine.specs.declared.asked.Asked.TheVariants as put
 use Rattle.an_state.specs.declared.command.Object.{Object}
 use Rattle.an_state.specs.declared.command.Object.TheVariants.{Reader, Manifest, Note}
 use Rattle.an_state.specs.declared.entry.Row.TheVariants as kept
-use Rattle.an_state.proofs.DistinctLemmas.{same_key-self}
-use Rattle.an_state.proofs.ViewLemmas.{same_key-equal}
 use Rattle.an_machine.specs.Legal.{Write, Accepts}
 use Rattle.an_laws.proofs.BurialLemmas.{as_left, left_state, note_row-left}
 use Rattle.an_laws.proofs.DropLemmas.{with_rows-tombstone}
 use Rattle.an_laws.proofs.FoundLemmas.{passes-some}
 use Rattle.an_laws.proofs.RefusalLemmas.{asked-agrees}
-use Rattle.an_laws.proofs.RowLemmas.{row_of-put_row}
 use Rattle.an_laws.proofs.StepLemmas.{accepted-is}
 
 -- ---- the number of the next write
@@ -40,7 +39,7 @@ pub drop-next : (s : State) (object : Object) (version : ℕ) → is_next s (Del
 drop-next s object version next = (and_parts (standing s object).live (version == number_of s object + 1) next).0
 
 -- so a manifest that is deleted next has a row
-pub drop-found : (s : State) (name : List ℕ) (version : ℕ) → is_next s (Deletion (Manifest name) version) ≡ true → (row : KeptManifest) × (manifest_row s name ≡ Some row)
+pub drop-found : (s : State) (name : List ℕ) (version : ℕ) → is_next s (Deletion (Manifest name) version) ≡ true → (row : ManifestState) × (manifest_row s name ≡ Some row)
 drop-found s name version next =
     let found = passes-some (λ row. is_some row.live) (manifest_row s name) (drop-next s (Manifest name) version next) in (found.0, found.1)
 
@@ -53,14 +52,14 @@ module _ {R : Type 0} (key : R → Key) (version : R → ℕ) where
 
   -- the row that was put has its number
   number_at-put : (row : R) (rows : List R) → number_at (key row) (put_row key row rows) ≡ version row
-  number_at-put row rows = ap (λ found. unwrap_or (option_map version found) 0) (row_of-put_row key row (key row) rows) ∙ rw (same_key-self (key row)) refl
+  number_at-put row rows = ap (λ found. unwrap_or (option_map version found) 0) (row_of-put_row key row (key row) rows) ∙ rw (same_key-refl (key row)) refl
 
   -- a row whose number is no lower than the one before it makes no number lower
   number_at-rises : (row : R) (rows : List R) → number_at (key row) rows ≤ version row → (wanted : Key) → number_at wanted rows ≤ number_at wanted (put_row key row rows)
   number_at-rises row rows up wanted =
       let found = row_of-put_row key row wanted rows in
       elim (cases_Bool (same_key (key row) wanted)) [
-        | inl is ↦ rw (found, is) (subst (λ k. number_at k rows ≤ version row) (same_key-equal (key row) wanted is) up)
+        | inl is ↦ rw (found, is) (subst (λ k. number_at k rows ≤ version row) (same_key-true (key row) wanted is) up)
         | inr isnt ↦ rw (found, isnt) (omega arith)
       ]
 
@@ -70,29 +69,29 @@ pub record IsWritten (s t : State) (object : Object) (version : ℕ) : Type 0 wh
   pub has : number_of t object ≡ version
 
 -- the next row of a reader, of a manifest or of an annotation makes no number lower
-reader-rises : (s : State) (r : KeptReader) → r.version ≡ number_of s (Reader r.name) + 1 → (object : Object) → number_of s object ≤ number_of (with_row s (kept.Reader r)) object
+reader-rises : (s : State) (r : ReaderState) → r.version ≡ number_of s (Reader r.name) + 1 → (object : Object) → number_of s object ≤ number_of (with_row s (kept.Reader r)) object
 reader-rises s r next (Reader name) = number_at-rises reader_key (λ row. row.version) r s.readers (omega arith) (record { owner = None; name = name })
 reader-rises s r next (Manifest name) = omega arith
 reader-rises s r next (Note owner name) = omega arith
 
-manifest-rises : (s : State) (m : KeptManifest) → m.version ≡ number_of s (Manifest m.name) + 1 → (object : Object) → number_of s object ≤ number_of (with_row s (kept.Manifest m)) object
+manifest-rises : (s : State) (m : ManifestState) → m.version ≡ number_of s (Manifest m.name) + 1 → (object : Object) → number_of s object ≤ number_of (with_row s (kept.Manifest m)) object
 manifest-rises s m next (Reader name) = omega arith
 manifest-rises s m next (Manifest name) = number_at-rises manifest_key (λ row. row.version) m s.manifests (omega arith) (record { owner = None; name = name })
 manifest-rises s m next (Note owner name) = omega arith
 
-note-rises : (s : State) (n : KeptNote) → n.version ≡ number_of s (Note n.owner n.name) + 1 → (object : Object) → number_of s object ≤ number_of (with_row s (kept.Note n)) object
+note-rises : (s : State) (n : NoteState) → n.version ≡ number_of s (Note n.owner n.name) + 1 → (object : Object) → number_of s object ≤ number_of (with_row s (kept.Note n)) object
 note-rises s n next (Reader name) = omega arith
 note-rises s n next (Manifest name) = omega arith
 note-rises s n next (Note owner name) = number_at-rises note_key (λ row. row.version) n s.notes (omega arith) (record { owner = Some owner; name = name })
 
 -- it gives its object its number
-reader-written : (s : State) (r : KeptReader) → r.version ≡ number_of s (Reader r.name) + 1 → IsWritten s (with_row s (kept.Reader r)) (Reader r.name) r.version
+reader-written : (s : State) (r : ReaderState) → r.version ≡ number_of s (Reader r.name) + 1 → IsWritten s (with_row s (kept.Reader r)) (Reader r.name) r.version
 reader-written s r next = record { rises = reader-rises s r next; has = number_at-put reader_key (λ row. row.version) r s.readers }
 
-manifest-written : (s : State) (m : KeptManifest) → m.version ≡ number_of s (Manifest m.name) + 1 → IsWritten s (with_row s (kept.Manifest m)) (Manifest m.name) m.version
+manifest-written : (s : State) (m : ManifestState) → m.version ≡ number_of s (Manifest m.name) + 1 → IsWritten s (with_row s (kept.Manifest m)) (Manifest m.name) m.version
 manifest-written s m next = record { rises = manifest-rises s m next; has = number_at-put manifest_key (λ row. row.version) m s.manifests }
 
-note-written : (s : State) (n : KeptNote) → n.version ≡ number_of s (Note n.owner n.name) + 1 → IsWritten s (with_row s (kept.Note n)) (Note n.owner n.name) n.version
+note-written : (s : State) (n : NoteState) → n.version ≡ number_of s (Note n.owner n.name) + 1 → IsWritten s (with_row s (kept.Note n)) (Note n.owner n.name) n.version
 note-written s n next = record { rises = note-rises s n next; has = number_at-put note_key (λ row. row.version) n s.notes }
 
 -- ---- the deletion of a manifest
@@ -102,14 +101,14 @@ number_behind-rises : (version : ℕ) → version ≤ number_behind version
 number_behind-rises version = cond_both (nat_lt version (2 ^ 32 - 1)) (version + 1) version (λ n. version ≤ n) (λ h. omega arith) (λ h. omega arith)
 
 -- an annotation has no lower a number as it is left
-left-version : (manifest : List ℕ) (row : KeptNote) → row.version ≤ (as_left manifest row).version
+left-version : (manifest : List ℕ) (row : NoteState) → row.version ≤ (as_left manifest row).version
 left-version manifest row = elim (is_on manifest row) as (λ b. row.version ≤ (cond b (buried row) row).version) [
   | true ↦ number_behind-rises row.version
   | false ↦ omega arith
 ]
 
 -- nor has what is found, if anything is
-left-number : (manifest : List ℕ) (found : Option KeptNote) → current (note_standing found) ≤ current (note_standing (option_map (as_left manifest) found))
+left-number : (manifest : List ℕ) (found : Option NoteState) → current (note_standing found) ≤ current (note_standing (option_map (as_left manifest) found))
 left-number manifest None = omega arith
 left-number manifest (Some row) = left-version manifest row
 
@@ -122,7 +121,7 @@ left-rises s manifest distinct (Note owner name) =
 
 -- the tombstone of the manifest is put last
 dropped-written : (s : State) (name : List ℕ) (version : ℕ) → is_distinct s ≡ true → version ≡ number_of s (Manifest name) + 1
-    → (row : KeptManifest) → IsWritten s (with_row (left_state s name) (kept.Manifest (manifest_tombstone name version row))) (Manifest name) version
+    → (row : ManifestState) → IsWritten s (with_row (left_state s name) (kept.Manifest (manifest_tombstone name version row))) (Manifest name) version
 dropped-written s name version distinct next row =
     let put = manifest-written (left_state s name) (manifest_tombstone name version row) next in
     record { rises = λ other. omega (arith, left-rises s name distinct other, put.rises other); has = put.has }

@@ -1,54 +1,18 @@
--- Rows and their keys: what is found under a key behind rows that are put, and which keys stay distinct.
-use Rattle.std.proofs.Common.{◌≡◌, Bool, true, false, cond, List, [], ◌∷◌, Some, inl, inr, refl, sym, ap, subst, ◌∙◌}
+-- Rows of distinct keys: what stands behind a row that has a key, and some of the rows.
+use Rattle.std.proofs.Common.{◌≡◌, Bool, true, false, List, [], ◌∷◌, inl, inr, refl, subst, ◌∙◌}
 use Rattle.std.specs.Prelude.{filter, find, option_to_list}
 use Rattle.std.specs.List.{list_any}
-use Rattle.std.proofs.lemmas.Bool.{cases_Bool, both_ways, and_parts, and_from, or_parts, or_from, not-true, not_from_false, cond-false, cond_both}
+use Rattle.std.proofs.lemmas.Bool.{cases_Bool, and_parts, and_from, or_parts, or_from, not-true, not_from_false, cond-false, cond_both}
 use Rattle.an_keyed.specs.Key.{Key, same_key}
-use Rattle.an_keyed.specs.Rows.{row_of, put_row}
+use Rattle.an_keyed.proofs.KeyLemmas.{same_key-true}
 use Rattle.an_state.specs.State.{keys_are_distinct}
-use Rattle.an_state.proofs.DistinctLemmas.{set_or_push, put_at-position}
-use Rattle.an_state.proofs.ViewLemmas.{row_found, same_key-equal}
 
 module _ {R : Type 0} (key : R → Key) where
-  pub row_of-find : (wanted : Key) (rows : List R) → row_of key wanted rows ≡ find (λ row. same_key (key row) wanted) rows
-  row_of-find wanted rows = row_found (λ row. same_key (key row) wanted) rows
-
-  -- where the row has the key it is found, and else what was found before
-  find-set_or_push : (row : R) (wanted : Key) (rows : List R)
-      → find (λ r. same_key (key r) wanted) (set_or_push (λ other. same_key (key other) (key row)) row rows)
-      ≡ cond (same_key (key row) wanted) (Some row) (find (λ r. same_key (key r) wanted) rows)
-  find-set_or_push row wanted [] = refl
-  find-set_or_push row wanted (first ∷ rows) = elim (cases_Bool (same_key (key first) (key row))) [
-    | inl same ↦
-        let keys = same_key-equal (key first) (key row) same in
-        elim (cases_Bool (same_key (key row) wanted)) [
-          | inl is ↦ rw (same, is) refl
-          | inr isnt ↦ let also : same_key (key first) wanted ≡ false = ap (λ k. same_key k wanted) keys ∙ isnt in rw (same, isnt, also) refl
-        ]
-    | inr differ ↦ elim (cases_Bool (same_key (key first) wanted)) [
-      | inl is ↦
-          let isnt : same_key (key row) wanted ≡ false = elim (cases_Bool (same_key (key row) wanted)) [
-            | inl both ↦ absurd (both_ways _ differ (subst (λ k. same_key (key first) k ≡ true) (sym (same_key-equal (key row) wanted both)) is))
-            | inr none ↦ none
-          ] in
-          rw (differ, is, isnt) refl
-      | inr isnt ↦ rw (differ, isnt) (find-set_or_push row wanted rows)
-    ]
-  ]
-
-  pub row_of-put_row : (row : R) (wanted : Key) (rows : List R)
-      → row_of key wanted (put_row key row rows) ≡ cond (same_key (key row) wanted) (Some row) (row_of key wanted rows)
-  row_of-put_row row wanted rows =
-      row_of-find wanted (put_row key row rows)
-      ∙ ap (find (λ r. same_key (key r) wanted)) (put_at-position key (λ other. same_key (key other) (key row)) row rows)
-      ∙ find-set_or_push row wanted rows
-      ∙ ap (λ found. cond (same_key (key row) wanted) (Some row) found) (sym (row_of-find wanted rows))
-
   -- among rows of distinct keys none behind one that has a key has it
   pub none-behind : (row : R) (wanted : Key) (rows : List R) → same_key (key row) wanted ≡ true → keys_are_distinct key (row ∷ rows) ≡ true
       → list_any (λ other. same_key (key other) wanted) rows ≡ false
   none-behind row wanted rows is distinct =
-      subst (λ k. list_any (λ other. same_key (key other) k) rows ≡ false) (same_key-equal (key row) wanted is) (not-true _ (and_parts _ _ distinct).0)
+      subst (λ k. list_any (λ other. same_key (key other) k) rows ≡ false) (same_key-true (key row) wanted is) (not-true _ (and_parts _ _ distinct).0)
 
   -- a key that no row has is no key of some of them
   none-filter : (test : R → Bool) (wanted : Key) (rows : List R) → list_any (λ other. same_key (key other) wanted) rows ≡ false

@@ -4,6 +4,7 @@ use Rattle.std.specs.List.{list_all}
 use Rattle.std.proofs.lemmas.Bool.{and_from, eq-eqb}
 use Rattle.std.proofs.lemmas.Slice.Eq.{bytes_eq-Decides}
 use Rattle.an_base.specs.Outcome.{first_of}
+use Rattle.an_keyed.proofs.PutLemmas.{all-put_row, distinct-put_row}
 use Rattle.an_policy.specs.Audience.{Identity}
 use Rattle.an_policy.specs.declared.reader.Reader.{Reader}
 use Rattle.an_machine.specs.Accepted.{burial, effect_of, manifest_activity, moment_of_write, note_tombstone, notes_on, put_manifest, put_note, reader_tombstone}
@@ -12,16 +13,15 @@ use Rattle.an_machine.specs.Asked.{manifest_asked}
 use Rattle.an_state.specs.Entries.{after, with_rows}
 use Rattle.an_machine.specs.Refusals.{refusals_behind}
 use Rattle.an_state.specs.Sound.{is_sound, agrees, tokens_are_distinct, is_live_manifest, stands_on_live, moments_never_fall}
-use Rattle.an_state.specs.State.{State, KeptNote, empty, reader_key, note_key, manifest_row, note_row, live_readers, keys_are_distinct, is_distinct}
+use Rattle.an_state.specs.State.{State, NoteState, empty, reader_key, note_key, manifest_row, note_row, live_readers, keys_are_distinct, is_distinct}
 use Rattle.an_state.specs.declared.activity.Activity.{Activity}
 use Rattle.an_machine.specs.declared.asked.Asked.{Asked}
 use Rattle.an_machine.specs.declared.asked.Asked.TheVariants.{Deletion}
 use Rattle.an_machine.specs.declared.asked.Asked.TheVariants as put
 use Rattle.an_state.specs.declared.command.Object.TheVariants as object
-use Rattle.an_state.proofs.DistinctLemmas.{distinct-put_row, distinct-with_rows, notes-distinct}
+use Rattle.an_state.proofs.DistinctLemmas.{distinct-with_rows, notes-distinct}
 use Rattle.an_machine.specs.Legal.{Write, Accepts, Legal, state_of}
 use Rattle.an_laws.proofs.DropLemmas.{dropped, with_rows-dropped}
-use Rattle.an_laws.proofs.FoundLemmas.{all-put_row}
 use Rattle.an_laws.proofs.MomentLemmas.{not_below-self, moments-rise}
 use Rattle.an_laws.proofs.RefusalLemmas.{asked-agrees, reader-untaken, note-based}
 use Rattle.an_laws.proofs.SoundParts.{Sound, sound-parts, sound-from}
@@ -30,8 +30,8 @@ use Rattle.an_laws.proofs.StepLemmas.{accepted-is}
 use Rattle.an_laws.proofs.TokensLemmas.{tokens-put_row}
 
 -- what holds of each annotation's activity and of the last one holds of all
-all-burials : (p : Activity → Bool) (bury : KeptNote → Activity) (last : Activity) → ((row : KeptNote) → p (bury row) ≡ true) → p last ≡ true
-    → (rows : List KeptNote) → list_all p (map bury rows ++ last ∷ []) ≡ true
+all-burials : (p : Activity → Bool) (bury : NoteState → Activity) (last : Activity) → ((row : NoteState) → p (bury row) ≡ true) → p last ≡ true
+    → (rows : List NoteState) → list_all p (map bury rows ++ last ∷ []) ≡ true
 all-burials p bury last each ends [] = and_from _ _ ends refl
 all-burials p bury last each ends (row ∷ rows) = and_from _ _ (each row) (all-burials p bury last each ends rows)
 

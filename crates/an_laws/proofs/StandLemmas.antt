@@ -6,38 +6,38 @@ use Rattle.std.proofs.lemmas.Option.{same_Some}
 use Rattle.an_base.specs.Outcome.{passes}
 use Rattle.an_keyed.specs.Key.{Key, same_key}
 use Rattle.an_keyed.specs.Rows.{row_of, put_row}
+use Rattle.an_keyed.proofs.KeyLemmas.{other-key}
+use Rattle.an_keyed.proofs.PutLemmas.{row_of-put_row}
 use Rattle.an_machine.specs.Accepted.{buried, manifest_tombstone}
-use Rattle.an_state.specs.State.{State, KeptManifest, KeptNote, manifest_key, note_key, manifest_row, keys_are_distinct}
+use Rattle.an_state.specs.State.{State, ManifestState, NoteState, manifest_key, note_key, manifest_row, keys_are_distinct}
 use Rattle.an_state.specs.View.{is_on}
-use Rattle.an_state.proofs.DistinctLemmas.{other-key}
 use Rattle.an_state.specs.Sound.{is_live_manifest, stands_on_live}
 use Rattle.an_laws.proofs.BurialLemmas.{as_left, row_of-left}
 use Rattle.an_laws.proofs.DropLemmas.{put_found, dropped}
 use Rattle.an_laws.proofs.FoundLemmas.{all-weaker, found-passes, all-from_found}
 use Rattle.an_laws.proofs.LeadLemmas.{key_at}
-use Rattle.an_laws.proofs.RowLemmas.{row_of-put_row}
 
-abbrev has_live : Option KeptManifest → Bool
+abbrev has_live : Option ManifestState → Bool
 has_live found = passes (λ row. is_some row.live) found
 
 -- ---- a manifest is put
 
 -- what was live is live where a live manifest is put
-live-put : (row : KeptManifest) → is_some row.live ≡ true → (manifests : List KeptManifest) (name : List ℕ) → has_live (row_of manifest_key (key_at None name) manifests) ≡ true
+live-put : (row : ManifestState) → is_some row.live ≡ true → (manifests : List ManifestState) (name : List ℕ) → has_live (row_of manifest_key (key_at None name) manifests) ≡ true
     → has_live (row_of manifest_key (key_at None name) (put_row manifest_key row manifests)) ≡ true
 live-put row lives manifests name live =
     ap has_live (row_of-put_row manifest_key row (key_at None name) manifests)
     ∙ cond_both (same_key (manifest_key row) (key_at None name)) (Some row) (row_of manifest_key (key_at None name) manifests) (λ found. has_live found ≡ true) (λ h. lives) (λ h. live)
 
 -- an annotation stands where the manifests that were live still are
-stands-weaker : (s t : State) → ((name : List ℕ) → is_live_manifest s name ≡ true → is_live_manifest t name ≡ true) → (row : KeptNote) → stands_on_live s row ≡ true → stands_on_live t row ≡ true
+stands-weaker : (s t : State) → ((name : List ℕ) → is_live_manifest s name ≡ true → is_live_manifest t name ≡ true) → (row : NoteState) → stands_on_live s row ≡ true → stands_on_live t row ≡ true
 stands-weaker s t live row = elim row.live as (λ its. (elim its [ None ↦ true | Some l ↦ is_live_manifest s l.manifest ]) ≡ true → (elim its [ None ↦ true | Some l ↦ is_live_manifest t l.manifest ]) ≡ true) [
   | None ↦ λ h. refl
   | Some l ↦ λ h. live l.manifest h
 ]
 
 -- a live manifest is put, and all annotations stand
-pub stand-put : (s : State) (row : KeptManifest) → is_some row.live ≡ true → list_all (stands_on_live s) s.notes ≡ true
+pub stand-put : (s : State) (row : ManifestState) → is_some row.live ≡ true → list_all (stands_on_live s) s.notes ≡ true
     → list_all (stands_on_live (record s { manifests = put_row manifest_key row s.manifests })) s.notes ≡ true
 stand-put s row lives stand =
     let t : State = record s { manifests = put_row manifest_key row s.manifests } in
@@ -46,14 +46,14 @@ stand-put s row lives stand =
 -- ---- a manifest is deleted
 
 -- every other manifest is live as before
-live-found : (name other : List ℕ) (version : ℕ) → bytes_eq other name ≡ false → (manifests : List KeptManifest) → has_live (row_of manifest_key (key_at None other) manifests) ≡ true
-    → (found : Option KeptManifest) → has_live (row_of manifest_key (key_at None other) (put_found (option_map (manifest_tombstone name version) found) manifests)) ≡ true
+live-found : (name other : List ℕ) (version : ℕ) → bytes_eq other name ≡ false → (manifests : List ManifestState) → has_live (row_of manifest_key (key_at None other) manifests) ≡ true
+    → (found : Option ManifestState) → has_live (row_of manifest_key (key_at None other) (put_found (option_map (manifest_tombstone name version) found) manifests)) ≡ true
 live-found name other version differ manifests live None = live
 live-found name other version differ manifests live (Some row) =
     ap has_live (row_of-put_row manifest_key (manifest_tombstone name version row) (key_at None other) manifests ∙ cond-false _ _ _ (other-key (key_at None other) (key_at None name) differ)) ∙ live
 
 -- an annotation on another manifest stands still
-stands-apart : (s : State) (name : List ℕ) (version : ℕ) (row : KeptNote) → is_on name row ≡ false → stands_on_live s row ≡ true → stands_on_live (dropped s name version) row ≡ true
+stands-apart : (s : State) (name : List ℕ) (version : ℕ) (row : NoteState) → is_on name row ≡ false → stands_on_live s row ≡ true → stands_on_live (dropped s name version) row ≡ true
 stands-apart s name version row = elim row.live as (λ its. passes (λ l. bytes_eq l.manifest name) its ≡ false
     → (elim its [ None ↦ true | Some l ↦ is_live_manifest s l.manifest ]) ≡ true → (elim its [ None ↦ true | Some l ↦ is_live_manifest (dropped s name version) l.manifest ]) ≡ true) [
       | None ↦ λ apart stands. refl
@@ -61,13 +61,13 @@ stands-apart s name version row = elim row.live as (λ its. passes (λ l. bytes_
     ]
 
 -- an annotation on the manifest is a tombstone, and another stands still
-stands-left : (s : State) (name : List ℕ) (version : ℕ) (row : KeptNote) → stands_on_live s row ≡ true → stands_on_live (dropped s name version) (as_left name row) ≡ true
+stands-left : (s : State) (name : List ℕ) (version : ℕ) (row : NoteState) → stands_on_live s row ≡ true → stands_on_live (dropped s name version) (as_left name row) ≡ true
 stands-left s name version row stands =
     cond_both (is_on name row) (buried row) row (λ left. stands_on_live (dropped s name version) left ≡ true) (λ on. refl) (λ apart. stands-apart s name version row apart stands)
 
 -- so what is found under a key stands as it is left
-stands-found : (s : State) (name : List ℕ) (version : ℕ) (key : Key) (row : KeptNote) → list_all (stands_on_live s) s.notes ≡ true
-    → (found : Option KeptNote) → row_of note_key key s.notes ≡ found → option_map (as_left name) found ≡ Some row → stands_on_live (dropped s name version) row ≡ true
+stands-found : (s : State) (name : List ℕ) (version : ℕ) (key : Key) (row : NoteState) → list_all (stands_on_live s) s.notes ≡ true
+    → (found : Option NoteState) → row_of note_key key s.notes ≡ found → option_map (as_left name) found ≡ Some row → stands_on_live (dropped s name version) row ≡ true
 stands-found s name version key row stand None is left = absurd (cc)
 stands-found s name version key row stand (Some before) is left =
     subst (λ r. stands_on_live (dropped s name version) r ≡ true) (same_Some (as_left name before) row left)

@@ -6,11 +6,11 @@ use Rattle.std.proofs.lemmas.Slice.Eq.{bytes_eq-Decides}
 use Rattle.an_base.specs.Outcome.{passes}
 use Rattle.an_keyed.specs.Key.{same_key}
 use Rattle.an_keyed.specs.Rows.{put_row}
+use Rattle.an_keyed.proofs.PutLemmas.{put_at-position, set_or_push}
 use Rattle.an_policy.specs.declared.reader.Reader.{Reader}
 use Rattle.an_machine.specs.Refusals.{is_taken_from}
 use Rattle.an_state.specs.Rows.{reader_agrees}
-use Rattle.an_state.specs.State.{KeptReader, reader_key, keys_are_distinct}
-use Rattle.an_state.proofs.DistinctLemmas.{set_or_push, put_at-position}
+use Rattle.an_state.specs.State.{ReaderState, reader_key, keys_are_distinct}
 use Rattle.an_state.specs.Sound.{agrees, tokens_are_distinct}
 use Rattle.an_laws.proofs.RowLemmas.{none-behind}
 
@@ -41,7 +41,7 @@ any-from p value more here none = any-cons p value more ∙ or_from _ _ here non
 abbrev has : List ℕ → Reader → Bool
 has token reader = bytes_eq reader.token token
 
-abbrev lives : List KeptReader → List Reader
+abbrev lives : List ReaderState → List Reader
 lives rows = filter_map (λ row. row.live) rows
 
 -- tokens of a reader, where there is one, and of those behind it
@@ -63,7 +63,7 @@ live-apart name token row_name version other (Some reader) agree untaken =
     false_from_ne_true _ (λ is. both_ways _ untaken (and_from _ _ is (not_from_false _ differs)))
 
 -- where no row has the name, a token that isn't taken from another is nobody's
-none-has : (name token : List ℕ) (rows : List KeptReader) → list_all agrees rows ≡ true
+none-has : (name token : List ℕ) (rows : List ReaderState) → list_all agrees rows ≡ true
     → list_any (λ other. same_key (reader_key other) (record { owner = None; name = name })) rows ≡ false
     → list_any (is_taken_from name token) (lives rows) ≡ false → list_any (has token) (lives rows) ≡ false
 none-has name token [] agree none untaken = refl
@@ -77,7 +77,7 @@ none-has name token (row ∷ rows) agree none untaken =
 -- ---- a row that is put
 
 -- what no live reader passes, and the new one does not, none passes after
-none-set_or_push : (p : Reader → Bool) (test : KeptReader → Bool) (row : KeptReader) (rows : List KeptReader) → passes p row.live ≡ false
+none-set_or_push : (p : Reader → Bool) (test : ReaderState → Bool) (row : ReaderState) (rows : List ReaderState) → passes p row.live ≡ false
     → list_any p (lives rows) ≡ false → list_any p (lives (set_or_push test row rows)) ≡ false
 none-set_or_push p test row [] new none = any-from p row.live [] new refl
 none-set_or_push p test row (first ∷ rows) new none =
@@ -87,15 +87,15 @@ none-set_or_push p test row (first ∷ rows) new none =
     (λ h. any-from p first.live (lives (set_or_push test row rows)) parts.0 (none-set_or_push p test row rows new parts.1))
 
 -- no live reader among these has, under another name, the token of the row's reader
-abbrev IsUntaken : KeptReader → List Reader → Type 0
+abbrev IsUntaken : ReaderState → List Reader → Type 0
 IsUntaken row readers = passes (λ reader. list_any (is_taken_from row.name reader.token) readers) row.live ≡ false
 
-module _ (row : KeptReader) where
-  abbrev is_its : KeptReader → Bool
+module _ (row : ReaderState) where
+  abbrev is_its : ReaderState → Bool
   is_its other = same_key (reader_key other) (reader_key row)
 
   -- in the place of the row with its name its token is new among those behind
-  token-placed : (rows : List KeptReader) (first : KeptReader) → is_its first ≡ true → keys_are_distinct reader_key (first ∷ rows) ≡ true → list_all agrees rows ≡ true
+  token-placed : (rows : List ReaderState) (first : ReaderState) → is_its first ≡ true → keys_are_distinct reader_key (first ∷ rows) ≡ true → list_all agrees rows ≡ true
       → IsUntaken row (lives (first ∷ rows)) → passes (λ reader. list_any (has reader.token) (lives rows)) row.live ≡ false
   token-placed rows first same distinct agree untaken =
       let none = none-behind reader_key first (reader_key row) rows same distinct in
@@ -104,7 +104,7 @@ module _ (row : KeptReader) where
       row.live untaken
 
   -- behind a reader of another name its token is not that reader's
-  token-behind : (rows : List KeptReader) (name : List ℕ) (version : ℕ) → bytes_eq name row.name ≡ false → (live : Option Reader) → reader_agrees name version live ≡ true
+  token-behind : (rows : List ReaderState) (name : List ℕ) (version : ℕ) → bytes_eq name row.name ≡ false → (live : Option Reader) → reader_agrees name version live ≡ true
       → IsUntaken row (cons_option live (lives rows)) → passes (λ reader. list_any (has reader.token) (lives rows)) live ≡ false
       → passes (λ reader. list_any (has reader.token) (lives (set_or_push is_its row rows))) live ≡ false
   token-behind rows name version other None agree untaken new = refl
@@ -115,7 +115,7 @@ module _ (row : KeptReader) where
       none-set_or_push (has reader.token) is_its row rows apart new
 
   -- a row is set or pushed whose token no live reader of another name has
-  tokens-set_or_push : (rows : List KeptReader) → keys_are_distinct reader_key rows ≡ true → list_all agrees rows ≡ true → tokens_are_distinct (lives rows) ≡ true
+  tokens-set_or_push : (rows : List ReaderState) → keys_are_distinct reader_key rows ≡ true → list_all agrees rows ≡ true → tokens_are_distinct (lives rows) ≡ true
       → IsUntaken row (lives rows) → tokens_are_distinct (lives (set_or_push is_its row rows)) ≡ true
   tokens-set_or_push [] keys agree tokens untaken = distinct-cons row.live [] ∙ and_from _ _ (not_from_false _ (passes-never row.live)) refl
   tokens-set_or_push (first ∷ rows) keys agree tokens untaken =
@@ -130,7 +130,7 @@ module _ (row : KeptReader) where
       (tokens-set_or_push rows (and_parts _ _ keys).1 agreed.1 parts.1 left))
 
 -- a row is put whose token no live reader of another name has
-pub tokens-put_row : (row : KeptReader) (rows : List KeptReader) → keys_are_distinct reader_key rows ≡ true → list_all agrees rows ≡ true
+pub tokens-put_row : (row : ReaderState) (rows : List ReaderState) → keys_are_distinct reader_key rows ≡ true → list_all agrees rows ≡ true
     → tokens_are_distinct (filter_map (λ r. r.live) rows) ≡ true
     → passes (λ reader. list_any (is_taken_from row.name reader.token) (filter_map (λ r. r.live) rows)) row.live ≡ false
     → tokens_are_distinct (filter_map (λ r. r.live) (put_row reader_key row rows)) ≡ true

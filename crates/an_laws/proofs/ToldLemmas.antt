@@ -8,13 +8,14 @@ use Rattle.std.proofs.lemmas.Bool.{cases_Bool}
 use Rattle.std.proofs.lemmas.List.Elements.{All-nil, All-cons, All-head, All-tail}
 use Rattle.an_base.specs.Outcome.{passes}
 use Rattle.an_keyed.specs.Key.{Key, same_key}
+use Rattle.an_keyed.proofs.PutLemmas.{row_of-find}
 use Rattle.an_policy.specs.Audience.{Identity, may}
 use Rattle.an_policy.specs.Seen.{reads, as_seen, is_deletion}
 use Rattle.an_policy.specs.declared.group.Audience.{Audience}
 use Rattle.an_policy.specs.declared.kind.Kind.TheVariants.{Create, Update, Delete}
 use Rattle.an_state.specs.View.{audience_of_manifest, audience_of_note}
 use Rattle.an_state.specs.Sound.{is_sound}
-use Rattle.an_state.specs.State.{State, KeptManifest, KeptNote, LiveManifest, LiveNote, manifest_key, note_key, manifest_row, note_row}
+use Rattle.an_state.specs.State.{State, ManifestState, NoteState, LiveManifest, LiveNote, manifest_key, note_key, manifest_row, note_row}
 use Rattle.an_state.specs.View.{view_of, manifest_audience, note_audience, shows_manifest, shows_note, activity_key, seen_by, is_change_of}
 use Rattle.an_state.specs.declared.activity.Activity.{Activity}
 use Rattle.an_state.specs.declared.activity.Seen.{Seen}
@@ -23,7 +24,6 @@ use Rattle.an_laws.specs.Coherent.{activities_of, Chain, Coherent, is_in_view, i
 use Rattle.an_machine.specs.Legal.{Write, Legal, state_of}
 use Rattle.an_laws.proofs.AudienceLemmas.{key_at, audience_of, coherent-first}
 use Rattle.an_laws.proofs.CoherentLemmas.{histories-coherent}
-use Rattle.an_laws.proofs.RowLemmas.{row_of-find}
 
 -- ---- what is in the view
 
@@ -36,18 +36,18 @@ passes-manifest who audience None = refl
 passes-manifest who audience (Some live) = refl
 
 -- a manifest is shown to who may read it
-pub manifest_shown : (who : Identity) (found : Option KeptManifest) → passes (shows_manifest who) found ≡ passes (may who) (option_and_then audience_of_manifest found)
+pub manifest_shown : (who : Identity) (found : Option ManifestState) → passes (shows_manifest who) found ≡ passes (may who) (option_and_then audience_of_manifest found)
 manifest_shown who None = refl
 manifest_shown who (Some row) = passes-manifest who (manifest_audience row) row.live
 
-note_live : (s : State) (who : Identity) (row : KeptNote) (live : Option LiveNote)
+note_live : (s : State) (who : Identity) (row : NoteState) (live : Option LiveNote)
     → passes (λ it. passes (λ manifest. may who (note_audience manifest row it)) (manifest_row s it.manifest)) live
     ≡ passes (may who) (option_and_then (λ it. option_map (λ manifest. note_audience manifest row it) (manifest_row s it.manifest)) live)
 note_live s who row None = refl
 note_live s who row (Some live) = sym (passes-option_map (may who) (λ manifest. note_audience manifest row live) (manifest_row s live.manifest))
 
 -- an annotation is shown to who may read it
-pub note_shown : (s : State) (who : Identity) (found : Option KeptNote) → passes (shows_note s who) found ≡ passes (may who) (option_and_then (audience_of_note s) found)
+pub note_shown : (s : State) (who : Identity) (found : Option NoteState) → passes (shows_note s who) found ≡ passes (may who) (option_and_then (audience_of_note s) found)
 note_shown s who None = refl
 note_shown s who (Some row) = note_live s who row row.live
 

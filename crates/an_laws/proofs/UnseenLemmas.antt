@@ -8,6 +8,8 @@ use Rattle.std.proofs.lemmas.List.Folds.{list_all-append, list_all-map}
 use Rattle.an_base.specs.Outcome.{first_of, passes}
 use Rattle.an_keyed.specs.Key.{same_key}
 use Rattle.an_keyed.specs.Rows.{row_of}
+use Rattle.an_keyed.proofs.KeyLemmas.{same_key-true}
+use Rattle.an_keyed.proofs.PutLemmas.{distinct-put_row}
 use Rattle.an_policy.specs.Audience.{Identity, is_in, is_named, may}
 use Rattle.an_policy.specs.Seen.{reads, as_seen}
 use Rattle.an_policy.specs.declared.who.Caller.{Caller}
@@ -18,7 +20,7 @@ use Rattle.an_state.specs.View.{audience_of_manifest, audience_of_note}
 use Rattle.an_state.specs.Entries.{after, with_row, with_rows}
 use Rattle.an_machine.specs.Legal.{Write, Accepts, Legal, state_of}
 use Rattle.an_machine.specs.Refusals.{refusals_behind}
-use Rattle.an_state.specs.State.{State, KeptReader, KeptManifest, KeptNote, LiveNote, manifest_key, note_key, manifest_row, note_row, who_of, notes_are_distinct}
+use Rattle.an_state.specs.State.{State, ReaderState, ManifestState, NoteState, LiveNote, manifest_key, note_key, manifest_row, note_row, who_of, notes_are_distinct}
 use Rattle.an_machine.specs.Versions.{is_next}
 use Rattle.an_policy.specs.Group.{same_group}
 use Rattle.an_state.specs.View.{View, view_of, view_for, is_on, note_audience, shows_manifest, shows_note, seen_as, seen_by}
@@ -33,8 +35,6 @@ use Rattle.an_state.specs.declared.entry.Entry.{Entry}
 use Rattle.an_state.specs.declared.entry.Entry.TheVariants.{Restored, Done}
 use Rattle.an_state.specs.declared.entry.Row.{Row}
 use Rattle.an_state.specs.declared.entry.Row.TheVariants as kept
-use Rattle.an_state.proofs.DistinctLemmas.{distinct-put_row}
-use Rattle.an_state.proofs.ViewLemmas.{same_key-equal}
 use Rattle.an_laws.specs.Isolation.{reads_as, activities_in, IsUnseen, AreUnseen}
 use Rattle.an_state.specs.View.{view_by}
 use Rattle.an_laws.proofs.BurialLemmas.{left_state}
@@ -95,16 +95,16 @@ module _ (reader : Identity) where
 
 module _ (reader : Identity) where
   -- there is a manifest, and the caller is in its group
-  abbrev opens_to : Option KeptManifest → Bool
+  abbrev opens_to : Option ManifestState → Bool
   opens_to found = passes (λ manifest. is_in reader manifest.group) found
 
-  below-opened : (row : KeptNote) (live : LiveNote) (found : Option KeptManifest)
+  below-opened : (row : NoteState) (live : LiveNote) (found : Option ManifestState)
       → passes (λ manifest. may reader (note_audience manifest row live)) found ≡ (opens_to found && (is_in reader live.group || is_named reader row.owner))
   below-opened row live None = refl
   below-opened row live (Some manifest) = refl
 
   module _ (s t : State) (alike : (name : List ℕ) → opens_to (manifest_row t name) ≡ opens_to (manifest_row s name)) where
-    live-alike : (row : KeptNote) (live : Option LiveNote)
+    live-alike : (row : NoteState) (live : Option LiveNote)
         → passes (λ its. passes (λ manifest. may reader (note_audience manifest row its)) (manifest_row t its.manifest)) live
         ≡ passes (λ its. passes (λ manifest. may reader (note_audience manifest row its)) (manifest_row s its.manifest)) live
     live-alike row None = refl
@@ -114,7 +114,7 @@ module _ (reader : Identity) where
         ∙ sym (below-opened row live (manifest_row s live.manifest))
 
     -- where each manifest is open to the caller in both states or in none, the same annotations are shown
-    shown-alike : (row : KeptNote) → shows_note t reader row ≡ shows_note s reader row
+    shown-alike : (row : NoteState) → shows_note t reader row ≡ shows_note s reader row
     shown-alike row = live-alike row row.live
 
 -- ---- what a write leaves of a view
@@ -126,14 +126,14 @@ record Keeps (s t : State) (reader : Identity) : Type 0 where
 
 module _ (s : State) (reader : Identity) where
   -- what is put in place of what isn't read, and isn't read itself
-  keeps-note : (row : KeptNote) → reads reader (option_and_then (audience_of_note s) (note_row s row.owner row.name)) ≡ false → reads reader (audience_of_note s row) ≡ false
+  keeps-note : (row : NoteState) → reads reader (option_and_then (audience_of_note s) (note_row s row.owner row.name)) ≡ false → reads reader (audience_of_note s row) ≡ false
       → Keeps s (with_row s (kept.Note row)) reader
   keeps-note row before behind = record {
     manifests = refl;
     notes = hidden-put_row (shows_note s reader) note_key row s.notes (note_shown s reader (Some row) ∙ behind) (note_shown s reader (note_row s row.owner row.name) ∙ before);
   }
 
-  manifests-kept : (row : KeptManifest) (manifests : List KeptManifest) → reads reader (option_and_then audience_of_manifest (row_of manifest_key (manifest_key row) manifests)) ≡ false
+  manifests-kept : (row : ManifestState) (manifests : List ManifestState) → reads reader (option_and_then audience_of_manifest (row_of manifest_key (manifest_key row) manifests)) ≡ false
       → reads reader (audience_of_manifest row) ≡ false
       → filter (shows_manifest reader) (with_manifest (record s { manifests = manifests }) row).manifests ≡ filter (shows_manifest reader) manifests
   manifests-kept row manifests before behind =
@@ -141,11 +141,11 @@ module _ (s : State) (reader : Identity) where
       (manifest_shown reader (row_of manifest_key (manifest_key row) manifests) ∙ before)
 
   -- a manifest in place of one that is as open leaves each as open as it was
-  alike-put : (t : State) (row : KeptManifest) → t.manifests ≡ s.manifests → opens_to reader (Some row) ≡ opens_to reader (manifest_row s row.name)
+  alike-put : (t : State) (row : ManifestState) → t.manifests ≡ s.manifests → opens_to reader (Some row) ≡ opens_to reader (manifest_row s row.name)
       → (name : List ℕ) → opens_to reader (manifest_row (with_manifest t row) name) ≡ opens_to reader (manifest_row s name)
   alike-put t row rows same name = elim (cases_Bool (same_key (manifest_key row) (key_at None name))) [
     | inl is ↦
-        let named : row.name ≡ name = ap (λ key. key.name) (same_key-equal (manifest_key row) (key_at None name) is) in
+        let named : row.name ≡ name = ap (λ key. key.name) (same_key-true (manifest_key row) (key_at None name) is) in
         ap (opens_to reader) (manifest_found t row name ∙ cond-true _ _ _ is) ∙ same ∙ ap (λ its. opens_to reader (manifest_row s its)) named
     | inr isnt ↦
         ap (opens_to reader) (manifest_found t row name ∙ cond-false _ _ _ isnt)
@@ -159,7 +159,7 @@ module _ (s : State) (who : Identity) (at : ℤ) (reader : Identity) where
   abbrev Unseen : Asked → Type 0
   Unseen asked = seen_by reader (effect_of s who at asked).activities ≡ []
 
-  keeps-reader : (row : KeptReader) → Keeps s (with_row s (kept.Reader row)) reader
+  keeps-reader : (row : ReaderState) → Keeps s (with_row s (kept.Reader row)) reader
   keeps-reader row = record { manifests = refl; notes = refl }
 
   -- a manifest that the caller can't read is in a group that the caller isn't in
@@ -167,7 +167,7 @@ module _ (s : State) (who : Identity) (at : ℤ) (reader : Identity) where
   outside group hidden = elim (and_cases (is_in reader group) true hidden) [ inl is ↦ is | inr isnt ↦ absurd (both_ways _ isnt refl) ]
 
   -- the manifest that it replaces is in that group
-  same-closed : (row : KeptManifest) (found : Option KeptManifest) → is_in reader row.group ≡ false → passes (λ old. not (same_group old.group row.group)) found ≡ false
+  same-closed : (row : ManifestState) (found : Option ManifestState) → is_in reader row.group ≡ false → passes (λ old. not (same_group old.group row.group)) found ≡ false
       → opens_to reader found ≡ false
   same-closed row None closed fixed = refl
   same-closed row (Some old) closed fixed = ap (is_in reader) (same_group-equal old.group row.group (not-false _ fixed)) ∙ closed
@@ -200,12 +200,12 @@ module _ (s : State) (who : Identity) (at : ℤ) (reader : Identity) where
   -- ---- the deletion of a manifest
 
   -- tombstones aren't shown
-  buried-hidden : (rows : List KeptNote) → list_all (λ row. not (shows_note s reader row)) (map buried rows) ≡ true
+  buried-hidden : (rows : List NoteState) → list_all (λ row. not (shows_note s reader row)) (map buried rows) ≡ true
   buried-hidden [] = refl
   buried-hidden (row ∷ rows) = buried-hidden rows
 
   -- an annotation whose burial isn't seen wasn't shown
-  burials-hidden : (rows : List KeptNote) → list_all (is_unread reader) (map (burial s who at) rows) ≡ true → list_all (λ row. not (shows_note s reader row)) rows ≡ true
+  burials-hidden : (rows : List NoteState) → list_all (is_unread reader) (map (burial s who at) rows) ≡ true → list_all (λ row. not (shows_note s reader row)) rows ≡ true
   burials-hidden [] unread = refl
   burials-hidden (row ∷ rows) unread =
       let both = and_parts (is_unread reader (burial s who at row)) (list_all (is_unread reader) (map (burial s who at) rows)) unread in
@@ -220,7 +220,7 @@ module _ (s : State) (who : Identity) (at : ℤ) (reader : Identity) where
       hidden-put_all (shows_note s reader) note_key (map buried (notes_on s name)) s.notes (buried-hidden (notes_on s name))
       (list_all-map (λ row. not (passes (shows_note s reader) (row_of note_key (note_key row) s.notes))) buried (notes_on s name) ∙ old)
 
-  keeps-buried : (name : List ℕ) (version : ℕ) (old : KeptManifest) → manifest_row s name ≡ Some old → notes_are_distinct s ≡ true
+  keeps-buried : (name : List ℕ) (version : ℕ) (old : ManifestState) → manifest_row s name ≡ Some old → notes_are_distinct s ≡ true
       → Unseen (Deletion (object.Manifest name) version) → KeepsBy (Deletion (object.Manifest name) version)
   keeps-buried name version old is distinct unseen =
       let could = option_and_then audience_of_manifest (manifest_row s name) in

@@ -10,6 +10,7 @@ use Rattle.an_base.specs.Name.{is_name}
 use Rattle.an_base.specs.Token.{is_token}
 use Rattle.an_keyed.specs.Key.{Key}
 use Rattle.an_keyed.specs.Rows.{row_of}
+use Rattle.an_keyed.proofs.PutLemmas.{all-put_row}
 use Rattle.an_policy.specs.Audience.{Identity, anonymous, operator, signed}
 use Rattle.an_policy.specs.Group.{is_valid_group}
 use Rattle.an_policy.specs.declared.group.Audience.{Audience}
@@ -24,11 +25,11 @@ use Rattle.an_state.specs.Entries.{with_row, with_rows}
 use Rattle.an_machine.specs.Refusals.{signed_by, signer_of}
 use Rattle.an_state.specs.Rows.{reader_agrees}
 use Rattle.an_state.specs.Sound.{agrees}
-use Rattle.an_state.specs.State.{State, KeptReader, KeptManifest, LiveManifest, KeptNote, LiveNote, reader_key, manifest_key, note_key, reader_row, manifest_row, live_readers, reader_with_token}
+use Rattle.an_state.specs.State.{State, ReaderState, ManifestState, LiveManifest, NoteState, LiveNote, reader_key, manifest_key, note_key, reader_row, manifest_row, live_readers, reader_with_token}
 use Rattle.an_state.specs.declared.activity.Activity.{Activity}
 use Rattle.an_state.specs.declared.entry.Row.{Row}
 use Rattle.an_state.specs.declared.entry.Row.TheVariants as kept
-use Rattle.an_laws.proofs.FoundLemmas.{all-put_row, found-passes}
+use Rattle.an_laws.proofs.FoundLemmas.{found-passes}
 use Rattle.an_rows.specs.Valid.{if_any, is_iri, is_valid_reader, is_valid_reader_row, is_manifest_group, is_valid_manifest_row, is_valid_live_note, is_valid_note_row, is_valid_audience, is_valid_activity, is_valid_row}
 use Rattle.an_rows.proofs.OpenedLemmas.{AllValid}
 
@@ -71,7 +72,7 @@ later-moment a b h k = cond_both (int_lt a b) b a (λ m. is_moment m ≡ true) (
 
 -- ---- audiences
 
-pub manifest-audience : (row : KeptManifest) → is_manifest_group row.group ≡ true → if_any (is_valid_audience None) (audience_of_manifest row) ≡ true
+pub manifest-audience : (row : ManifestState) → is_manifest_group row.group ≡ true → if_any (is_valid_audience None) (audience_of_manifest row) ≡ true
 unfolding is_valid_audience
 manifest-audience row grouped = by_live row.live
   where
@@ -79,11 +80,11 @@ manifest-audience row grouped = by_live row.live
     by_live None = refl
     by_live (Some l) = and_from _ _ grouped refl
 
-pub note-audience : (s : State) (row : KeptNote) → AllValid s → if_any is_valid_live_note row.live ≡ true → if_any (is_valid_audience (Some row.owner)) (audience_of_note s row) ≡ true
+pub note-audience : (s : State) (row : NoteState) → AllValid s → if_any is_valid_live_note row.live ≡ true → if_any (is_valid_audience (Some row.owner)) (audience_of_note s row) ≡ true
 unfolding is_valid_audience is_valid_manifest_row
 note-audience s row all valid = by_live row.live valid
   where
-    by_manifest : (live : LiveNote) (found : Option KeptManifest) → is_valid_group live.group ≡ true → if_any is_valid_manifest_row found ≡ true
+    by_manifest : (live : LiveNote) (found : Option ManifestState) → is_valid_group live.group ≡ true → if_any is_valid_manifest_row found ≡ true
         → if_any (is_valid_audience (Some row.owner)) (option_map (λ m. record { outer = m.group; inner = live.group; owner = Some row.owner }) found) ≡ true
     by_manifest live None grouped valid = refl
     by_manifest live (Some m) grouped valid =
@@ -112,7 +113,7 @@ is_good_signer anonymous = true
 is_good_signer operator = true
 is_good_signer (signed reader) = is_good reader
 
-good-row : (row : KeptReader) → is_valid_reader_row row ≡ true → if_any is_good row.live ≡ true
+good-row : (row : ReaderState) → is_valid_reader_row row ≡ true → if_any is_good row.live ≡ true
 unfolding is_valid_reader_row
 good-row row valid =
     let parts = and_parts (is_name row.name && is_number row.version && agrees row) _ valid in
@@ -126,7 +127,7 @@ good-row row valid =
         let iri = (and_parts (is_token reader.token) _ (and_parts (is_token reader.token && is_iri reader.user) _ valid).0).1 in
         and_from _ _ (ap is_name same ∙ named) iri
 
-good-live : (rows : List KeptReader) → list_all is_valid_reader_row rows ≡ true → list_all is_good (filter_map (λ row. row.live) rows) ≡ true
+good-live : (rows : List ReaderState) → list_all is_valid_reader_row rows ≡ true → list_all is_good (filter_map (λ row. row.live) rows) ≡ true
 good-live [] valid = refl
 good-live (row ∷ rows) valid =
     let parts = and_parts (is_valid_reader_row row) _ valid in
@@ -146,7 +147,7 @@ good-signed : (found : Option Reader) → if_any is_good found ≡ true → if_a
 good-signed None h = refl
 good-signed (Some reader) h = h
 
-good-named : (found : Option KeptReader) → if_any is_valid_reader_row found ≡ true → if_any is_good (option_and_then (λ row. row.live) found) ≡ true
+good-named : (found : Option ReaderState) → if_any is_valid_reader_row found ≡ true → if_any is_good (option_and_then (λ row. row.live) found) ≡ true
 good-named None h = refl
 good-named (Some row) h = good-row row h
 

@@ -17,6 +17,7 @@ use Rattle.serde_json.specs.Data.{Data}
 use Rattle.std.specs.Result.{result_map_both}
 use Rattle.an_keyed.specs.Key.{Key, same_key}
 use Rattle.an_keyed.specs.Rows.{row_of}
+use Rattle.an_keyed.proofs.PutLemmas.{row_of-find}
 use Rattle.an_policy.specs.Audience.{Identity, anonymous, operator, signed, is_named}
 use Rattle.an_policy.specs.Group.{is_valid_group}
 use Rattle.an_policy.specs.declared.group.Audience.{Audience}
@@ -30,7 +31,7 @@ use Rattle.an_state.specs.Entries.{after, with_rows}
 use Rattle.an_machine.specs.Refusals.{is_anothers, refusals_before}
 use Rattle.an_machine.specs.Versions.{is_next}
 use Rattle.an_state.specs.Sound.{is_sound, is_live_manifest, stands_on_live}
-use Rattle.an_state.specs.State.{State, KeptManifest, LiveManifest, KeptNote, LiveNote, manifest_key, note_key, manifest_row, note_row}
+use Rattle.an_state.specs.State.{State, ManifestState, LiveManifest, NoteState, LiveNote, manifest_key, note_key, manifest_row, note_row}
 use Rattle.an_state.specs.View.{is_on, manifest_audience}
 use Rattle.an_machine.specs.declared.asked.Asked.{Asked}
 use Rattle.an_machine.specs.declared.asked.Asked.TheVariants.{Deletion}
@@ -48,7 +49,6 @@ use Rattle.an_policy.specs.Reader.{reader_of}
 use Rattle.an_machine.specs.Legal.{Write, Accepts, Legal, AreWrites, state_of}
 use Rattle.an_laws.proofs.RefusalLemmas.{none-of, none-when, note-based}
 use Rattle.an_laws.proofs.RiseLemmas.{drop-next}
-use Rattle.an_laws.proofs.RowLemmas.{row_of-find}
 use Rattle.an_laws.proofs.SoundLemmas.{sound-after, histories-sound}
 use Rattle.an_laws.proofs.SoundParts.{sound-parts}
 use Rattle.an_laws.proofs.StepLemmas.{accepted-is}
@@ -68,13 +68,13 @@ pub record IsValidEffect (effect : Effect) : Type 0 where
 
 -- ---- parts of valid rows
 
-record ManifestParts (row : KeptManifest) : Type 0 where
+record ManifestParts (row : ManifestState) : Type 0 where
   name : is_name row.name ≡ true
   number : is_number row.version ≡ true
   group : is_manifest_group row.group ≡ true
   live : if_any is_valid_live_manifest row.live ≡ true
 
-manifest-parts : (row : KeptManifest) → is_valid_manifest_row row ≡ true → ManifestParts row
+manifest-parts : (row : ManifestState) → is_valid_manifest_row row ≡ true → ManifestParts row
 unfolding is_valid_manifest_row
 manifest-parts row valid =
     let live = and_parts (is_name row.name && is_number row.version && is_manifest_group row.group) _ valid in
@@ -82,13 +82,13 @@ manifest-parts row valid =
     let both = and_parts (is_name row.name) _ group.0 in
     record { name = both.0; number = both.1; group = group.1; live = live.1 }
 
-record NoteParts (row : KeptNote) : Type 0 where
+record NoteParts (row : NoteState) : Type 0 where
   owner : is_name row.owner ≡ true
   name : is_name row.name ≡ true
   number : is_number_of_note row.live row.version ≡ true
   live : if_any is_valid_live_note row.live ≡ true
 
-note-parts : (row : KeptNote) → is_valid_note_row row ≡ true → NoteParts row
+note-parts : (row : NoteState) → is_valid_note_row row ≡ true → NoteParts row
 unfolding is_valid_note_row
 note-parts row valid =
     let live = and_parts (is_name row.owner && is_name row.name && is_number_of_note row.live row.version) _ valid in
@@ -139,7 +139,7 @@ module _ (s : State) (who : Identity) (at : ℤ) (all : AllValid s) (good : is_g
   manifest-found : (name : List ℕ) → if_any is_valid_manifest_row (manifest_row s name) ≡ true
   manifest-found name = found-any manifest_key is_valid_manifest_row (record { owner = None; name = name }) s.manifests all.manifests
 
-  manifest-moment : (before : Option KeptManifest) → if_any is_valid_manifest_row before ≡ true → is_moment (unwrap_or (manifest_made before) at) ≡ true
+  manifest-moment : (before : Option ManifestState) → if_any is_valid_manifest_row before ≡ true → is_moment (unwrap_or (manifest_made before) at) ≡ true
   manifest-moment None valid = when
   manifest-moment (Some row) valid = by_live row.live (manifest-parts row valid).live
     where
@@ -147,7 +147,7 @@ module _ (s : State) (who : Identity) (at : ℤ) (all : AllValid s) (good : is_g
       by_live None h = when
       by_live (Some l) h = (and_parts (is_moment l.created) _ (and_parts (is_moment l.created && if_any is_moment l.modified) _ h).0).0
 
-  manifest-could : (before : Option KeptManifest) → if_any is_valid_manifest_row before ≡ true → if_any (is_valid_audience None) (option_and_then audience_of_manifest before) ≡ true
+  manifest-could : (before : Option ManifestState) → if_any is_valid_manifest_row before ≡ true → if_any (is_valid_audience None) (option_and_then audience_of_manifest before) ≡ true
   manifest-could None valid = refl
   manifest-could (Some row) valid = manifest-audience row (manifest-parts row valid).group
 
@@ -170,11 +170,11 @@ module _ (s : State) (who : Identity) (at : ℤ) (all : AllValid s) (good : is_g
   note-found : (owner name : List ℕ) → if_any is_valid_note_row (note_row s owner name) ≡ true
   note-found owner name = found-any note_key is_valid_note_row (record { owner = Some owner; name = name }) s.notes all.notes
 
-  note-live : (before : Option KeptNote) → if_any is_valid_note_row before ≡ true → if_any is_valid_live_note (live_in before) ≡ true
+  note-live : (before : Option NoteState) → if_any is_valid_note_row before ≡ true → if_any is_valid_live_note (live_in before) ≡ true
   note-live None valid = refl
   note-live (Some row) valid = (note-parts row valid).live
 
-  note-could : (owner name : List ℕ) (before : Option KeptNote) → if_any is_valid_note_row before ≡ true → if_any (λ row. same_key (note_key row) (record { owner = Some owner; name = name })) before ≡ true
+  note-could : (owner name : List ℕ) (before : Option NoteState) → if_any is_valid_note_row before ≡ true → if_any (λ row. same_key (note_key row) (record { owner = Some owner; name = name })) before ≡ true
       → if_any (is_valid_audience (Some owner)) (option_and_then (audience_of_note s) before) ≡ true
   note-could owner name None valid keyed = refl
   note-could owner name (Some row) valid keyed =
@@ -216,7 +216,7 @@ module _ (s : State) (who : Identity) (at : ℤ) (all : AllValid s) (good : is_g
   -- ---- deletions
 
   -- an annotation that is live has an audience, since its manifest is live
-  live-seen : (row : KeptNote) → is_some row.live ≡ true → stands_on_live s row ≡ true → is_some (audience_of_note s row) ≡ true
+  live-seen : (row : NoteState) → is_some row.live ≡ true → stands_on_live s row ≡ true → is_some (audience_of_note s row) ≡ true
   live-seen row lives stands = by_live row.live lives stands
     where
       by_live : (live : Option LiveNote) → is_some live ≡ true → (elim live [ None ↦ true | Some l ↦ is_live_manifest s l.manifest ]) ≡ true
@@ -225,7 +225,7 @@ module _ (s : State) (who : Identity) (at : ℤ) (all : AllValid s) (good : is_g
       by_live (Some l) h k = some-mapped {B = Audience} (λ m. record { outer = m.group; inner = l.group; owner = Some row.owner }) (λ r. is_some r.live) (manifest_row s l.manifest) k
 
   module _ (stand : list_all (stands_on_live s) s.notes ≡ true) where
-    seen-before : (before : Option KeptNote) → passes (λ r. is_some r.live) before ≡ true → if_any (stands_on_live s) before ≡ true → is_some (option_and_then (audience_of_note s) before) ≡ true
+    seen-before : (before : Option NoteState) → passes (λ r. is_some r.live) before ≡ true → if_any (stands_on_live s) before ≡ true → is_some (option_and_then (audience_of_note s) before) ≡ true
     seen-before None live stands = absurd (cc)
     seen-before (Some row) live stands = live-seen row live stands
 
@@ -243,14 +243,14 @@ module _ (s : State) (who : Identity) (at : ℤ) (all : AllValid s) (good : is_g
         }
 
     -- the annotations of a manifest are buried
-    live-on : (manifest : List ℕ) (row : KeptNote) → is_on manifest row ≡ true → is_some row.live ≡ true
+    live-on : (manifest : List ℕ) (row : NoteState) → is_on manifest row ≡ true → is_some row.live ≡ true
     live-on manifest row on = by_live row.live on
       where
         by_live : (live : Option LiveNote) → passes (λ l. bytes_eq l.manifest manifest) live ≡ true → is_some live ≡ true
         by_live None h = absurd (cc)
         by_live (Some l) h = refl
 
-    buried-valid : (row : KeptNote) → is_some row.live ≡ true → is_valid_note_row row ≡ true → is_valid_note_row (buried row) ≡ true
+    buried-valid : (row : NoteState) → is_some row.live ≡ true → is_valid_note_row row ≡ true → is_valid_note_row (buried row) ≡ true
     unfolding is_valid_note_row
     buried-valid row lives valid =
         let parts = note-parts row valid in
@@ -260,16 +260,16 @@ module _ (s : State) (who : Identity) (at : ℤ) (all : AllValid s) (good : is_g
         by_live None h k = absurd (cc)
         by_live (Some l) h k = k
 
-    burial-valid : (row : KeptNote) → is_some row.live ≡ true → is_valid_note_row row ≡ true → stands_on_live s row ≡ true → is_valid_activity (burial s who at row) ≡ true
+    burial-valid : (row : NoteState) → is_some row.live ≡ true → is_valid_note_row row ≡ true → stands_on_live s row ≡ true → is_valid_activity (burial s who at row) ≡ true
     burial-valid row lives valid stands =
         let parts = note-parts row valid in
         note_activity-valid who at good when row.owner row.name (audience_of_note s row) None parts.owner parts.name (note-audience s row all parts.live) refl
         (or_left _ _ (live-seen row lives stands))
 
     -- what holds of each live annotation on the manifest holds of all that are left of them
-    all-on : {A : Type 0} (manifest : List ℕ) (f : KeptNote → A) (p : A → Bool)
-        → ((row : KeptNote) → is_some row.live ≡ true → is_valid_note_row row ≡ true → stands_on_live s row ≡ true → p (f row) ≡ true)
-        → (rows : List KeptNote) → list_all is_valid_note_row rows ≡ true → list_all (stands_on_live s) rows ≡ true → list_all p (map f (filter (is_on manifest) rows)) ≡ true
+    all-on : {A : Type 0} (manifest : List ℕ) (f : NoteState → A) (p : A → Bool)
+        → ((row : NoteState) → is_some row.live ≡ true → is_valid_note_row row ≡ true → stands_on_live s row ≡ true → p (f row) ≡ true)
+        → (rows : List NoteState) → list_all is_valid_note_row rows ≡ true → list_all (stands_on_live s) rows ≡ true → list_all p (map f (filter (is_on manifest) rows)) ≡ true
     all-on manifest f p each [] valid stands = refl
     all-on manifest f p each (row ∷ rows) valid stands =
         let valids = and_parts (is_valid_note_row row) _ valid in
@@ -278,14 +278,14 @@ module _ (s : State) (who : Identity) (at : ℤ) (all : AllValid s) (good : is_g
         cond_both (is_on manifest row) (row ∷ filter (is_on manifest) rows) (filter (is_on manifest) rows) (λ l. list_all p (map f l) ≡ true)
         (λ on. and_from _ _ (each row (live-on manifest row on) valids.0 stood.0) rest) (λ off. rest)
 
-    tombstone-valid : (name : List ℕ) (version : ℕ) → is_name name ≡ true → is_number version ≡ true → (before : Option KeptManifest) → if_any is_valid_manifest_row before ≡ true
+    tombstone-valid : (name : List ℕ) (version : ℕ) → is_name name ≡ true → is_number version ≡ true → (before : Option ManifestState) → if_any is_valid_manifest_row before ≡ true
         → list_all is_valid_row (option_to_list (option_map kept.Manifest (option_map (manifest_tombstone name version) before))) ≡ true
     unfolding is_valid_manifest_row
     tombstone-valid name version named numbered None valid = refl
     tombstone-valid name version named numbered (Some row) valid =
         and_from _ _ (and_from _ _ (and_from _ _ (and_from _ _ named numbered) (manifest-parts row valid).group) refl) refl
 
-    seen-manifest : (before : Option KeptManifest) → passes (λ r. is_some r.live) before ≡ true → is_some (option_and_then audience_of_manifest before) ≡ true
+    seen-manifest : (before : Option ManifestState) → passes (λ r. is_some r.live) before ≡ true → is_some (option_and_then audience_of_manifest before) ≡ true
     seen-manifest None live = absurd (cc)
     seen-manifest (Some row) live = by_live row.live live
       where

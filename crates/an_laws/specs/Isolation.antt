@@ -9,7 +9,7 @@ use Rattle.an_policy.specs.declared.who.Caller.{Caller}
 use Rattle.an_policy.specs.declared.who.Caller.TheVariants.{Anonymous, Operator, Token, Named}
 use Rattle.an_state.specs.Entries.{after}
 use Rattle.an_machine.specs.Legal.{Write}
-use Rattle.an_state.specs.State.{State, KeptReader, KeptNote, reader_row, who_of}
+use Rattle.an_state.specs.State.{State, ReaderState, NoteState, reader_row, who_of}
 use Rattle.an_state.specs.View.{seen_by, view_by}
 use Rattle.an_state.specs.declared.activity.Activity.{Activity}
 use Rattle.an_machine.specs.declared.command.Decided.{Decided}
@@ -45,7 +45,7 @@ abbrev pub IsUnseen : State → Caller → Entry → Type 0
 IsUnseen s caller entry = seen_by (reads_as (who_of s caller)) (activities_in entry) ≡ []
 
 -- the caller's row: the one with its name, or the live one with its token
-abbrev pub is_row_of : Caller → KeptReader → Bool
+abbrev pub is_row_of : Caller → ReaderState → Bool
 is_row_of Anonymous row = false
 is_row_of Operator row = false
 is_row_of (Token token) row = passes (λ reader. bytes_eq reader.token token) row.live
@@ -78,7 +78,7 @@ is_note (object.Manifest name) = false
 is_note (object.Note owner name) = true
 
 -- the rows of the caller's own annotations, tombstones too
-abbrev pub own_notes : State → Option Identity → List KeptNote
+abbrev pub own_notes : State → Option Identity → List NoteState
 own_notes s who = filter (λ row. passes (λ its. is_named its row.owner) who) s.notes
 
 -- the caller may read the same in both, and has the same annotations

@@ -2,17 +2,24 @@
 use Rattle.std.proofs.Common.{◌≡◌, ℕ, suc, ◌+◌, ◌≤◌, ◌⊎◌, inl, inr, ⊎_elim, Bool, true, false, cond, nat_lt, List, [], ◌∷◌, length, take, Option, Some, None, Result, Ok, Err, IfOk, OnErr, refl, sym, ap, subst, ◌∙◌, arith}
 use Rattle.std.proofs.Math.Seq.{take-length}
 use Rattle.an_code.specs.declared.code.Code.{Code}
+use Rattle.an_machine.specs.declared.command.Decided.{Decided}
+use Rattle.an_machine.specs.declared.command.Refused.{Refused}
+use Rattle.an_shelf.specs.Store.{Store}
+use Rattle.an_shelf.specs.Writing.{Leaves as StoreLeaves, RunsOut}
+use Rattle.an_shelf.specs.declared.error.WriteError.{WriteError}
+use Rattle.an_shelf.specs.declared.error.WriteError.TheVariants as write
+use Rattle.an_state.specs.Entries.{state_after}
 use Rattle.an_state.specs.State.{State}
 use Rattle.an_world.specs.Link.{Traffic, Reads, WritesFront}
 use Rattle.an_lines.specs.Asked.{asked_of}
 use Rattle.an_lines.specs.Import.{Progress, Imported, import_asked, import_line, import_lines, import_on, import_written, imported_of, report_of, start, with_done}
 use Rattle.an_lines.specs.ImportEnds.{LeavesFront, LeavesAll, TellsWhole, TellsFront, Comes, Imports}
 use Rattle.an_lines.specs.Input.{input_limit, IsReadWhole}
-use Rattle.an_lines.specs.Shown.{Leads}
+use Rattle.an_lines.specs.Shown.{Leads, StaysOrLeads}
 use Rattle.an_lines.specs.Split.{lines_of}
 use Rattle.an_lines.specs.Told.{Tells}
 use Rattle.an_lines.specs.Written as written
-use Rattle.an_lines.specs.Written.{Written, written_of}
+use Rattle.an_lines.specs.Written.{Written, written_by, written_of}
 use Rattle.an_lines.specs.declared.asked.Asked.{Asked}
 use Rattle.an_lines.specs.declared.asked.Asked.TheVariants as asked
 use Rattle.an_lines.specs.declared.counts.Counts.{Counts}
@@ -83,6 +90,27 @@ pub leads-err : (r : Result Progress Code) (s t : State) (why : Code) → Leads 
 leads-err (Ok p) s t why l = absurd l
 leads-err (Err other) s t why l = (rw l.0 refl, l.1)
 
+-- ---- a write that isn't done, or not whole
+
+module _ (counts : Counts) (version : ℕ) (decided : Result Decided Refused) (old new : Store) where
+  abbrev pub Lost : Type 0
+  Lost = StaysOrLeads (import_written counts old.state (written_by old.state version decided)) old.state new.state
+
+  runs_out-lost : RunsOut decided old new → Lost
+  runs_out-lost (inl h) = inl h.0.same_state
+  runs_out-lost (inr waits) = inr (
+    record { state = state_after old.state waits.write.entry; counts = with_done waits.write.reply.repeat counts },
+    ap (λ d. import_written counts old.state (written_by old.state version d)) waits.is,
+    waits.leads ∙ ap (state_after old.state) (sym waits.has),
+  )
+
+  pub write-lost : (error : WriteError) → (¬ (error ≡ write.Memory) → StoreLeaves old new) → (error ≡ write.Memory → RunsOut decided old new) → Lost
+  write-lost (write.Refused refusal) leaves memory = inl (leaves (λ is. cc)).same_state
+  write-lost write.Keeper leaves memory = inl (leaves (λ is. cc)).same_state
+  write-lost write.Memory leaves memory = runs_out-lost (memory refl)
+
+-- ---- counts
+
 -- how many lines were counted
 pub counted : Counts → ℕ
 counted counts = counts.accepted + counts.repeated + counts.old
@@ -123,6 +151,11 @@ module _ (line : List ℕ) (lines left : List (List ℕ)) (number : ℕ) (p : Pr
 
   pub line_done-front : (q : Progress) (t : State) → import_line p line ≡ Ok q → Front lines (number + 1) q t → Front left number p t
   line_done-front q t is front = subst (λ xs. Front xs number p t) (sym first) (front_more line lines number p q t is front)
+
+  -- memory ran out in the line, which may have been applied
+  pub lost_front : (t : State) → StaysOrLeads (import_line p line) p.state t → Front left number p t
+  lost_front t (inl same) = subst (Front left number p) (sym same) (front_none left number p)
+  lost_front t (inr (q, is, leads)) = line_done-front q t is (subst (Front lines (number + 1) q) (sym leads) (front_none lines (number + 1) q))
 
   -- the line was refused
   pub line_stops : (why : Code) → import_line p line ≡ Err why → record { progress = p; stop = Some (record { line = number; why = why }) } ≡ import_lines left number p

@@ -10,10 +10,7 @@ use Rattle.an_machine.specs.Step.{step}
 use Rattle.an_state.specs.declared.command.Command.{Command}
 use Rattle.an_machine.specs.declared.command.Decided.{Decided}
 use Rattle.an_machine.specs.declared.command.Refused.{Refused}
-use Rattle.an_machine.specs.declared.command.Refused.TheVariants.{NotSigned, NotWriter, NotOwn}
-use Rattle.an_machine.specs.declared.command.Refused.TheVariants.{NoManifest, NotMember, Shape}
-use Rattle.an_machine.specs.declared.command.Refused.TheVariants.{GroupFixed, TokenTaken, Version}
-use Rattle.an_machine.specs.declared.command.Refused.TheVariants.{Memory}
+use Rattle.an_machine.specs.declared.command.Refused.TheVariants.{Version}
 use Rattle.an_state.specs.Entries.{state_after}
 use Rattle.an_answers.specs.Answer.{write_refusal}
 
@@ -32,15 +29,7 @@ writer (Some name) = caller.Named name
 -- a write whose number is below the current one is old
 abbrev pub is_old : ℕ → Refused → Bool
 is_old version (Version current) = nat_lt version current
-is_old version NotSigned = false
-is_old version NotWriter = false
-is_old version NotOwn = false
-is_old version NoManifest = false
-is_old version NotMember = false
-is_old version (Shape shape) = false
-is_old version GroupFixed = false
-is_old version TokenTaken = false
-is_old version Memory = false
+is_old version _ = false
 
 -- what was decided of a write with this number
 abbrev pub written_by : State → ℕ → Result Decided Refused → Written

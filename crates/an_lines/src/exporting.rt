@@ -1,5 +1,5 @@
 //! What a reader sees of a store, as lines that can be imported again.
-ghost use Rattle.std.specs.Prelude.{◌≡◌, ◌<◌, IfOk, option_map};
+ghost use Rattle.std.specs.Prelude.{◌≡◌, ◌<◌, IfOk, None, option_map};
 ghost use Rattle.an_base.specs.Faults.{Rises};
 ghost use Rattle.an_export.specs.Export.{exported};
 ghost use Rattle.an_state.specs.State.{who_of};
@@ -26,6 +26,7 @@ use std::sync::ledger::{Blank, Ledger};
 /// `-`: a line for each manifest and each annotation, which writes it as it is. A name that is no
 /// live reader's is told. Nothing is read.
 pub fn export<L: Link, K: Keeper>(alloc: Global, link: &mut L, desk: &Desk<K>, by: &str) -> Status
+    requires nothing_waits { desk.now.waiting ≡ None }
     ensures exports { TellsReport (export_report desk.now.state by.now)
         (Rises (L.write_faults link.old) (L.write_faults link.new))
         (L.traffic link.old) (L.traffic link.new) result }

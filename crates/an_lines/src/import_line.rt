@@ -9,7 +9,7 @@ ghost use Rattle.an_shelf.specs.Writing.{IsRefused};
 ghost use Rattle.an_answers.specs.Answer.{write_refusal};
 ghost use Rattle.an_lines.specs.Asked.{is_sendable_asked};
 ghost use Rattle.an_lines.specs.Import.{import_line, import_asked, import_written, with_old};
-ghost use Rattle.an_lines.specs.Shown.{Leads};
+ghost use Rattle.an_lines.specs.Shown.{Leads, StaysOrLeads};
 ghost use Rattle.an_lines.specs.Written.{is_old, written_by, written_of};
 
 use crate::asked::{Asked, asked_of};
@@ -24,7 +24,8 @@ use an_shelf::{Desk, WriteError};
 use an_state::Command;
 use std::alloc::Global;
 
-/// Applies a line of an import, and counts it. Answers why it is refused.
+/// Applies a line of an import, and counts it. Answers why it is refused. Where memory runs out it
+/// may be applied all the same.
 #[tactic(auto, using(crate::proofs::SendableLemmas::asked_writes), unfolding(crate::specs::Import::import_line))]
 pub(crate) fn import_line<K: Keeper>(
     alloc: Global,
@@ -36,7 +37,9 @@ pub(crate) fn import_line<K: Keeper>(
     ensures leads { IfOk result (Leads
         (import_line (record { state = desk.old.state; counts = counts }) line.now)
         desk.old.state desk.new.state) }
-    ensures still { OnErr result (desk.new.state ≡ desk.old.state) }
+    ensures lost { OnErr result (StaysOrLeads
+        (import_line (record { state = desk.old.state; counts = counts }) line.now)
+        desk.old.state desk.new.state) }
     ensures counted { result ≡ Err KeepError.Failed → Rises desk.old.faults desk.new.faults }
     ensures faults_kept { desk.old.faults ≤ desk.new.faults }
     ensures told { IsSome desk.new.told → IsSome desk.old.told }
@@ -58,7 +61,8 @@ fn import_asked<K: Keeper>(
     requires count { counts.accepted + counts.repeated + counts.old < 2 ^ 64 - 1 }
     ensures leads { IfOk result (Leads (import_asked counts desk.old.state (Ok asked))
         desk.old.state desk.new.state) }
-    ensures still { OnErr result (desk.new.state ≡ desk.old.state) }
+    ensures lost { OnErr result (StaysOrLeads (import_asked counts desk.old.state (Ok asked))
+        desk.old.state desk.new.state) }
     ensures counted { result ≡ Err KeepError.Failed → Rises desk.old.faults desk.new.faults }
     ensures faults_kept { desk.old.faults ≤ desk.new.faults }
     ensures told { IsSome desk.new.told → IsSome desk.old.told }
@@ -89,7 +93,10 @@ fn import_write<K: Keeper>(
         (import_written counts desk.old.state
         (written_of desk.old.state stamp.0 stamp.1 command))
         desk.old.state desk.new.state) }
-    ensures still { OnErr result (desk.new.state ≡ desk.old.state) }
+    ensures lost { OnErr result (StaysOrLeads
+        (import_written counts desk.old.state
+        (written_of desk.old.state stamp.0 stamp.1 command))
+        desk.old.state desk.new.state) }
     ensures counted { result ≡ Err KeepError.Failed → Rises desk.old.faults desk.new.faults }
     ensures faults_kept { desk.old.faults ≤ desk.new.faults }
     ensures told { IsSome desk.new.told → IsSome desk.old.told }

@@ -6,7 +6,7 @@ use Rattle.an_policy.specs.declared.group.Audience.{Audience}
 use Rattle.an_policy.specs.declared.reader.Reader.{Reader}
 use Rattle.an_policy.specs.Audience.{Identity, anonymous, operator, signed}
 use Rattle.an_state.specs.Commands.{object_of, version_of}
-use Rattle.an_state.specs.State.{State, KeptReader, KeptManifest, KeptNote, LiveNote}
+use Rattle.an_state.specs.State.{State, ReaderState, ManifestState, NoteState, LiveNote}
 use Rattle.an_state.specs.State.{reader_row, manifest_row, note_row}
 use Rattle.an_machine.specs.Versions.{reader_standing, manifest_standing, note_standing}
 use Rattle.an_state.specs.View.{audience_of_manifest, audience_of_note, is_on, last_moment}
@@ -67,7 +67,7 @@ note_activity who at owner name before after = record {
 -- ---- a put
 
 -- readers make no activity
-abbrev pub reader_effect : Option KeptReader → Reader → Effect
+abbrev pub reader_effect : Option ReaderState → Reader → Effect
 reader_effect before r = record {
   made = not (reader_standing before).live;
   rows = kept.Reader (record { name = r.name; version = r.version; live = Some r }) ∷ [];
@@ -75,14 +75,14 @@ reader_effect before r = record {
 }
 
 -- when what was live was made
-abbrev pub manifest_made : Option KeptManifest → Option ℤ
+abbrev pub manifest_made : Option ManifestState → Option ℤ
 manifest_made before = option_and_then (λ row. option_map (λ live. live.created) row.live) before
 
 -- what was live keeps when it was made, and is changed now
 abbrev pub changed : Option ℤ → ℤ → Option ℤ
 changed made at = option_map (λ made. at) made
 
-abbrev pub put_manifest : ℤ → Option KeptManifest → ManifestPut → KeptManifest
+abbrev pub put_manifest : ℤ → Option ManifestState → ManifestPut → ManifestState
 put_manifest at before m = record {
   name = m.name;
   version = m.version;
@@ -94,7 +94,7 @@ put_manifest at before m = record {
   });
 }
 
-abbrev pub manifest_effect : Identity → ℤ → Option KeptManifest → ManifestPut → Effect
+abbrev pub manifest_effect : Identity → ℤ → Option ManifestState → ManifestPut → Effect
 manifest_effect who at before m =
     let row = put_manifest at before m in
     let could = option_and_then audience_of_manifest before in
@@ -104,7 +104,7 @@ manifest_effect who at before m =
       activities = manifest_activity who at m.name could (audience_of_manifest row) ∷ [];
     }
 
-abbrev pub live_in : Option KeptNote → Option LiveNote
+abbrev pub live_in : Option NoteState → Option LiveNote
 live_in before = option_and_then (λ row. row.live) before
 
 -- what was live keeps its creator
@@ -112,10 +112,10 @@ abbrev pub creator_of : Identity → Option LiveNote → List ℕ
 creator_of who None = user_of who
 creator_of who (Some before) = before.creator
 
-abbrev pub note_made : Option KeptNote → Option ℤ
+abbrev pub note_made : Option NoteState → Option ℤ
 note_made before = option_map (λ live. live.created) (live_in before)
 
-abbrev pub put_note : Identity → ℤ → Option KeptNote → NotePut → KeptNote
+abbrev pub put_note : Identity → ℤ → Option NoteState → NotePut → NoteState
 put_note who at before n = record {
   owner = n.owner;
   name = n.name;
@@ -130,7 +130,7 @@ put_note who at before n = record {
   });
 }
 
-abbrev pub note_effect : State → Identity → ℤ → Option KeptNote → NotePut → Effect
+abbrev pub note_effect : State → Identity → ℤ → Option NoteState → NotePut → Effect
 note_effect s who at before n =
     let row = put_note who at before n in
     let could = option_and_then (audience_of_note s) before in
@@ -142,15 +142,15 @@ note_effect s who at before n =
 
 -- ---- a deletion
 
-abbrev pub reader_tombstone : List ℕ → ℕ → KeptReader
+abbrev pub reader_tombstone : List ℕ → ℕ → ReaderState
 reader_tombstone name version = record { name = name; version = version; live = None }
 
 -- the tombstone of a manifest keeps its group
-abbrev pub manifest_tombstone : List ℕ → ℕ → KeptManifest → KeptManifest
+abbrev pub manifest_tombstone : List ℕ → ℕ → ManifestState → ManifestState
 manifest_tombstone name version row =
     record { name = name; version = version; group = row.group; live = None }
 
-abbrev pub note_tombstone : List ℕ → List ℕ → ℕ → KeptNote
+abbrev pub note_tombstone : List ℕ → List ℕ → ℕ → NoteState
 note_tombstone owner name version =
     record { owner = owner; name = name; version = version; live = None }
 
@@ -159,19 +159,19 @@ abbrev pub number_behind : ℕ → ℕ
 number_behind version = if nat_lt version (2 ^ 32 - 1) then version + 1 else version
 
 -- the tombstone that an annotation leaves when its manifest is deleted
-abbrev pub buried : KeptNote → KeptNote
+abbrev pub buried : NoteState → NoteState
 buried row = note_tombstone row.owner row.name (number_behind row.version)
 
 -- the live annotations on a manifest, in their order
-abbrev pub notes_on : State → List ℕ → List KeptNote
+abbrev pub notes_on : State → List ℕ → List NoteState
 notes_on s manifest = filter (is_on manifest) s.notes
 
 -- the deletion of an annotation with its manifest
-abbrev pub burial : State → Identity → ℤ → KeptNote → Activity
+abbrev pub burial : State → Identity → ℤ → NoteState → Activity
 burial s who at row = note_activity who at row.owner row.name (audience_of_note s row) None
 
 -- the annotations on a manifest are deleted before it
-abbrev pub manifest_deletion : State → Identity → ℤ → Option KeptManifest → List ℕ → ℕ → Effect
+abbrev pub manifest_deletion : State → Identity → ℤ → Option ManifestState → List ℕ → ℕ → Effect
 manifest_deletion s who at before name version =
     let could = option_and_then audience_of_manifest before in
     let tombstone = option_map (manifest_tombstone name version) before in
@@ -183,7 +183,7 @@ manifest_deletion s who at before name version =
           ++ manifest_activity who at name could None ∷ [];
     }
 
-abbrev pub note_deletion : State → Identity → ℤ → Option KeptNote → List ℕ → List ℕ → ℕ → Effect
+abbrev pub note_deletion : State → Identity → ℤ → Option NoteState → List ℕ → List ℕ → ℕ → Effect
 note_deletion s who at before owner name version =
     let could = option_and_then (audience_of_note s) before in
     record {

@@ -9,7 +9,7 @@ use Rattle.an_policy.specs.declared.reader.Reader.{Reader}
 use Rattle.an_policy.specs.declared.reader.Role.{Role}
 use Rattle.an_policy.specs.declared.reader.Role.TheVariants as role
 use Rattle.an_machine.specs.Asked.{object_asked, version_asked, is_put}
-use Rattle.an_state.specs.State.{State, KeptReader, KeptManifest, KeptNote}
+use Rattle.an_state.specs.State.{State, ReaderState, ManifestState, NoteState}
 use Rattle.an_state.specs.State.{reader_row, manifest_row, note_row}
 use Rattle.an_machine.specs.declared.asked.Asked.{Asked}
 use Rattle.an_machine.specs.declared.asked.Asked.TheVariants.{Deletion}
@@ -22,19 +22,19 @@ use Rattle.an_machine.specs.declared.versions.Standing.{Standing}
 
 -- ---- how an object stands
 
-abbrev pub reader_standing : Option KeptReader → Standing
+abbrev pub reader_standing : Option ReaderState → Standing
 reader_standing row = record {
   version = option_map (λ r. r.version) row;
   live = passes (λ r. is_some r.live) row;
 }
 
-abbrev pub manifest_standing : Option KeptManifest → Standing
+abbrev pub manifest_standing : Option ManifestState → Standing
 manifest_standing row = record {
   version = option_map (λ r. r.version) row;
   live = passes (λ r. is_some r.live) row;
 }
 
-abbrev pub note_standing : Option KeptNote → Standing
+abbrev pub note_standing : Option NoteState → Standing
 note_standing row = record {
   version = option_map (λ r. r.version) row;
   live = passes (λ r. is_some r.live) row;
@@ -76,13 +76,13 @@ same_reader a b =
     && pointwise bytes_eq a.groups b.groups
 
 -- the row is live with what is put
-abbrev pub holds_reader : Reader → KeptReader → Bool
+abbrev pub holds_reader : Reader → ReaderState → Bool
 holds_reader reader row = passes (λ live. same_reader live reader) row.live
 
-abbrev pub holds_manifest : ManifestPut → KeptManifest → Bool
+abbrev pub holds_manifest : ManifestPut → ManifestState → Bool
 holds_manifest m row = passes (λ live. same_text live.tree m.sheet) row.live
 
-abbrev pub holds_note : NotePut → KeptNote → Bool
+abbrev pub holds_note : NotePut → NoteState → Bool
 holds_note n row = passes (λ live.
     bytes_eq live.manifest n.manifest
     && same_group live.group n.group

@@ -1,5 +1,5 @@
 -- The container's annotations at their places, and the texts of the container and of its pages.
-use Rattle.std.proofs.Common.{◌≡◌, ℕ, ◌+◌, List, [], ◌∷◌, ◌++◌, map, length, Bool, true, false, cond, ◌&&◌, ◌||◌, Option, Some, None, Ok, Err, nat_lt, codes, refl, sym, ap, subst, ◌∙◌, append-nil, append_assoc, length-append}
+use Rattle.std.proofs.Common.{◌≡◌, ℕ, ◌+◌, List, [], ◌∷◌, ◌++◌, map, length, Bool, true, false, cond, ◌&&◌, Option, Some, None, Ok, Err, codes, refl, sym, ap, subst, ◌∙◌, append-nil, append_assoc, length-append}
 use Rattle.std.specs.Prelude.{filter, slice_get}
 use Rattle.std.specs.List.{filter_map}
 use Rattle.serde_json.specs.Data.{Data, number, unsigned, string, array, object, Items, Members, member, no_members}
@@ -8,7 +8,7 @@ use Rattle.serde_json.specs.Written.{compact_text}
 use Rattle.an_base.specs.Object.{with_member, with_member_if}
 use Rattle.an_base.specs.Write.{member_text, commas, item_commas}
 use Rattle.an_policy.specs.Audience.{Identity}
-use Rattle.an_state.specs.State.{State, KeptNote}
+use Rattle.an_state.specs.State.{State, NoteState}
 use Rattle.an_state.specs.View.{view_of, is_on, shows_note, places_from, readable_places}
 use Rattle.an_base.specs.declared.span.Prefer.{Prefer}
 use Rattle.an_search.proofs.FoundLemmas.{stand-found}
@@ -33,7 +33,7 @@ slice_get-append [] row rows = refl
 slice_get-append (x ∷ before) row rows = slice_get-append before row rows
 
 -- the rows that pass a test stand at the places where it passes
-stand_places : (test : KeptNote → Bool) (before rows : List KeptNote) → map (slice_get (before ++ rows)) (places_from test (length before) rows) ≡ map Some (filter test rows)
+stand_places : (test : NoteState → Bool) (before rows : List NoteState) → map (slice_get (before ++ rows)) (places_from test (length before) rows) ≡ map Some (filter test rows)
 stand_places test before [] = refl
 stand_places test before (row ∷ rows) =
     let places = places_from test (length before + 1) rows in
@@ -51,10 +51,10 @@ pub on_stand : (s : State) (who : Identity) (manifest : List ℕ) → StandAt s.
 unfolding notes_on
 on_stand s who manifest =
     stand_places (λ row. is_on manifest row && shows_note s who row) [] s.notes
-    ∙ ap (λ (rows : List KeptNote). map Some rows) (sym (filter_both (is_on manifest) (shows_note s who) s.notes))
+    ∙ ap (λ (rows : List NoteState). map Some rows) (sym (filter_both (is_on manifest) (shows_note s who) s.notes))
 
 -- the IRIs at the places are those of the annotations that stand there
-pub iris_on : (base : List ℕ) (iris : Bool) (notes : List KeptNote) (places : List ℕ) (rows : List KeptNote) → iris ≡ true → StandAt notes places rows
+pub iris_on : (base : List ℕ) (iris : Bool) (notes : List NoteState) (places : List ℕ) (rows : List NoteState) → iris ≡ true → StandAt notes places rows
     → item_commas (items_of (map (iri_item base) (filter_map (slice_get notes) places))) ≡ item_commas (items_on base iris rows)
 iris_on base iris notes places rows is stand =
     ap (λ rows. item_commas (items_of (map (iri_item base) rows))) (stand-found notes places rows stand)
@@ -62,7 +62,7 @@ iris_on base iris notes places rows is stand =
 
 -- ---- which page
 
-module _ (site : Site) (whole : Whole) (iris : Bool) (rows : List KeptNote) (total size page pages : ℕ) (total_is : total ≡ length rows) (size_is : size ≡ site.size) (pages_are : pages ≡ page_count total size) where
+module _ (site : Site) (whole : Whole) (iris : Bool) (rows : List NoteState) (total size page pages : ℕ) (total_is : total ≡ length rows) (size_is : size ≡ site.size) (pages_are : pages ≡ page_count total size) where
   pub no_own_page : lacks_page pages page ≡ true → own_text site whole iris page rows ≡ Err (NoPage pages)
   unfolding own_text
   no_own_page off = let count = count_is rows site.size total size pages total_is size_is pages_are in rw (count, off) refl
@@ -181,7 +181,7 @@ pub container_is : (whole : Whole) (first : Data) (size total : ℕ) → object 
 unfolding container_tree
 container_is whole first size total = refl
 
-pub container_found : (site : Site) (whole : Whole) (prefer : Prefer) (rows : List KeptNote) (base body : List ℕ) (total size : ℕ) → base ≡ site.base → total ≡ length rows → size ≡ site.size
+pub container_found : (site : Site) (whole : Whole) (prefer : Prefer) (rows : List NoteState) (base body : List ℕ) (total size : ℕ) → base ≡ site.base → total ≡ length rows → size ≡ site.size
     → body ≡ compact_text (container_tree whole (first_page whole prefer.minimal size total (items_on base prefer.iris (page_of 1 size rows))) size total)
     → body ≡ container_body site whole prefer rows
 container_found site whole prefer rows base body total size base_is total_is size_is is = rw (base_is, total_is, size_is) at is

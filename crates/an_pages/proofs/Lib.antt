@@ -1,3 +1,4 @@
+pub mod CostLemmas
 pub mod NoteLemmas
 pub mod ContainerLemmas
 mod ContainerRows

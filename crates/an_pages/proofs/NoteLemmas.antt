@@ -1,6 +1,5 @@
 -- The annotations about a canvas, and the page of them that is asked for.
-use Rattle.std.proofs.Common.{◌≡◌, ℕ, ◌<◌, ◌≤◌, List, [], ◌∷◌, map, length, Bool, true, false, cond, ◌||◌, Option, Some, None, Ok, Err, nat_lt, refl, sym, ap, subst, ◌∙◌, arith}
-use Rattle.std.proofs.lemmas.Bool.Decides.{nat_tests}
+use Rattle.std.proofs.Common.{◌≡◌, ℕ, List, [], ◌∷◌, map, length, Bool, true, false, cond, ◌||◌, Option, Some, None, Ok, Err, refl, sym, ap, subst, ◌∙◌}
 use Rattle.std.specs.Prelude.{filter, slice_get}
 use Rattle.std.specs.List.{filter_map, cons_option, list_any}
 use Rattle.serde_json.specs.Data.{no_items}
@@ -11,7 +10,7 @@ use Rattle.an_selectors.specs.declared.region.Xywh.{Xywh}
 use Rattle.an_model.specs.Targets.{kept_target}
 use Rattle.an_model.specs.declared.target.Target.{Target}
 use Rattle.an_policy.specs.Audience.{Identity}
-use Rattle.an_state.specs.State.{State, KeptNote}
+use Rattle.an_state.specs.State.{State, NoteState}
 use Rattle.an_state.specs.View.{view_of, readable_places}
 use Rattle.an_search.proofs.ViewLemmas.{readable_rows}
 use Rattle.an_search.specs.Found.{StandAt}
@@ -32,17 +31,17 @@ kept_about canvas asked (target ∷ targets) = ap (λ others. is_target_in canva
 -- ---- at places
 
 -- the annotations at the places where a test passes are those at all places that pass it
-stand_passing : (test : KeptNote → Bool) (notes : List KeptNote) (places : List ℕ) → StandAt notes (filter (passes_at test notes) places) (filter test (filter_map (slice_get notes) places))
+stand_passing : (test : NoteState → Bool) (notes : List NoteState) (places : List ℕ) → StandAt notes (filter (passes_at test notes) places) (filter test (filter_map (slice_get notes) places))
 stand_passing test notes [] = refl
 stand_passing test notes (place ∷ places) = by (slice_get notes place) refl (stand_passing test notes places)
   where
-    kept : (row : KeptNote) (b : Bool) → slice_get notes place ≡ Some row → StandAt notes (filter (passes_at test notes) places) (filter test (filter_map (slice_get notes) places))
+    kept : (row : NoteState) (b : Bool) → slice_get notes place ≡ Some row → StandAt notes (filter (passes_at test notes) places) (filter test (filter_map (slice_get notes) places))
         → map (slice_get notes) (cond b (place ∷ filter (passes_at test notes) places) (filter (passes_at test notes) places))
         ≡ map Some (cond b (row ∷ filter test (filter_map (slice_get notes) places)) (filter test (filter_map (slice_get notes) places)))
     kept row true at rest = rw (at, rest) refl
     kept row false at rest = rest
 
-    by : (found : Option KeptNote) → slice_get notes place ≡ found → StandAt notes (filter (passes_at test notes) places) (filter test (filter_map (slice_get notes) places))
+    by : (found : Option NoteState) → slice_get notes place ≡ found → StandAt notes (filter (passes_at test notes) places) (filter test (filter_map (slice_get notes) places))
         → map (slice_get notes) (cond (passes test found) (place ∷ filter (passes_at test notes) places) (filter (passes_at test notes) places))
         ≡ map Some (filter test (cons_option found (filter_map (slice_get notes) places)))
     by None at rest = rest
@@ -59,10 +58,10 @@ about_stand s who manifest canvas region =
 
 -- ---- which page
 
-pub count_is : (rows : List KeptNote) (own total size pages : ℕ) → total ≡ length rows → size ≡ own → pages ≡ page_count total size → page_count (length rows) own ≡ pages
+pub count_is : (rows : List NoteState) (own total size pages : ℕ) → total ≡ length rows → size ≡ own → pages ≡ page_count total size → page_count (length rows) own ≡ pages
 count_is rows own total size pages total_is size_is is = sym (is ∙ ap (λ n. page_count n size) total_is ∙ ap (page_count (length rows)) size_is)
 
-module _ (site : Site) (whole : Whole) (rows : List KeptNote) (total size page pages : ℕ) (total_is : total ≡ length rows) (size_is : size ≡ site.size) (pages_are : pages ≡ page_count total size) where
+module _ (site : Site) (whole : Whole) (rows : List NoteState) (total size page pages : ℕ) (total_is : total ≡ length rows) (size_is : size ≡ site.size) (pages_are : pages ≡ page_count total size) where
   pub no_page : lacks_page pages page ≡ true → notes_text site whole page rows ≡ Err (NoPage pages)
   unfolding notes_text
   no_page off = let count = count_is rows site.size total size pages total_is size_is pages_are in rw (count, off) refl

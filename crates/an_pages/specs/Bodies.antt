@@ -7,18 +7,18 @@ use Rattle.an_manifest.specs.Dress.{dressed}
 use Rattle.an_base.specs.Object.{with_member}
 use Rattle.an_base.specs.Outcome.{passes}
 use Rattle.an_policy.specs.Seen.{is_deletion}
-use Rattle.an_state.specs.State.{KeptManifest, KeptNote, LiveManifest, LiveNote}
+use Rattle.an_state.specs.State.{ManifestState, NoteState, LiveManifest, LiveNote}
 use Rattle.an_state.specs.View.{View, manifest_in, note_in, last_kind}
 use Rattle.an_search.specs.Listed.{listed_live}
 use Rattle.an_search.specs.Site.{Site}
 use Rattle.an_pages.specs.declared.error.PageError.{PageError}
 use Rattle.an_pages.specs.declared.error.PageError.TheVariants.{Absent, Gone}
 
-abbrev pub live_body : Site → KeptManifest → LiveManifest → List ℕ
+abbrev pub live_body : Site → ManifestState → LiveManifest → List ℕ
 live_body site row live = compact_text (dressed site.base row.name live.tree)
 
 -- the text by which a manifest's row is served; a tombstone has none
-abbrev pub manifest_body : Site → KeptManifest → Option (List ℕ)
+abbrev pub manifest_body : Site → ManifestState → Option (List ℕ)
 manifest_body site row = option_map (live_body site row) row.live
 
 -- the manifest of this name, as the view has it
@@ -33,12 +33,12 @@ abbrev pub note_context : List ℕ
 note_context = codes "http://www.w3.org/ns/anno.jsonld"
 
 -- an annotation that is live, as its own route shows it: as lists do, and with its context
-abbrev pub shown_live : Site → KeptNote → LiveNote → List ℕ
+abbrev pub shown_live : Site → NoteState → LiveNote → List ℕ
 shown_live site row live =
     compact_text (with_member (codes "@context") (string note_context)
     (listed_live site.base row live))
 
-abbrev pub note_body : Site → KeptNote → Option (List ℕ)
+abbrev pub note_body : Site → NoteState → Option (List ℕ)
 note_body site row = option_map (shown_live site row) row.live
 
 -- why an annotation isn't shown: it is gone where the last change of it that the caller saw was its

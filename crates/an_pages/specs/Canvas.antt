@@ -1,7 +1,7 @@
 -- A page of the annotations on a canvas (IIIF Presentation API 3.0, sections 5.3 and 5.5), or on a
 -- region of it.
 use Rattle.std.specs.Prelude.{ℕ, ◌+◌, ◌-◌, List, [], ◌++◌, length, filter, codes, decimal, nat_lt}
-use Rattle.std.specs.Prelude.{bytes_eq, slice_get, Bool, true, ◌&&◌, ◌||◌, if◌then◌else◌}
+use Rattle.std.specs.Prelude.{bytes_eq, slice_get, Bool, true, ◌&&◌, if◌then◌else◌}
 use Rattle.std.specs.Prelude.{Option, None, Some, option_and_then, Result, Ok, Err}
 use Rattle.std.specs.List.{list_any, filter_map}
 use Rattle.serde_json.specs.Data.{Data, no_items}
@@ -13,7 +13,7 @@ use Rattle.an_model.specs.Targets.{targets_of}
 use Rattle.an_model.specs.declared.kept.KeptTarget.{KeptTarget}
 use Rattle.an_model.specs.declared.target.Target.{Target}
 use Rattle.an_manifest.specs.Manifest.{canvases_of}
-use Rattle.an_state.specs.State.{KeptManifest, KeptNote}
+use Rattle.an_state.specs.State.{ManifestState, NoteState}
 use Rattle.an_state.specs.View.{View, is_on, manifest_in}
 use Rattle.an_search.specs.Listed.{listed_note}
 use Rattle.an_search.specs.Page.{list_page, page_count, page_of, lacks_page}
@@ -49,11 +49,11 @@ is_target_in canvas asked target = bytes_eq target.source canvas && meets asked 
 abbrev pub is_about : List ℕ → Option Xywh → Data → Bool
 is_about canvas asked tree = list_any (is_target_in canvas asked) (targets_of tree)
 
-abbrev pub is_row_about : List ℕ → Option Xywh → KeptNote → Bool
+abbrev pub is_row_about : List ℕ → Option Xywh → NoteState → Bool
 is_row_about canvas region row = passes (λ live. is_about canvas region live.tree) row.live
 
 -- the annotations of the view on the manifest that are about the canvas, or the region of it
-unfoldable pub notes_about : View → List ℕ → List ℕ → Option Xywh → List KeptNote
+unfoldable pub notes_about : View → List ℕ → List ℕ → Option Xywh → List NoteState
 notes_about view manifest canvas region =
     filter (is_row_about canvas region) (filter (is_on manifest) view.notes)
 
@@ -64,7 +64,7 @@ abbrev pub canvas_at : ℕ → List (List ℕ) → Option (List ℕ)
 canvas_at number canvases =
     if nat_lt 0 number then slice_get canvases (number - 1) else None
 
-abbrev pub row_canvas : ℕ → KeptManifest → Option (List ℕ)
+abbrev pub row_canvas : ℕ → ManifestState → Option (List ℕ)
 row_canvas number row =
     option_and_then (λ live. canvas_at number (canvases_of live.tree)) row.live
 
@@ -93,13 +93,13 @@ canvas_whole base name canvas region = record {
 }
 
 -- a page of them
-abbrev pub notes_page : Site → Whole → ℕ → List KeptNote → Data
+abbrev pub notes_page : Site → Whole → ℕ → List NoteState → Data
 notes_page site whole page notes =
     list_page presentation_context whole page site.size (length notes)
     (items_of (filter_map (listed_note site.base) (page_of page site.size notes))) no_items []
 
 -- the same as text, where there is a page of this number
-unfoldable pub notes_text : Site → Whole → ℕ → List KeptNote → Result (List ℕ) PageError
+unfoldable pub notes_text : Site → Whole → ℕ → List NoteState → Result (List ℕ) PageError
 notes_text site whole page notes =
     let pages = page_count (length notes) site.size in
     if lacks_page pages page then Err (NoPage pages)
@@ -120,5 +120,5 @@ abbrev pub is_kept_in : List ℕ → Option Xywh → KeptTarget → Bool
 is_kept_in canvas asked kept = bytes_eq kept.source canvas && meets asked kept.region
 
 -- there is an annotation at the place, and it passes the test
-abbrev pub passes_at : (KeptNote → Bool) → List KeptNote → ℕ → Bool
+abbrev pub passes_at : (NoteState → Bool) → List NoteState → ℕ → Bool
 passes_at test notes place = passes test (slice_get notes place)

@@ -9,7 +9,7 @@ use Rattle.serde_json.specs.View.{items_of}
 use Rattle.serde_json.specs.Written.{compact_text}
 use Rattle.an_base.specs.Object.{with_member, with_member_if}
 use Rattle.an_base.specs.declared.span.Prefer.{Prefer}
-use Rattle.an_state.specs.State.{KeptNote}
+use Rattle.an_state.specs.State.{NoteState}
 use Rattle.an_state.specs.View.{View, is_on, manifest_in}
 use Rattle.an_search.specs.Listed.{listed_note, note_iri}
 use Rattle.an_search.specs.Page.{page_count, page_iri, page_of, start_of, lacks_page}
@@ -38,15 +38,15 @@ container_whole base name iris = record {
 }
 
 -- the annotations of the view on the manifest
-unfoldable pub notes_on : View → List ℕ → List KeptNote
+unfoldable pub notes_on : View → List ℕ → List NoteState
 notes_on view manifest = filter (is_on manifest) view.notes
 
 -- an annotation's IRI, as an item
-abbrev pub iri_item : List ℕ → KeptNote → Data
+abbrev pub iri_item : List ℕ → NoteState → Data
 iri_item base row = string (note_iri base row.owner row.name)
 
 -- annotations as the items of a page
-abbrev pub items_on : List ℕ → Bool → List KeptNote → Items
+abbrev pub items_on : List ℕ → Bool → List NoteState → Items
 items_on base iris rows =
     if iris then items_of (map (iri_item base) rows)
     else items_of (filter_map (listed_note base) rows)
@@ -109,7 +109,7 @@ container_tree whole first size total =
 -- ---- the answers, from the caller's view alone
 
 -- the container of these annotations
-abbrev pub container_body : Site → Whole → Prefer → List KeptNote → List ℕ
+abbrev pub container_body : Site → Whole → Prefer → List NoteState → List ℕ
 container_body site whole prefer notes =
     compact_text (container_tree whole
     (first_page whole prefer.minimal site.size (length notes)
@@ -124,7 +124,7 @@ container_of site view name prefer =
     else Err Absent
 
 -- a page of these annotations, where there is one of this number
-unfoldable pub own_text : Site → Whole → Bool → ℕ → List KeptNote → Result (List ℕ) PageError
+unfoldable pub own_text : Site → Whole → Bool → ℕ → List NoteState → Result (List ℕ) PageError
 own_text site whole iris page notes =
     let pages = page_count (length notes) site.size in
     if lacks_page pages page then Err (NoPage pages)

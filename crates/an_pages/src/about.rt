@@ -1,7 +1,8 @@
-ghost use Rattle.std.specs.Prelude.{◌≡◌, filter, IfOk};
+ghost use Rattle.std.specs.Prelude.{◌≡◌, ◌+◌, ◌≤◌, filter, length, IfOk, OnOk};
 ghost use Rattle.an_policy.specs.Audience.{identity};
-ghost use Rattle.an_state.specs.View.{readable_places};
+ghost use Rattle.an_state.specs.View.{readable_places, view_of};
 ghost use Rattle.an_pages.specs.Canvas.{is_about, is_row_about, passes_at};
+ghost use Rattle.an_pages.specs.Container.{notes_on};
 
 use crate::region::has_target_in;
 use an_base::{Name, Steps};
@@ -23,9 +24,14 @@ pub(crate) fn places_about<T: Look, L: Ledger>(
     region: Option<Xywh>,
     steps: &mut Steps<L>,
 ) -> Result<Vec<usize>, AllocError>
-    ensures { IfOk result (λ places. places.items
+    ensures places { IfOk result (λ places. places.items
         ≡ filter (passes_at (is_row_about canvas.now region) (T.state look.now).notes)
         (readable_places (T.state look.now) (identity who.now) manifest.now)) }
+    ensures steps { OnOk result (steps.new ≡ steps.old
+        + length (notes_on (view_of (T.state look.now) (identity who.now)) manifest.now)) }
+    ensures steps_most { steps.new ≤ steps.old
+        + length (notes_on (view_of (T.state look.now) (identity who.now)) manifest.now) }
+    ensures steps_least { steps.old ≤ steps.new }
 {
     let places = look.readable(alloc, who, manifest)?;
     let found = places_among(alloc, look, places.as_slice(), canvas, region, steps)?;
@@ -41,8 +47,13 @@ fn places_among<T: Look, L: Ledger>(
     region: Option<Xywh>,
     steps: &mut Steps<L>,
 ) -> Result<Vec<usize>, AllocError>
-    ensures { IfOk result (λ found. found.items
+    ensures places { IfOk result (λ found. found.items
         ≡ filter (passes_at (is_row_about canvas.now region) (T.state look.now).notes) places.now) }
+    ensures steps { OnOk result (steps.new ≡ steps.old
+        + length places.now) }
+    ensures steps_most { steps.new ≤ steps.old
+        + length places.now }
+    ensures steps_least { steps.old ≤ steps.new }
 {
     let mut found = Vec::new(alloc);
     for place in places {
@@ -61,7 +72,9 @@ fn is_place_about<T: Look, L: Ledger>(
     region: Option<Xywh>,
     steps: &mut Steps<L>,
 ) -> bool
-    ensures { result ≡ passes_at (is_row_about canvas.now region) (T.state look.now).notes place }
+    ensures about { result
+        ≡ passes_at (is_row_about canvas.now region) (T.state look.now).notes place }
+    ensures step { steps.new ≡ steps.old + 1 }
 {
     match look.note_at(place, steps) {
         Some(row) => is_row_about(row, canvas, region),

@@ -1,20 +1,22 @@
-ghost use Rattle.std.specs.Prelude.{◌≡◌, ◌≤◌, List, [], ◌++◌, codes, decimal, length, string_bytes};
-ghost use Rattle.std.specs.Prelude.{IfOk, Some, option_map};
+ghost use Rattle.std.specs.Prelude.{◌≡◌, ◌+◌, ◌≤◌, List, [], ◌++◌, codes, decimal, length};
+ghost use Rattle.std.specs.Prelude.{string_bytes, IfOk, OnOk, Some, option_map};
 ghost use Rattle.std.specs.List.{filter_map};
 ghost use Rattle.serde_json.specs.Data.{no_items};
 ghost use Rattle.serde_json.specs.View.{items_of};
 ghost use Rattle.serde_json.specs.Written.{compact_text};
 ghost use Rattle.an_base.specs.Outcome.{Gives};
 ghost use Rattle.an_policy.specs.Audience.{identity};
-ghost use Rattle.an_state.specs.State.{KeptNote};
+ghost use Rattle.an_state.specs.State.{NoteState};
 ghost use Rattle.an_state.specs.View.{view_of};
 ghost use Rattle.an_manifest.specs.Manifest.{canvases_of};
+ghost use Rattle.an_search.specs.Cost.{Takes, page_cost};
 ghost use Rattle.an_search.specs.Found.{StandAt};
 ghost use Rattle.an_search.specs.Listed.{listed_note};
 ghost use Rattle.an_search.specs.Page.{list_page};
 ghost use Rattle.an_pages.specs.Canvas.{canvas_at, canvas_in, row_canvas, canvas_whole};
 ghost use Rattle.an_pages.specs.Canvas.{region_form, presentation_context, notes_about};
 ghost use Rattle.an_pages.specs.Canvas.{notes_text, canvas_page_of};
+ghost use Rattle.an_pages.specs.Cost.{about_cost, canvas_page_cost};
 
 use crate::about::places_about;
 use crate::error::PageError;
@@ -47,6 +49,13 @@ pub fn canvas_page<T: Look, L: Ledger>(
 ) -> Result<Bytes, PageError>
     ensures answer { Gives (λ body. body) PageError.Memory result (canvas_page_of settings.now
         (view_of (T.state look.now) (identity who.now)) name.now canvas region page) }
+    ensures steps { Takes PageError.Memory result steps.old steps.new
+        (canvas_page_cost settings.now (view_of (T.state look.now) (identity who.now))
+        name.now canvas region page) }
+    ensures steps_most { steps.new ≤ steps.old
+        + canvas_page_cost settings.now (view_of (T.state look.now) (identity who.now))
+        name.now canvas region page }
+    ensures steps_least { steps.old ≤ steps.new }
 {
     match shown_canvas(look, who, name, canvas) {
         Some(id) => {
@@ -117,8 +126,16 @@ fn page_about<T: Look, L: Ledger>(
     settings: &Settings,
     steps: &mut Steps<L>,
 ) -> Result<Bytes, PageError>
-    ensures { Gives (λ body. body) PageError.Memory result (notes_text settings.now whole.now page
-        (notes_about (view_of (T.state look.now) (identity who.now)) name.now canvas.now region)) }
+    ensures body { Gives (λ body. body) PageError.Memory result
+        (notes_text settings.now whole.now page (notes_about
+        (view_of (T.state look.now) (identity who.now)) name.now canvas.now region)) }
+    ensures steps { Takes PageError.Memory result steps.old steps.new
+        (about_cost settings.now (view_of (T.state look.now) (identity who.now)) name.now
+        region page canvas.now) }
+    ensures steps_most { steps.new ≤ steps.old
+        + about_cost settings.now (view_of (T.state look.now) (identity who.now)) name.now
+        region page canvas.now }
+    ensures steps_least { steps.old ≤ steps.new }
 {
     let places = places_about(alloc, look, who, name, canvas, region, steps)?;
     page_at(alloc, look, whole, page, places.as_slice(), settings, steps)
@@ -134,9 +151,14 @@ fn page_at<T: Look, L: Ledger>(
     settings: &Settings,
     steps: &mut Steps<L>,
 ) -> Result<Bytes, PageError>
-    ensures { (rows : List KeptNote) → StandAt (T.state look.now).notes places.now rows
+    ensures body { (rows : List NoteState) → StandAt (T.state look.now).notes places.now rows
         → Gives (λ body. body) PageError.Memory result
         (notes_text settings.now whole.now page rows) }
+    ensures steps { Takes PageError.Memory result steps.old steps.new
+        (page_cost page settings.now.size places.now) }
+    ensures steps_most { steps.new ≤ steps.old
+        + page_cost page settings.now.size places.now }
+    ensures steps_least { steps.old ≤ steps.new }
 {
     let paging = Paging {
         page,
@@ -164,10 +186,15 @@ fn write_page<T: Look, L: Ledger>(
     requires few { length places.now ≤ 100 }
     requires page { 1 ≤ paging.page }
     requires size { 1 ≤ paging.size }
-    ensures { (rows : List KeptNote) → StandAt (T.state look.now).notes places.now rows
+    ensures text { (rows : List NoteState) → StandAt (T.state look.now).notes places.now rows
         → IfOk result (λ text. text ≡ compact_text
         (list_page presentation_context whole.now paging.page paging.size paging.total
         (items_of (filter_map (listed_note base.now) rows)) no_items [])) }
+    ensures steps { OnOk result (steps.new ≡ steps.old
+        + length places.now) }
+    ensures steps_most { steps.new ≤ steps.old
+        + length places.now }
+    ensures steps_least { steps.old ≤ steps.new }
 {
     let listed = list_items(alloc, look, places, &[], base, "", steps)?;
     let items = listed.items.as_slice();

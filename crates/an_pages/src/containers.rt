@@ -1,15 +1,18 @@
-ghost use Rattle.std.specs.Prelude.{◌≡◌, ◌≤◌, List, length, string_bytes, IfOk};
+ghost use Rattle.std.specs.Prelude.{◌≡◌, ◌+◌, ◌≤◌, List, length, string_bytes, IfOk, OnOk};
+ghost use Rattle.std.specs.Prelude.{if◌then◌else◌};
 ghost use Rattle.serde_json.specs.Data.{string};
 ghost use Rattle.serde_json.specs.Written.{compact_text};
 ghost use Rattle.an_base.specs.Outcome.{Gives};
 ghost use Rattle.an_policy.specs.Audience.{identity};
-ghost use Rattle.an_state.specs.State.{KeptNote};
+ghost use Rattle.an_state.specs.State.{NoteState};
 ghost use Rattle.an_state.specs.View.{view_of};
+ghost use Rattle.an_search.specs.Cost.{Takes, page_cost};
 ghost use Rattle.an_search.specs.Found.{StandAt};
 ghost use Rattle.an_search.specs.Page.{page_iri, page_of};
 ghost use Rattle.an_pages.specs.Container.{container_body, container_iri, container_of};
 ghost use Rattle.an_pages.specs.Container.{container_page_of, container_whole, first_page};
 ghost use Rattle.an_pages.specs.Container.{iris_form, items_on, notes_on, own_page, own_text};
+ghost use Rattle.an_pages.specs.Cost.{container_cost, container_page_cost, first_cost};
 
 use crate::error::PageError;
 use crate::items::items_at;
@@ -36,6 +39,13 @@ pub fn container<T: Look, L: Ledger>(
 ) -> Result<Bytes, PageError>
     ensures answer { Gives (λ body. body) PageError.Memory result (container_of settings.now
         (view_of (T.state look.now) (identity who.now)) name.now prefer) }
+    ensures steps { Takes PageError.Memory result steps.old steps.new
+        (container_cost settings.now (view_of (T.state look.now) (identity who.now)) name.now
+        prefer) }
+    ensures steps_most { steps.new ≤ steps.old
+        + container_cost settings.now (view_of (T.state look.now) (identity who.now)) name.now
+        prefer }
+    ensures steps_least { steps.old ≤ steps.new }
 {
     match shown_manifest(look, who, name) {
         Some(_) => Ok(container_body(alloc, look, who, name, prefer, settings, steps)?),
@@ -52,9 +62,16 @@ fn container_body<T: Look, L: Ledger>(
     settings: &Settings,
     steps: &mut Steps<L>,
 ) -> Result<Bytes, AllocError>
-    ensures { IfOk result (λ body. body ≡ container_body settings.now
+    ensures body { IfOk result (λ body. body ≡ container_body settings.now
         (container_whole settings.now.base name.now prefer.iris) prefer
         (notes_on (view_of (T.state look.now) (identity who.now)) name.now)) }
+    ensures steps { OnOk result (steps.new ≡ steps.old
+        + first_cost settings.now.size prefer.minimal
+        (notes_on (view_of (T.state look.now) (identity who.now)) name.now)) }
+    ensures steps_most { steps.new ≤ steps.old
+        + first_cost settings.now.size prefer.minimal
+        (notes_on (view_of (T.state look.now) (identity who.now)) name.now) }
+    ensures steps_least { steps.old ≤ steps.new }
 {
     let whole = container_whole(alloc, settings.base(), name, prefer.iris)?;
     let places = look.readable(alloc, who, name)?;
@@ -80,8 +97,13 @@ fn container_at<T: Look, L: Ledger>(
     settings: &Settings,
     steps: &mut Steps<L>,
 ) -> Result<Bytes, AllocError>
-    ensures { (rows : List KeptNote) → StandAt (T.state look.now).notes places.now rows
+    ensures body { (rows : List NoteState) → StandAt (T.state look.now).notes places.now rows
         → IfOk result (λ body. body ≡ container_body settings.now whole.now prefer rows) }
+    ensures steps { OnOk result (steps.new ≡ steps.old
+        + first_cost settings.now.size prefer.minimal places.now) }
+    ensures steps_most { steps.new ≤ steps.old
+        + first_cost settings.now.size prefer.minimal places.now }
+    ensures steps_least { steps.old ≤ steps.new }
 {
     let paging = Paging {
         page: 1,
@@ -109,9 +131,14 @@ fn first_text<T: Look, L: Ledger>(
     requires few { length places.now ≤ 100 }
     requires page { paging.page ≡ 1 }
     requires size { 1 ≤ paging.size }
-    ensures { (rows : List KeptNote) → StandAt (T.state look.now).notes places.now rows
+    ensures text { (rows : List NoteState) → StandAt (T.state look.now).notes places.now rows
         → IfOk result (λ text. text.items ≡ compact_text (first_page whole.now prefer.minimal
         paging.size paging.total (items_on base.now prefer.iris rows))) }
+    ensures steps { OnOk result (steps.new ≡ steps.old
+        + (if prefer.minimal then 0 else length places.now)) }
+    ensures steps_most { steps.new ≤ steps.old
+        + (if prefer.minimal then 0 else length places.now) }
+    ensures steps_least { steps.old ≤ steps.new }
 {
     if prefer.minimal {
         let text = first_iri(alloc, whole)?;
@@ -146,6 +173,13 @@ pub fn container_page<T: Look, L: Ledger>(
 ) -> Result<Bytes, PageError>
     ensures answer { Gives (λ body. body) PageError.Memory result (container_page_of settings.now
         (view_of (T.state look.now) (identity who.now)) name.now page iris) }
+    ensures steps { Takes PageError.Memory result steps.old steps.new
+        (container_page_cost settings.now (view_of (T.state look.now) (identity who.now))
+        name.now page) }
+    ensures steps_most { steps.new ≤ steps.old
+        + container_page_cost settings.now (view_of (T.state look.now) (identity who.now))
+        name.now page }
+    ensures steps_least { steps.old ≤ steps.new }
 {
     match shown_manifest(look, who, name) {
         Some(_) => page_shown(alloc, look, who, name, page, iris, settings, steps),
@@ -163,9 +197,16 @@ fn page_shown<T: Look, L: Ledger>(
     settings: &Settings,
     steps: &mut Steps<L>,
 ) -> Result<Bytes, PageError>
-    ensures { Gives (λ body. body) PageError.Memory result (own_text settings.now
+    ensures body { Gives (λ body. body) PageError.Memory result (own_text settings.now
         (container_whole settings.now.base name.now iris) iris page
         (notes_on (view_of (T.state look.now) (identity who.now)) name.now)) }
+    ensures steps { Takes PageError.Memory result steps.old steps.new
+        (page_cost page settings.now.size (notes_on (view_of (T.state look.now) (identity who.now))
+        name.now)) }
+    ensures steps_most { steps.new ≤ steps.old
+        + page_cost page settings.now.size (notes_on (view_of (T.state look.now) (identity who.now))
+        name.now) }
+    ensures steps_least { steps.old ≤ steps.new }
 {
     let whole = container_whole(alloc, settings.base(), name, iris)?;
     let places = look.readable(alloc, who, name)?;
@@ -192,9 +233,14 @@ fn page_at<T: Look, L: Ledger>(
     settings: &Settings,
     steps: &mut Steps<L>,
 ) -> Result<Bytes, PageError>
-    ensures { (rows : List KeptNote) → StandAt (T.state look.now).notes places.now rows
+    ensures body { (rows : List NoteState) → StandAt (T.state look.now).notes places.now rows
         → Gives (λ body. body) PageError.Memory result
         (own_text settings.now whole.now iris page rows) }
+    ensures steps { Takes PageError.Memory result steps.old steps.new
+        (page_cost page settings.now.size places.now) }
+    ensures steps_most { steps.new ≤ steps.old
+        + page_cost page settings.now.size places.now }
+    ensures steps_least { steps.old ≤ steps.new }
 {
     let paging = Paging {
         page,
@@ -232,9 +278,14 @@ fn write_page<T: Look, L: Ledger>(
     requires few { length places.now ≤ 100 }
     requires page { 1 ≤ paging.page }
     requires size { 1 ≤ paging.size }
-    ensures { (rows : List KeptNote) → StandAt (T.state look.now).notes places.now rows
+    ensures text { (rows : List NoteState) → StandAt (T.state look.now).notes places.now rows
         → IfOk result (λ text. text ≡ compact_text (own_page whole.now paging.page paging.size
         paging.total (items_on base.now iris rows))) }
+    ensures steps { OnOk result (steps.new ≡ steps.old
+        + length places.now) }
+    ensures steps_most { steps.new ≤ steps.old
+        + length places.now }
+    ensures steps_least { steps.old ≤ steps.new }
 {
     let items = items_at(alloc, look, places, base, iris, steps)?;
     let text = own_text(alloc, whole, paging, items.as_slice())?;

@@ -1,8 +1,9 @@
-ghost use Rattle.std.specs.Prelude.{◌≡◌, ◌≤◌, List, ◌++◌, length, map, slice_get, IfOk};
+ghost use Rattle.std.specs.Prelude.{◌≡◌, ◌+◌, ◌≤◌, List, ◌++◌, length, map, slice_get};
+ghost use Rattle.std.specs.Prelude.{IfOk, OnOk};
 ghost use Rattle.std.specs.List.{filter_map};
 ghost use Rattle.serde_json.specs.View.{items_of};
 ghost use Rattle.an_base.specs.Write.{item_commas, item_text};
-ghost use Rattle.an_state.specs.State.{KeptNote};
+ghost use Rattle.an_state.specs.State.{NoteState};
 ghost use Rattle.an_search.specs.Found.{StandAt};
 ghost use Rattle.an_pages.specs.Container.{iri_item, items_on};
 
@@ -24,9 +25,14 @@ pub(crate) fn items_at<T: Look, L: Ledger>(
     steps: &mut Steps<L>,
 ) -> Result<Vec<u8>, AllocError>
     requires few { length places.now ≤ 100 }
-    ensures items { IfOk result (λ items. (rows : List KeptNote)
+    ensures items { IfOk result (λ items. (rows : List NoteState)
         → StandAt (T.state look.now).notes places.now rows
         → items.items ≡ item_commas (items_on base.now iris rows)) }
+    ensures steps { OnOk result (steps.new ≡ steps.old
+        + length places.now) }
+    ensures steps_most { steps.new ≤ steps.old
+        + length places.now }
+    ensures steps_least { steps.old ≤ steps.new }
 {
     if iris {
         let items = iris_at(alloc, look, places, base, steps)?;
@@ -50,6 +56,11 @@ fn iris_at<T: Look, L: Ledger>(
 ) -> Result<Vec<u8>, AllocError>
     ensures items { IfOk result (λ items. items.items ≡ item_commas (items_of (map
         (iri_item base.now) (filter_map (slice_get (T.state look.now).notes) places.now)))) }
+    ensures steps { OnOk result (steps.new ≡ steps.old
+        + length places.now) }
+    ensures steps_most { steps.new ≤ steps.old
+        + length places.now }
+    ensures steps_least { steps.old ≤ steps.new }
 {
     let mut items = Vec::new(alloc);
     for place in places {

@@ -1,1 +1,3 @@
+pub mod AudienceLemmas
+pub mod ClassLemmas
 pub mod GroupLemmas

@@ -1,4 +1,6 @@
 pub mod Audience
+pub mod AudienceHash
+pub mod Classes
 pub mod Group
 pub mod Reader
 pub mod Seen

@@ -3,10 +3,10 @@ use Rattle.std.proofs.Common.{◌≡◌, ℕ, ◌+◌, ◌<◌, Bool, true, fals
 use Rattle.std.specs.List.{list_all, list_any, position_or_len}
 use Rattle.std.proofs.lemmas.Bool.{cases_Bool, and_parts, and_from, cond-true, cond-false, or_parts}
 use Rattle.std.proofs.lemmas.Bool.Decides.{nat_tests}
+use Rattle.an_keyed.proofs.PutLemmas.{set_or_push}
 use Rattle.an_keep.specs.declared.cell.Cell.{Cell}
 use Rattle.an_keep.specs.Cells.{comes_before, is_at, is_before, is_behind, put_cell}
 use Rattle.an_state.specs.declared.entry.Row.{Row}
-use Rattle.an_state.proofs.DistinctLemmas.{set_or_push}
 use Rattle.an_rows.specs.RowTree.{table_of}
 use Rattle.an_rows.specs.Cells.{cell_of, cells_from}
 
@@ -98,14 +98,7 @@ module _ {R : Type 0} (kind : R → Row) where
           ∙ ap (cells_from kind start) (sym (cond-false _ (row ∷ rows) (first ∷ set_or_push p row rows) other))
     ]
 
--- ---- a row behind all
-
--- where no row passes, a row is put behind all
-pub set_or_push-new : {R : Type 0} (p : R → Bool) (row : R) (rows : List R) → list_any p rows ≡ false → set_or_push p row rows ≡ rows ++ row ∷ []
-set_or_push-new p row [] none = refl
-set_or_push-new p row (first ∷ rows) none =
-    let parts = or_parts (p first) _ none in
-    cond-false _ _ _ parts.0 ∙ ap (λ l. first ∷ l) (set_or_push-new p row rows parts.1)
+-- ---- a test that no row passes
 
 pub none-passes : {R : Type 0} (rows : List R) → list_any (λ row. false) rows ≡ false
 none-passes [] = refl

@@ -7,6 +7,7 @@ use Rattle.std.proofs.lemmas.List.{append_assoc, append-nil}
 use Rattle.std.proofs.lemmas.List.Folds.{list_all-append}
 use Rattle.an_keyed.specs.Key.{Key, same_key}
 use Rattle.an_keyed.specs.Rows.{put_row}
+use Rattle.an_keyed.proofs.PutLemmas.{put_at-position, set_or_push-new}
 use Rattle.an_keep.specs.declared.cell.Cell.{Cell}
 use Rattle.an_keep.specs.Cells.{is_at, is_before, is_behind, put_cell, put_changes}
 use Rattle.an_state.specs.Entries.{with_row, with_rows, after}
@@ -17,11 +18,10 @@ use Rattle.an_state.specs.declared.entry.Entry.{Entry}
 use Rattle.an_state.specs.declared.entry.Entry.TheVariants.{Restored, Done}
 use Rattle.an_state.specs.declared.entry.Row.{Row}
 use Rattle.an_state.specs.declared.entry.Row.TheVariants as kept
-use Rattle.an_state.proofs.DistinctLemmas.{put_at-position}
 use Rattle.an_rows.specs.RowTree.{table_of}
 use Rattle.an_rows.specs.Cells.{cell_of, cells_from, row_cells, first_cell, with_first, cells}
 use Rattle.an_rows.specs.Changes.{place_among, place_in, rows_of, row_changes, with_format, changes_of}
-use Rattle.an_rows.proofs.CellLemmas.{put_cell-past, put_cell-before, put_cell-among, all-cells, set_or_push-new, none-passes, position-new}
+use Rattle.an_rows.proofs.CellLemmas.{put_cell-past, put_cell-before, put_cell-among, all-cells, none-passes, position-new}
 
 -- ---- a row that is put
 

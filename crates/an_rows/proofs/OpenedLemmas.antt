@@ -13,17 +13,17 @@ use Rattle.an_base.specs.Outcome.{passes}
 use Rattle.an_keyed.specs.Key.{Key, same_key}
 use Rattle.an_keyed.specs.Rows.{put_row, row_of, place_of as place_of_key}
 use Rattle.an_keyed.proofs.HashesLemmas.{slice_get-push-within}
+use Rattle.an_keyed.proofs.PutLemmas.{distinct-put_row, put_row-new}
 use Rattle.an_keep.specs.declared.cell.Cell.{Cell}
 use Rattle.an_keep.specs.Cells.{is_before, is_behind, is_ascending, Ascend, put_cell}
 use Rattle.an_policy.specs.declared.reader.Reader.{Reader}
 use Rattle.an_state.specs.View.{last_moment}
 use Rattle.an_state.specs.Entries.{with_row}
 use Rattle.an_state.specs.Sound.{is_sound, agrees, tokens_are_distinct, is_live_manifest, stands_on_live, moments_never_fall}
-use Rattle.an_state.specs.State.{State, KeptReader, KeptManifest, KeptNote, LiveNote, empty, reader_key, manifest_key, note_key, is_distinct}
+use Rattle.an_state.specs.State.{State, ReaderState, ManifestState, NoteState, LiveNote, empty, reader_key, manifest_key, note_key, is_distinct}
 use Rattle.an_state.specs.declared.activity.Activity.{Activity}
 use Rattle.an_state.specs.declared.entry.Row.{Row}
 use Rattle.an_state.specs.declared.entry.Row.TheVariants as kept
-use Rattle.an_state.proofs.DistinctLemmas.{distinct-put_row}
 use Rattle.an_rows.specs.RowRead.{row_of_text}
 use Rattle.an_rows.specs.Valid.{is_valid, is_valid_row, is_valid_reader_row, is_valid_manifest_row, is_valid_note_row, is_valid_activity}
 use Rattle.an_base.specs.Name.{is_name}
@@ -32,7 +32,7 @@ use Rattle.an_rows.specs.Cells.{Place, place_of, cell_of, row_cells, first_cell,
 use Rattle.an_rows.specs.Changes.{place_in}
 use Rattle.an_rows.proofs.CellLemmas.{put_cell-past, position-new}
 use Rattle.an_rows.proofs.ChangeLemmas.{put_cell-in}
-use Rattle.an_rows.proofs.RestoreLemmas.{Parts, lives, has, other-token, put_row-new, all-reach}
+use Rattle.an_rows.proofs.RestoreLemmas.{Parts, lives, has, other-token, all-reach}
 use Rattle.an_rows.proofs.ValidLemmas.{refused, same_Ok}
 use Rattle.an_rows.proofs.ValidRowLemmas.{ok-found}
 use Rattle.an_rows.proofs.ValidTreeLemmas.{row-parts, if-ok}
@@ -46,13 +46,13 @@ module _ {R : Type 0} (key : R → Key) (p : R → Bool) (row : R) (rows : List 
   all-put : has_key key row rows ≡ false → list_all p rows ≡ true → p row ≡ true → list_all p (put_row key row rows) ≡ true
   all-put new all one = ap (list_all p) (put_row-new key row rows new) ∙ all-push p rows row all one
 
-new-reader : (s : State) (row : KeptReader) → may_follow s (kept.Reader row) ≡ true → has_key reader_key row s.readers ≡ false
+new-reader : (s : State) (row : ReaderState) → may_follow s (kept.Reader row) ≡ true → has_key reader_key row s.readers ≡ false
 new-reader s row h = not-true _ (and_parts (not (has_key reader_key row s.readers)) _ h).0
 
-new-manifest : (s : State) (row : KeptManifest) → may_follow s (kept.Manifest row) ≡ true → has_key manifest_key row s.manifests ≡ false
+new-manifest : (s : State) (row : ManifestState) → may_follow s (kept.Manifest row) ≡ true → has_key manifest_key row s.manifests ≡ false
 new-manifest s row h = not-true _ h
 
-new-note : (s : State) (row : KeptNote) → may_follow s (kept.Note row) ≡ true → has_key note_key row s.notes ≡ false
+new-note : (s : State) (row : NoteState) → may_follow s (kept.Note row) ≡ true → has_key note_key row s.notes ≡ false
 new-note s row h = not-true _ (and_parts (not (has_key note_key row s.notes)) _ h).0
 
 pub record AllValid (s : State) : Type 0 where
@@ -103,7 +103,7 @@ tokens-push (first ∷ readers) reader distinct none =
     and_from _ _ (not_from_false _ (none-append (has first.token) readers (reader ∷ []) (not-true _ parts.0) (or_from _ _ (other-token first.token reader.token apart.0) refl)))
     (tokens-push readers reader parts.1 apart.1)
 
-tokens-with : (rows : List KeptReader) (row : KeptReader) (live : Option Reader) → row.live ≡ live → tokens_are_distinct (lives rows) ≡ true
+tokens-with : (rows : List ReaderState) (row : ReaderState) (live : Option Reader) → row.live ≡ live → tokens_are_distinct (lives rows) ≡ true
     → passes (λ reader. list_any (has reader.token) (lives rows)) row.live ≡ false → tokens_are_distinct (lives (rows ++ row ∷ [])) ≡ true
 tokens-with rows row None is distinct new =
     ap tokens_are_distinct (filter_map-append (λ r. r.live) rows (row ∷ []) ∙ ap (λ l. lives rows ++ cons_option l []) is ∙ append-nil (lives rows)) ∙ distinct
@@ -115,7 +115,7 @@ tokens-with rows row (Some reader) is distinct new =
 position-within : {A : Type 0} (p : A → Bool) (xs : List A) (y : A) (i : ℕ) → position p xs ≡ Some i → position p (xs ++ y ∷ []) ≡ Some i
 position-within p xs y i here = rw (position_or_len_push p xs y, length-append) (grind arith)
 
-module _ (rows : List KeptManifest) (row : KeptManifest) (wanted : Key) where
+module _ (rows : List ManifestState) (row : ManifestState) (wanted : Key) where
   live-within : (place : Option ℕ) → place_of_key manifest_key wanted rows ≡ place → passes (λ r. is_some r.live) (option_and_then (slice_get rows) place) ≡ true
       → passes (λ r. is_some r.live) (row_of manifest_key wanted (rows ++ row ∷ [])) ≡ true
   live-within None is live = absurd (cc)
@@ -123,7 +123,7 @@ module _ (rows : List KeptManifest) (row : KeptManifest) (wanted : Key) where
       ap (λ place. passes (λ r. is_some r.live) (option_and_then (slice_get (rows ++ row ∷ [])) place)) (position-within (λ r. same_key (manifest_key r) wanted) rows row i is)
       ∙ by_row (slice_get rows i) refl live
     where
-      by_row : (found : Option KeptManifest) → slice_get rows i ≡ found → passes (λ r. is_some r.live) found ≡ true → passes (λ r. is_some r.live) (slice_get (rows ++ row ∷ []) i) ≡ true
+      by_row : (found : Option ManifestState) → slice_get rows i ≡ found → passes (λ r. is_some r.live) found ≡ true → passes (λ r. is_some r.live) (slice_get (rows ++ row ∷ []) i) ≡ true
       by_row None at h = absurd (cc)
       by_row (Some x) at h = ap (passes (λ r. is_some r.live)) (slice_get-push-within rows row i (slice_get_within rows i x at) ∙ at) ∙ h
 
@@ -154,12 +154,12 @@ rise-push (first ∷ second ∷ more) a rise last =
     let next = (and_parts (not (int_lt second.at first.at)) _ parts.0).0 in
     and_from _ _ (all-push (λ later. not (int_lt later.at first.at)) (second ∷ more) a parts.0 (not_below-trans first.at second.at a.at next above)) rest
 
-reader-agrees : (row : KeptReader) → is_valid_reader_row row ≡ true → agrees row ≡ true
+reader-agrees : (row : ReaderState) → is_valid_reader_row row ≡ true → agrees row ≡ true
 unfolding is_valid_reader_row
 reader-agrees row valid = (and_parts (is_name row.name && is_number row.version) _ (and_parts (is_name row.name && is_number row.version && agrees row) _ valid).0).1
 
 -- what stands on a live manifest stands on it still, where another is new
-by_live : (s : State) (row : KeptManifest) → has_key manifest_key row s.manifests ≡ false → (note : KeptNote) (live : Option LiveNote) → note.live ≡ live
+by_live : (s : State) (row : ManifestState) → has_key manifest_key row s.manifests ≡ false → (note : NoteState) (live : Option LiveNote) → note.live ≡ live
     → stands_on_live s note ≡ true → stands_on_live (with_row s (kept.Manifest row)) note ≡ true
 by_live s row new note None is stands = ap (λ live. elim live [ None ↦ true | Some its ↦ is_live_manifest (with_row s (kept.Manifest row)) its.manifest ]) is
 by_live s row new note (Some its) is stands =
@@ -169,7 +169,7 @@ by_live s row new note (Some its) is stands =
     ∙ ap (λ rows. passes (λ r. is_some r.live) (row_of manifest_key wanted rows)) (put_row-new manifest_key row s.manifests new)
     ∙ live-within s.manifests row wanted (place_of_key manifest_key wanted s.manifests) refl lives_on
 
-manifest-stays : (s : State) (row : KeptManifest) → has_key manifest_key row s.manifests ≡ false → (note : KeptNote)
+manifest-stays : (s : State) (row : ManifestState) → has_key manifest_key row s.manifests ≡ false → (note : NoteState)
     → stands_on_live s note ≡ true → stands_on_live (with_row s (kept.Manifest row)) note ≡ true
 manifest-stays s row new note stands = by_live s row new note note.live refl stands
 
@@ -189,7 +189,7 @@ sound-with s (kept.Reader row) parts follows valid =
     }
 sound-with s (kept.Manifest row) parts follows valid =
     let new = new-manifest s row follows in
-    let stay : (note : KeptNote) → stands_on_live s note ≡ true → stands_on_live (with_row s (kept.Manifest row)) note ≡ true = manifest-stays s row new in
+    let stay : (note : NoteState) → stands_on_live s note ≡ true → stands_on_live (with_row s (kept.Manifest row)) note ≡ true = manifest-stays s row new in
     record {
       readers = parts.readers;
       manifests = distinct-put_row manifest_key row s.manifests parts.manifests;

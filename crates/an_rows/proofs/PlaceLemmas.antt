@@ -6,7 +6,7 @@ use Rattle.std.proofs.lemmas.Bool.{cases_lt, lt-ltb, le-ltb}
 use Rattle.std.proofs.lemmas.List.Sums.{prefix_len-le-length}
 use Rattle.std.proofs.lemmas.Option.{same_Some}
 use Rattle.an_state.specs.Entries.{with_row, with_rows}
-use Rattle.an_state.specs.State.{State, KeptReader, KeptManifest, KeptNote}
+use Rattle.an_state.specs.State.{State, ReaderState, ManifestState, NoteState}
 use Rattle.an_state.specs.Tables.{length_of_list, place_of_object}
 use Rattle.an_state.specs.declared.command.Object.TheVariants as object
 use Rattle.an_state.specs.declared.entry.Row.{Row}
@@ -26,17 +26,17 @@ place_or_end test rows =
     ]
 
 module _ (s : State) (place : ℕ) where
-  pub reader_place : (row : KeptReader) (name : List ℕ) → name ≡ row.name
+  pub reader_place : (row : ReaderState) (name : List ℕ) → name ≡ row.name
       → place ≡ unwrap_or (place_of_object s (object.Reader name)) (length_of_list s 1) → place ≡ place_in s (kept.Reader row)
   reader_place row name named is =
       is ∙ ap (λ n. unwrap_or (place_of_object s (object.Reader n)) (length s.readers)) named ∙ place_or_end _ s.readers
 
-  pub manifest_place : (row : KeptManifest) (name : List ℕ) → name ≡ row.name
+  pub manifest_place : (row : ManifestState) (name : List ℕ) → name ≡ row.name
       → place ≡ unwrap_or (place_of_object s (object.Manifest name)) (length_of_list s 2) → place ≡ place_in s (kept.Manifest row)
   manifest_place row name named is =
       is ∙ ap (λ n. unwrap_or (place_of_object s (object.Manifest n)) (length s.manifests)) named ∙ place_or_end _ s.manifests
 
-  pub note_place : (row : KeptNote) (owner name : List ℕ) → owner ≡ row.owner → name ≡ row.name
+  pub note_place : (row : NoteState) (owner name : List ℕ) → owner ≡ row.owner → name ≡ row.name
       → place ≡ unwrap_or (place_of_object s (object.Note owner name)) (length_of_list s 3) → place ≡ place_in s (kept.Note row)
   note_place row owner name owned named is =
       is ∙ ap (λ o. unwrap_or (place_of_object s (object.Note o name)) (length s.notes)) owned

@@ -25,7 +25,7 @@ use Rattle.an_policy.specs.declared.reader.Role.TheVariants as role
 use Rattle.an_state.specs.Commands.{is_number}
 use Rattle.an_state.specs.Rows.{reader_agrees}
 use Rattle.an_state.specs.Sound.{agrees}
-use Rattle.an_state.specs.State.{KeptReader}
+use Rattle.an_state.specs.State.{ReaderState}
 use Rattle.an_state.specs.declared.entry.Row.{Row}
 use Rattle.an_state.specs.declared.entry.Row.TheVariants as kept
 use Rattle.an_rows.specs.RowTree.{text_items, role_text, live_reader_members, reader_tombstone_members, row_members, row_text, table_of}
@@ -106,7 +106,7 @@ same-reader reader name version e f =
 
 -- ---- a reader
 
-module _ (row : KeptReader) (reader : Reader) (live : row.live ≡ Some reader) (valid : is_valid_reader reader ≡ true) (named : is_name row.name ≡ true) (numbered : is_number row.version ≡ true) where
+module _ (row : ReaderState) (reader : Reader) (live : row.live ≡ Some reader) (valid : is_valid_reader reader ≡ true) (named : is_name row.name ≡ true) (numbered : is_number row.version ≡ true) where
   fine-reader : FineMembers (live_reader_members row reader)
   unfolding live_reader_members
   fine-reader =
@@ -161,7 +161,7 @@ module _ (row : KeptReader) (reader : Reader) (live : row.live ≡ Some reader) 
       ∙ next Bytes (result_ok (reader_of tree row.name row.version)) reader _ (ap result_ok reader-read ∙ ap Some same)
       ∙ ap (λ its. Ok (record { name = row.name; version = row.version; live = its })) (sym live)
 
-module _ (row : KeptReader) (named : is_name row.name ≡ true) (numbered : is_number row.version ≡ true) where
+module _ (row : ReaderState) (named : is_name row.name ≡ true) (numbered : is_number row.version ≡ true) where
   fine-reader_tombstone : FineMembers (reader_tombstone_members row)
   unfolding reader_tombstone_members
   fine-reader_tombstone =
@@ -194,10 +194,10 @@ read-from row members same fine order read =
     ∙ read_then (row_in (table_of row) (object members)) row _ read
     ∙ cond-true _ _ _ ((bytes_eq-Decides (row_text row) (row_text row)).1 refl)
 
-abbrev Reads : KeptReader → Type 0
+abbrev Reads : ReaderState → Type 0
 Reads row = row_of_text 1 (row_text (kept.Reader row)) ≡ Ok (kept.Reader row)
 
-reads-reader : (row : KeptReader) (live : Option Reader) → row.live ≡ live → is_valid_reader_row row ≡ true → Reads row
+reads-reader : (row : ReaderState) (live : Option Reader) → row.live ≡ live → is_valid_reader_row row ≡ true → Reads row
 unfolding is_valid_reader_row
 reads-reader row None is valid =
     let parts = and_parts (is_name row.name && is_number row.version && agrees row) _ valid in
@@ -215,5 +215,5 @@ reads-reader row (Some reader) is valid =
     (fine-reader row reader is lives both.0 both.1) (order-reader row reader is lives both.0 both.1)
     (read_then (reader_row_in (object (live_reader_members row reader))) row _ (row-reader row reader is lives both.0 both.1 first.1))
 
-pub reader-reads-back : (row : KeptReader) → is_valid_reader_row row ≡ true → Reads row
+pub reader-reads-back : (row : ReaderState) → is_valid_reader_row row ≡ true → Reads row
 reader-reads-back row valid = reads-reader row row.live refl valid

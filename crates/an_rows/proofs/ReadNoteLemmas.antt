@@ -17,7 +17,7 @@ use Rattle.an_policy.specs.Reader.{is_user}
 use Rattle.an_policy.specs.declared.group.Group.{Group}
 use Rattle.an_policy.proofs.GroupLemmas as groups
 use Rattle.an_state.specs.Commands.{is_number}
-use Rattle.an_state.specs.State.{KeptNote, LiveNote}
+use Rattle.an_state.specs.State.{NoteState, LiveNote}
 use Rattle.an_state.specs.declared.entry.Row.TheVariants as kept
 use Rattle.an_rows.specs.RowTree.{moment_tree, live_note_ending, live_note_members, note_tombstone_members, row_text}
 use Rattle.an_rows.specs.Valid.{is_iri, is_tombstone_number, is_note, if_any, is_valid_live_note, is_number_of_note, is_valid_note_row}
@@ -68,7 +68,7 @@ note-tree tree h = (and_parts (is_tree tree) _ (and_parts _ _ h).0).0
 
 -- ---- a live annotation
 
-note-by : (value : Data) (row : KeptNote) (live : LiveNote)
+note-by : (value : Data) (row : NoteState) (live : LiveNote)
     → name_in (codes "owner") value ≡ Some row.owner → name_in (codes "name") value ≡ Some row.name → flag_in value ≡ Some true → version_in value ≡ Some row.version
     → name_in (codes "manifest") value ≡ Some live.manifest → group_in (codes "group") value ≡ Some live.group → creator_in value ≡ Some live.creator
     → moment_in (codes "created") value ≡ Some live.created → moment_in (codes "modified") value ≡ live.modified → tree_in value ≡ Some live.tree
@@ -90,7 +90,7 @@ note-by value row live owner name flag version manifest group creator created mo
     ∙ read_then (live_note_in value) live _ lives
     ∙ ap (λ its. Ok (record { owner = row.owner; name = row.name; version = row.version; live = its })) (sym is)
 
-module _ (row : KeptNote) (manifest : List ℕ) (group : Group) (creator : List ℕ) (created : ℤ) (tree : Data)
+module _ (row : NoteState) (manifest : List ℕ) (group : Group) (creator : List ℕ) (created : ℤ) (tree : Data)
     (owned : is_name row.owner ≡ true) (named : is_name row.name ≡ true) (numbered : is_number row.version ≡ true) (on : is_name manifest ≡ true)
     (grouped : is_valid_group group ≡ true) (written : is_iri creator ≡ true) (made : is_moment created ≡ true) (note : is_note tree ≡ true) where
   abbrev its : Option ℤ → LiveNote
@@ -135,7 +135,7 @@ tombstone-small : (n : ℕ) → is_tombstone_number n ≡ true → nat_lt n (2 ^
 unfolding is_tombstone_number
 tombstone-small n h = grind (arith, nat_tests)
 
-module _ (row : KeptNote) (owned : is_name row.owner ≡ true) (named : is_name row.name ≡ true) (numbered : is_tombstone_number row.version ≡ true) where
+module _ (row : NoteState) (owned : is_name row.owner ≡ true) (named : is_name row.name ≡ true) (numbered : is_tombstone_number row.version ≡ true) where
   fine-note_tombstone : FineMembers (note_tombstone_members row)
   unfolding note_tombstone_members
   fine-note_tombstone =
@@ -160,10 +160,10 @@ module _ (row : KeptNote) (owned : is_name row.owner ≡ true) (named : is_name 
 
 -- ---- any row of an annotation
 
-abbrev by_live_note : KeptNote → Option LiveNote → Members
+abbrev by_live_note : NoteState → Option LiveNote → Members
 by_live_note row live = elim live [ None ↦ note_tombstone_members row | Some its ↦ live_note_members row its ]
 
-reads-note : (row : KeptNote) (live : Option LiveNote) → row.live ≡ live → is_valid_note_row row ≡ true → row_of_text 3 (row_text (kept.Note row)) ≡ Ok (kept.Note row)
+reads-note : (row : NoteState) (live : Option LiveNote) → row.live ≡ live → is_valid_note_row row ≡ true → row_of_text 3 (row_text (kept.Note row)) ≡ Ok (kept.Note row)
 unfolding is_valid_note_row
 reads-note row None is valid =
     let parts = and_parts (is_name row.owner && is_name row.name && is_number_of_note row.live row.version) _ valid in
@@ -190,5 +190,5 @@ reads-note row (Some live) is valid =
     (read_then (note_row_in (object (live_note_members row live))) row _
     (row-note row live.manifest live.group live.creator live.created live.tree both.0 both.1 number on.0 on.1 creator.1 created.1 tree.1 live.modified modified.1 is))
 
-pub note-reads-back : (row : KeptNote) → is_valid_note_row row ≡ true → row_of_text 3 (row_text (kept.Note row)) ≡ Ok (kept.Note row)
+pub note-reads-back : (row : NoteState) → is_valid_note_row row ≡ true → row_of_text 3 (row_text (kept.Note row)) ≡ Ok (kept.Note row)
 note-reads-back row valid = reads-note row row.live refl valid

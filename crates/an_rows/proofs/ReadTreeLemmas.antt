@@ -14,7 +14,7 @@ use Rattle.an_policy.specs.Group.{group_named, group_text}
 use Rattle.an_policy.specs.declared.group.Group.{Group}
 use Rattle.an_policy.proofs.GroupLemmas as group
 use Rattle.an_state.specs.Commands.{is_number}
-use Rattle.an_state.specs.State.{KeptManifest, LiveManifest}
+use Rattle.an_state.specs.State.{ManifestState, LiveManifest}
 use Rattle.an_state.specs.declared.entry.Row.TheVariants as kept
 use Rattle.an_rows.specs.RowTree.{moment_tree, live_manifest_members, manifest_tombstone_members, row_text}
 use Rattle.an_rows.specs.Valid.{is_manifest_group, is_sheet, if_any, is_valid_live_manifest, is_valid_manifest_row}
@@ -35,7 +35,7 @@ group-read its h = ap (option_and_then (only_if is_manifest_group)) (group.read_
 
 -- ---- a manifest
 
-manifest-by : (value : Data) (row : KeptManifest) (live : LiveManifest)
+manifest-by : (value : Data) (row : ManifestState) (live : LiveManifest)
     → name_in (codes "name") value ≡ Some row.name → version_in value ≡ Some row.version → manifest_group_in value ≡ Some row.group → flag_in value ≡ Some true
     → moment_in (codes "created") value ≡ Some live.created → moment_in (codes "modified") value ≡ live.modified → tree_in value ≡ Some live.tree
     → result_ok (manifest_of live.tree) ≡ Some live.tree → row.live ≡ Some live → manifest_row_in value ≡ Ok row
@@ -61,7 +61,7 @@ sheet-tree : (tree : Data) → is_sheet tree ≡ true → is_tree tree ≡ true
 unfolding is_sheet
 sheet-tree tree h = (and_parts _ _ h).0
 
-module _ (row : KeptManifest) (created : ℤ) (tree : Data) (named : is_name row.name ≡ true) (numbered : is_number row.version ≡ true)
+module _ (row : ManifestState) (created : ℤ) (tree : Data) (named : is_name row.name ≡ true) (numbered : is_number row.version ≡ true)
     (grouped : is_manifest_group row.group ≡ true) (made : is_moment created ≡ true) (sheet : is_sheet tree ≡ true) where
   abbrev its : Option ℤ → LiveManifest
   its modified = record { created = created; modified = modified; tree = tree }
@@ -94,7 +94,7 @@ module _ (row : KeptManifest) (created : ℤ) (tree : Data) (named : is_name row
       (passing is_name row.name named) (passing is_number row.version numbered) (group-read row.group grouped) refl
       (moment-read created made) (moment-read m h) (passing is_tree tree (sheet-tree tree sheet)) (sheet-again tree sheet) is
 
-module _ (row : KeptManifest) (named : is_name row.name ≡ true) (numbered : is_number row.version ≡ true) (grouped : is_manifest_group row.group ≡ true) where
+module _ (row : ManifestState) (named : is_name row.name ≡ true) (numbered : is_number row.version ≡ true) (grouped : is_manifest_group row.group ≡ true) where
   fine-manifest_tombstone : FineMembers (manifest_tombstone_members row)
   unfolding manifest_tombstone_members
   fine-manifest_tombstone =
@@ -117,10 +117,10 @@ module _ (row : KeptManifest) (named : is_name row.name ≡ true) (numbered : is
       ∙ next Bytes (flag_in value) false (λ flag. then_read (manifest_if_live flag value) (λ its. Ok (record { name = row.name; version = row.version; group = row.group; live = its }))) refl
       ∙ ap (λ its. Ok (record { name = row.name; version = row.version; group = row.group; live = its })) (sym dead)
 
-abbrev by_live_manifest : KeptManifest → Option LiveManifest → Members
+abbrev by_live_manifest : ManifestState → Option LiveManifest → Members
 by_live_manifest row live = elim live [ None ↦ manifest_tombstone_members row | Some its ↦ live_manifest_members row its ]
 
-reads-manifest : (row : KeptManifest) (live : Option LiveManifest) → row.live ≡ live → is_valid_manifest_row row ≡ true
+reads-manifest : (row : ManifestState) (live : Option LiveManifest) → row.live ≡ live → is_valid_manifest_row row ≡ true
     → row_of_text 2 (row_text (kept.Manifest row)) ≡ Ok (kept.Manifest row)
 unfolding is_valid_manifest_row
 reads-manifest row None is valid =
@@ -142,5 +142,5 @@ reads-manifest row (Some live) is valid =
     (read_then (manifest_row_in (object (live_manifest_members row live))) row _
     (row-manifest row live.created live.tree both.0 both.1 first.1 moments.0 lives.1 live.modified moments.1 is))
 
-pub manifest-reads-back : (row : KeptManifest) → is_valid_manifest_row row ≡ true → row_of_text 2 (row_text (kept.Manifest row)) ≡ Ok (kept.Manifest row)
+pub manifest-reads-back : (row : ManifestState) → is_valid_manifest_row row ≡ true → row_of_text 2 (row_text (kept.Manifest row)) ≡ Ok (kept.Manifest row)
 manifest-reads-back row valid = reads-manifest row row.live refl valid

@@ -9,20 +9,20 @@ use Rattle.std.proofs.lemmas.Slice.Eq.{bytes_eq-Decides}
 use Rattle.std.proofs.lemmas.Int.{ints}
 use Rattle.an_base.specs.Outcome.{or_refuse, passes}
 use Rattle.an_keyed.specs.Key.{Key, same_key}
-use Rattle.an_keyed.specs.Rows.{put_row, keys_are_distinct}
+use Rattle.an_keyed.specs.Rows.{keys_are_distinct}
+use Rattle.an_keyed.proofs.KeyLemmas.{other-key}
+use Rattle.an_keyed.proofs.PutLemmas.{put_row-new}
 use Rattle.an_keep.specs.declared.cell.Cell.{Cell}
 use Rattle.an_policy.specs.declared.reader.Reader.{Reader}
 use Rattle.an_state.specs.View.{last_moment}
 use Rattle.an_state.specs.Entries.{with_row}
 use Rattle.an_state.specs.Sound.{is_sound, agrees, tokens_are_distinct, stands_on_live, moments_never_fall}
-use Rattle.an_state.specs.State.{State, KeptReader, KeptManifest, KeptNote, empty, reader_key, manifest_key, note_key, live_readers, is_distinct, manifests_are_distinct}
+use Rattle.an_state.specs.State.{State, ReaderState, ManifestState, NoteState, empty, reader_key, manifest_key, note_key, live_readers, is_distinct, manifests_are_distinct}
 use Rattle.an_state.specs.declared.activity.Activity.{Activity}
 use Rattle.an_state.specs.declared.entry.Row.{Row}
 use Rattle.an_state.specs.declared.entry.Row.TheVariants as kept
-use Rattle.an_state.proofs.DistinctLemmas.{put_at-position, other-key}
 use Rattle.an_rows.specs.Valid.{is_valid, is_valid_row, is_valid_reader_row, is_valid_manifest_row, is_valid_note_row, is_valid_activity}
 use Rattle.an_rows.specs.Cells.{place_of, cell_of, cells_from, row_cells, first_cell, with_first, cells, rows_before, has_key, has_its_token, may_follow, if_next, row_behind, restored, is_first, state_of}
-use Rattle.an_rows.proofs.CellLemmas.{set_or_push-new}
 use Rattle.an_rows.proofs.ReadActivityLemmas.{row-reads-back}
 
 -- ---- a row behind a state
@@ -74,18 +74,13 @@ module _ {R : Type 0} (key : R → Key) where
       none-later [] none = (or_parts _ _ none).0
       none-later (other ∷ front) none = none-later front (or_parts _ _ none).1
 
-  -- a row of a new key stands behind all
-  pub put_row-new : (row : R) (rows : List R) → has_key key row rows ≡ false → put_row key row rows ≡ rows ++ row ∷ []
-  put_row-new row rows new =
-      put_at-position key (λ other. same_key (key other) (key row)) row rows ∙ set_or_push-new (λ other. same_key (key other) (key row)) row rows new
-
 -- the front of a list, and one row more
 shift : {R : Type 0} (P : List R → Type 0) (front : List R) (row : R) (rows : List R) → P (front ++ row ∷ rows) → P ((front ++ row ∷ []) ++ rows)
 shift P front row rows h = subst P (sym (append_assoc front (row ∷ []) rows)) h
 
 -- ---- readers
 
-abbrev pub lives : List KeptReader → List Reader
+abbrev pub lives : List ReaderState → List Reader
 lives rows = filter_map (λ row. row.live) rows
 
 abbrev pub has : List ℕ → Reader → Bool
@@ -98,9 +93,9 @@ passes-never (Some x) = refl
 pub other-token : (a b : List ℕ) → bytes_eq a b ≡ false → bytes_eq b a ≡ false
 other-token a b differ = false_from_ne_true _ (λ same. both_ways _ differ ((bytes_eq-Decides a b).1 (sym ((bytes_eq-Decides b a).0 same))))
 
-module _ (row : KeptReader) (rows : List KeptReader) (reader : Reader) (live : row.live ≡ Some reader) where
+module _ (row : ReaderState) (rows : List ReaderState) (reader : Reader) (live : row.live ≡ Some reader) where
   -- a token that no later reader has is not the row's
-  none-later : (token : List ℕ) (front : List KeptReader) → list_any (has token) (lives (front ++ row ∷ rows)) ≡ false → bytes_eq reader.token token ≡ false
+  none-later : (token : List ℕ) (front : List ReaderState) → list_any (has token) (lives (front ++ row ∷ rows)) ≡ false → bytes_eq reader.token token ≡ false
   none-later token [] none = (or_parts _ _ (sym (ap (λ l. list_any (has token) (cons_option l (lives rows))) live) ∙ none)).0
   none-later token (first ∷ front) none = none-later token front (behind first.live none)
     where
@@ -108,7 +103,7 @@ module _ (row : KeptReader) (rows : List KeptReader) (reader : Reader) (live : r
       behind None h = h
       behind (Some r) h = (or_parts _ _ h).1
 
-  none-has : (front : List KeptReader) → tokens_are_distinct (lives (front ++ row ∷ rows)) ≡ true → list_any (has reader.token) (lives front) ≡ false
+  none-has : (front : List ReaderState) → tokens_are_distinct (lives (front ++ row ∷ rows)) ≡ true → list_any (has reader.token) (lives front) ≡ false
   none-has [] distinct = refl
   none-has (first ∷ front) distinct = behind (none-has front) first.live distinct
     where
@@ -119,18 +114,18 @@ module _ (row : KeptReader) (rows : List KeptReader) (reader : Reader) (live : r
           let parts = and_parts (not (list_any (has r.token) (lives (front ++ row ∷ rows)))) _ h in
           or_from _ _ (other-token reader.token r.token (none-later r.token front (not-true _ parts.0))) (before parts.1)
 
-abbrev with_readers : List KeptReader → State
+abbrev with_readers : List ReaderState → State
 with_readers front = record { readers = front; manifests = []; notes = []; activities = [] }
 
-token-new : (front : List KeptReader) (row : KeptReader) (rows : List KeptReader) (live : Option Reader) → row.live ≡ live → tokens_are_distinct (lives (front ++ row ∷ rows)) ≡ true
+token-new : (front : List ReaderState) (row : ReaderState) (rows : List ReaderState) (live : Option Reader) → row.live ≡ live → tokens_are_distinct (lives (front ++ row ∷ rows)) ≡ true
     → has_its_token (with_readers front) row ≡ false
 token-new front row rows None is distinct = ap (passes (λ reader. list_any (has reader.token) (lives front))) is
 token-new front row rows (Some reader) is distinct = ap (passes (λ reader. list_any (has reader.token) (lives front))) is ∙ none-has row rows reader is front distinct
 
-puts-reader : (front : List KeptReader) (row : KeptReader) → may_follow (with_readers front) (kept.Reader row) ≡ true → with_row (with_readers front) (kept.Reader row) ≡ with_readers (front ++ row ∷ [])
+puts-reader : (front : List ReaderState) (row : ReaderState) → may_follow (with_readers front) (kept.Reader row) ≡ true → with_row (with_readers front) (kept.Reader row) ≡ with_readers (front ++ row ∷ [])
 puts-reader front row follows = ap with_readers (put_row-new reader_key row front (not-true _ (and_parts (not (has_key reader_key row front)) _ follows).0))
 
-follow-readers : (front rows : List KeptReader) → keys_are_distinct reader_key (front ++ rows) ≡ true → tokens_are_distinct (lives (front ++ rows)) ≡ true
+follow-readers : (front rows : List ReaderState) → keys_are_distinct reader_key (front ++ rows) ≡ true → tokens_are_distinct (lives (front ++ rows)) ≡ true
     → list_all is_valid_reader_row rows ≡ true → Follow kept.Reader with_readers (λ front row. refl) puts-reader front rows
 follow-readers front [] keys tokens valid = tt
 follow-readers front (row ∷ rows) keys tokens valid =
@@ -144,27 +139,27 @@ follow-readers front (row ∷ rows) keys tokens valid =
 -- ---- the other lists, behind those before them
 
 module _ (s : State) where
-  abbrev with_manifests : List KeptManifest → State
+  abbrev with_manifests : List ManifestState → State
   with_manifests front = record { readers = s.readers; manifests = front; notes = []; activities = [] }
 
-  abbrev with_notes : List KeptNote → State
+  abbrev with_notes : List NoteState → State
   with_notes front = record { readers = s.readers; manifests = s.manifests; notes = front; activities = [] }
 
   abbrev with_activities : List Activity → State
   with_activities front = record { readers = s.readers; manifests = s.manifests; notes = s.notes; activities = front }
 
-  puts-manifest : (front : List KeptManifest) (row : KeptManifest) → may_follow (with_manifests front) (kept.Manifest row) ≡ true
+  puts-manifest : (front : List ManifestState) (row : ManifestState) → may_follow (with_manifests front) (kept.Manifest row) ≡ true
       → with_row (with_manifests front) (kept.Manifest row) ≡ with_manifests (front ++ row ∷ [])
   puts-manifest front row follows = ap with_manifests (put_row-new manifest_key row front (not-true _ follows))
 
-  puts-note : (front : List KeptNote) (row : KeptNote) → may_follow (with_notes front) (kept.Note row) ≡ true → with_row (with_notes front) (kept.Note row) ≡ with_notes (front ++ row ∷ [])
+  puts-note : (front : List NoteState) (row : NoteState) → may_follow (with_notes front) (kept.Note row) ≡ true → with_row (with_notes front) (kept.Note row) ≡ with_notes (front ++ row ∷ [])
   puts-note front row follows = ap with_notes (put_row-new note_key row front (not-true _ (and_parts (not (has_key note_key row front)) _ follows).0))
 
   puts-activity : (front : List Activity) (row : Activity) → may_follow (with_activities front) (kept.Activity row) ≡ true
       → with_row (with_activities front) (kept.Activity row) ≡ with_activities (front ++ row ∷ [])
   puts-activity front row follows = refl
 
-  follow-manifests : (front rows : List KeptManifest) → keys_are_distinct manifest_key (front ++ rows) ≡ true → list_all is_valid_manifest_row rows ≡ true
+  follow-manifests : (front rows : List ManifestState) → keys_are_distinct manifest_key (front ++ rows) ≡ true → list_all is_valid_manifest_row rows ≡ true
       → Follow kept.Manifest with_manifests (λ front row. refl) puts-manifest front rows
   follow-manifests front [] keys valid = tt
   follow-manifests front (row ∷ rows) keys valid =
@@ -174,7 +169,7 @@ module _ (s : State) where
         follow-manifests (front ++ row ∷ []) rows (shift (λ l. keys_are_distinct manifest_key l ≡ true) front row rows keys) parts.1,
       )
 
-  follow-notes : (front rows : List KeptNote) → keys_are_distinct note_key (front ++ rows) ≡ true → list_all (stands_on_live s) rows ≡ true → list_all is_valid_note_row rows ≡ true
+  follow-notes : (front rows : List NoteState) → keys_are_distinct note_key (front ++ rows) ≡ true → list_all (stands_on_live s) rows ≡ true → list_all is_valid_note_row rows ≡ true
       → Follow kept.Note with_notes (λ front row. refl) puts-note front rows
   follow-notes front [] keys stand valid = tt
   follow-notes front (row ∷ rows) keys stand valid =

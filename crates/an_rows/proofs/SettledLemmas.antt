@@ -4,14 +4,14 @@ use Rattle.std.specs.List.{list_all, list_any, position_or_len}
 use Rattle.std.proofs.lemmas.Bool.{cases_Bool, and_parts, cond_both}
 use Rattle.an_keyed.specs.Key.{Key, same_key}
 use Rattle.an_keyed.specs.Rows.{put_row}
+use Rattle.an_keyed.proofs.KeyLemmas.{same_key-true}
+use Rattle.an_keyed.proofs.PutLemmas.{put_at-position, set_or_push}
 use Rattle.an_keep.specs.declared.cell.Change.{Change}
 use Rattle.an_state.specs.Entries.{with_row, with_rows}
 use Rattle.an_state.specs.State.{State, reader_key, manifest_key, note_key}
 use Rattle.an_state.specs.declared.activity.Activity.{Activity}
 use Rattle.an_state.specs.declared.entry.Row.{Row}
 use Rattle.an_state.specs.declared.entry.Row.TheVariants as kept
-use Rattle.an_state.proofs.DistinctLemmas.{set_or_push, put_at-position}
-use Rattle.an_state.proofs.ViewLemmas.{same_key-equal}
 use Rattle.an_rows.specs.Cells.{cell_of, cells_from}
 use Rattle.an_rows.specs.Changes.{put, place_in, stands_in, all_but_first_stand, row_changes}
 use Rattle.an_rows.specs.Lent.{change_in}
@@ -43,7 +43,7 @@ module _ {R : Type 0} (key : R → Key) (wanted : Key) where
       let others = set_or_push (λ other. same_key (key other) (key row)) row rows in
       cond_both (same_key (key first) (key row)) (row ∷ rows) (first ∷ others) (KeepKey (first ∷ rows))
       (λ same.
-      let as_first : has row ≡ has first = ap (λ k. same_key k wanted) (sym (same_key-equal (key first) (key row) same)) in
+      let as_first : has row ≡ has first = ap (λ k. same_key k wanted) (sym (same_key-true (key first) (key row) same)) in
       (ap (λ b. b || list_any has rows) as_first ∙ any, ap (λ b. cond (not b) (1 + position_or_len has rows) 0) as_first))
       (λ differ. elim (cases_Bool (has first)) [
         | inl is ↦ keep-first first rows others is

@@ -17,7 +17,7 @@ use Rattle.an_policy.specs.declared.reader.Reader.{Reader}
 use Rattle.an_policy.specs.declared.reader.ReaderError.{ReaderError}
 use Rattle.an_policy.specs.declared.reader.ReaderError.TheVariants as error
 use Rattle.an_state.specs.Commands.{is_number}
-use Rattle.an_state.specs.State.{KeptReader}
+use Rattle.an_state.specs.State.{ReaderState}
 use Rattle.an_rows.specs.RowRead.{name_in, flag_in, number_in, version_in, reader_named, reader_row_in}
 use Rattle.an_rows.specs.Valid.{are_groups, are_groups_behind, is_valid_reader, is_valid_reader_row}
 use Rattle.an_rows.specs.declared.refusal.RowError.{RowError}
@@ -103,7 +103,7 @@ valid-reader tree name version reader whole read =
     and_from _ _ (and_from _ _ token.1 (and_from _ _ user.1 (text-utf8 (codes "user") tree reader.user whole user.0)))
     (found-groups (get (codes "groups") tree) reader.groups read.groups)
 
-module _ (tree : Data) (whole : is_whole tree ≡ true) (row : KeptReader) where
+module _ (tree : Data) (whole : is_whole tree ≡ true) (row : ReaderState) where
   valid-named : (name : List ℕ) (version : ℕ) (live : Bool) → is_name name ≡ true → is_number version ≡ true → reader_named name version live tree ≡ Ok row → is_valid_reader_row row ≡ true
   unfolding is_valid_reader_row
   valid-named name version false named numbered is =

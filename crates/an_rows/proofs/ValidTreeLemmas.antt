@@ -24,7 +24,7 @@ use Rattle.an_policy.specs.declared.group.Audience.{Audience}
 use Rattle.an_policy.specs.declared.group.Group.{Group}
 use Rattle.an_policy.proofs.GroupLemmas as groups
 use Rattle.an_state.specs.Commands.{is_number}
-use Rattle.an_state.specs.State.{KeptManifest, LiveManifest, KeptNote, LiveNote}
+use Rattle.an_state.specs.State.{ManifestState, LiveManifest, NoteState, LiveNote}
 use Rattle.an_state.specs.declared.activity.Activity.{Activity}
 use Rattle.an_state.specs.declared.entry.Row.{Row}
 use Rattle.an_state.specs.declared.entry.Row.TheVariants as kept
@@ -97,7 +97,7 @@ valid-if_live tree true live is =
     let read = was_read (live_manifest_in tree) (λ live. Ok (Some live)) live is in
     ap (if_any is_valid_live_manifest) (sym (same_Ok {E = RowError} (Some read.0) live read.2)) ∙ valid-live_manifest tree read.0 read.1
 
-module _ (tree : Data) (row : KeptManifest) where
+module _ (tree : Data) (row : ManifestState) where
   valid-manifest_named : (name : List ℕ) (version : ℕ) → is_name name ≡ true → is_number version ≡ true → manifest_named name version tree ≡ Ok row → is_valid_manifest_row row ≡ true
   unfolding manifest_named is_valid_manifest_row
   valid-manifest_named name version its numbered is =
@@ -141,7 +141,7 @@ module _ (tree : Data) (whole : is_whole tree ≡ true) where
       valid-live_on manifest.0 group.0 creator.0 live (named (codes "manifest") tree manifest.0 manifest.1) (grouped (codes "group") tree group.0 group.1)
       (and_from _ _ user.1 (text-utf8 (codes "creator") tree creator.0 whole user.0)) creator.2
 
-  valid-live_named : (owner name : List ℕ) (row : KeptNote) → is_name owner ≡ true → is_name name ≡ true → live_note_named owner name tree ≡ Ok row → is_valid_note_row row ≡ true
+  valid-live_named : (owner name : List ℕ) (row : NoteState) → is_name owner ≡ true → is_name name ≡ true → live_note_named owner name tree ≡ Ok row → is_valid_note_row row ≡ true
   unfolding live_note_named is_valid_note_row
   valid-live_named owner name row owned its is =
       let version = refused Bytes (version_in tree) _ row is in
@@ -149,18 +149,18 @@ module _ (tree : Data) (whole : is_whole tree ≡ true) where
       ap is_valid_note_row (sym (same_Ok {E = RowError} (record { owner = owner; name = name; version = version.0; live = Some live.0 }) row live.2))
       ∙ and_from _ _ (and_from _ _ (and_from _ _ owned its) (found-passed is_number (number_in tree) version.0 version.1).1) (valid-live_note live.0 live.1)
 
-  valid-tombstone_named : (owner name : List ℕ) (row : KeptNote) → is_name owner ≡ true → is_name name ≡ true → note_tombstone_named owner name tree ≡ Ok row → is_valid_note_row row ≡ true
+  valid-tombstone_named : (owner name : List ℕ) (row : NoteState) → is_name owner ≡ true → is_name name ≡ true → note_tombstone_named owner name tree ≡ Ok row → is_valid_note_row row ≡ true
   unfolding note_tombstone_named is_valid_note_row
   valid-tombstone_named owner name row owned its is =
       let version = refused Bytes (tombstone_version_in tree) _ row is in
       ap is_valid_note_row (sym (same_Ok {E = RowError} (record { owner = owner; name = name; version = version.0; live = None }) row version.2))
       ∙ and_from _ _ (and_from _ _ (and_from _ _ owned its) (found-passed is_tombstone_number (number_in tree) version.0 version.1).1) refl
 
-  valid-note_named : (owner name : List ℕ) (live : Bool) (row : KeptNote) → is_name owner ≡ true → is_name name ≡ true → note_named owner name live tree ≡ Ok row → is_valid_note_row row ≡ true
+  valid-note_named : (owner name : List ℕ) (live : Bool) (row : NoteState) → is_name owner ≡ true → is_name name ≡ true → note_named owner name live tree ≡ Ok row → is_valid_note_row row ≡ true
   valid-note_named owner name true row owned its is = valid-live_named owner name row owned its is
   valid-note_named owner name false row owned its is = valid-tombstone_named owner name row owned its is
 
-  valid-note_row : (row : KeptNote) → note_row_in tree ≡ Ok row → is_valid_note_row row ≡ true
+  valid-note_row : (row : NoteState) → note_row_in tree ≡ Ok row → is_valid_note_row row ≡ true
   unfolding note_row_in
   valid-note_row row is =
       let owner = refused Bytes (name_in (codes "owner") tree) _ row is in

@@ -9,7 +9,7 @@ use Rattle.an_keep.specs.declared.cell.Cell.{Cell}
 use Rattle.an_state.specs.View.{last_moment}
 use Rattle.an_state.specs.Entries.{with_row}
 use Rattle.an_state.specs.Sound.{stands_on_live}
-use Rattle.an_state.specs.State.{State, KeptReader, empty, reader_key, manifest_key, note_key}
+use Rattle.an_state.specs.State.{State, ReaderState, empty, reader_key, manifest_key, note_key}
 use Rattle.an_state.specs.State.{live_readers}
 use Rattle.an_state.specs.Tables.{length_of_list}
 use Rattle.an_state.specs.declared.entry.Row.{Row}
@@ -64,7 +64,7 @@ abbrev pub has_key : {R : Type 0} → (R → Key) → R → List R → Bool
 has_key key row rows = list_any (λ other. same_key (key other) (key row)) rows
 
 -- a live reader has this row's token, while the row is live
-abbrev pub has_its_token : State → KeptReader → Bool
+abbrev pub has_its_token : State → ReaderState → Bool
 has_its_token s row =
     passes
     (λ reader. list_any (λ other. bytes_eq other.token reader.token) (live_readers s)) row.live

@@ -20,7 +20,7 @@ use Rattle.an_policy.specs.Reader.{is_user, reader_of}
 use Rattle.an_policy.specs.declared.group.Audience.{Audience}
 use Rattle.an_policy.specs.declared.group.Group.{Group}
 use Rattle.an_state.specs.Commands.{is_number}
-use Rattle.an_state.specs.State.{KeptReader, KeptManifest, LiveManifest, KeptNote, LiveNote}
+use Rattle.an_state.specs.State.{ReaderState, ManifestState, LiveManifest, NoteState, LiveNote}
 use Rattle.an_state.specs.declared.activity.Activity.{Activity}
 use Rattle.an_state.specs.declared.entry.Row.{Row}
 use Rattle.an_state.specs.declared.entry.Row.TheVariants as kept
@@ -72,17 +72,17 @@ tree_in tree = option_and_then (only_if is_tree) (get (codes "tree") tree)
 
 -- ---- a reader
 
-abbrev pub live_reader_in : List ℕ → ℕ → Data → Result KeptReader RowError
+abbrev pub live_reader_in : List ℕ → ℕ → Data → Result ReaderState RowError
 live_reader_in name version tree =
     or_refuse Bytes (result_ok (reader_of tree name version)) (λ reader.
     Ok (record { name = name; version = version; live = Some reader }))
 
-abbrev pub reader_named : List ℕ → ℕ → Bool → Data → Result KeptReader RowError
+abbrev pub reader_named : List ℕ → ℕ → Bool → Data → Result ReaderState RowError
 reader_named name version true tree = live_reader_in name version tree
 reader_named name version false tree =
     Ok (record { name = name; version = version; live = None })
 
-unfoldable pub reader_row_in : Data → Result KeptReader RowError
+unfoldable pub reader_row_in : Data → Result ReaderState RowError
 reader_row_in tree =
     or_refuse Bytes (name_in (codes "name") tree) (λ name.
     or_refuse Bytes (version_in tree) (λ version.
@@ -106,14 +106,14 @@ abbrev pub manifest_if_live : Bool → Data → Result (Option LiveManifest) Row
 manifest_if_live false tree = Ok None
 manifest_if_live true tree = then_read (live_manifest_in tree) (λ live. Ok (Some live))
 
-unfoldable pub manifest_named : List ℕ → ℕ → Data → Result KeptManifest RowError
+unfoldable pub manifest_named : List ℕ → ℕ → Data → Result ManifestState RowError
 manifest_named name version tree =
     or_refuse Bytes (manifest_group_in tree) (λ group.
     or_refuse Bytes (flag_in tree) (λ flag.
     then_read (manifest_if_live flag tree) (λ live.
     Ok (record { name = name; version = version; group = group; live = live }))))
 
-unfoldable pub manifest_row_in : Data → Result KeptManifest RowError
+unfoldable pub manifest_row_in : Data → Result ManifestState RowError
 manifest_row_in tree =
     or_refuse Bytes (name_in (codes "name") tree) (λ name.
     or_refuse Bytes (version_in tree) (λ version.
@@ -143,22 +143,22 @@ live_note_in tree =
     or_refuse Bytes (creator_in tree) (λ creator.
     live_note_on manifest group creator tree)))
 
-unfoldable pub live_note_named : List ℕ → List ℕ → Data → Result KeptNote RowError
+unfoldable pub live_note_named : List ℕ → List ℕ → Data → Result NoteState RowError
 live_note_named owner name tree =
     or_refuse Bytes (version_in tree) (λ version.
     then_read (live_note_in tree) (λ live.
     Ok (record { owner = owner; name = name; version = version; live = Some live })))
 
-unfoldable pub note_tombstone_named : List ℕ → List ℕ → Data → Result KeptNote RowError
+unfoldable pub note_tombstone_named : List ℕ → List ℕ → Data → Result NoteState RowError
 note_tombstone_named owner name tree =
     or_refuse Bytes (tombstone_version_in tree) (λ version.
     Ok (record { owner = owner; name = name; version = version; live = None }))
 
-abbrev pub note_named : List ℕ → List ℕ → Bool → Data → Result KeptNote RowError
+abbrev pub note_named : List ℕ → List ℕ → Bool → Data → Result NoteState RowError
 note_named owner name true tree = live_note_named owner name tree
 note_named owner name false tree = note_tombstone_named owner name tree
 
-unfoldable pub note_row_in : Data → Result KeptNote RowError
+unfoldable pub note_row_in : Data → Result NoteState RowError
 note_row_in tree =
     or_refuse Bytes (name_in (codes "owner") tree) (λ owner.
     or_refuse Bytes (name_in (codes "name") tree) (λ name.

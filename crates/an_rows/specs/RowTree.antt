@@ -10,7 +10,7 @@ use Rattle.an_policy.specs.declared.group.Audience.{Audience}
 use Rattle.an_policy.specs.declared.reader.Reader.{Reader}
 use Rattle.an_policy.specs.declared.reader.Role.{Role}
 use Rattle.an_policy.specs.declared.reader.Role.TheVariants as role
-use Rattle.an_state.specs.State.{KeptReader, KeptManifest, LiveManifest, KeptNote, LiveNote}
+use Rattle.an_state.specs.State.{ReaderState, ManifestState, LiveManifest, NoteState, LiveNote}
 use Rattle.an_state.specs.declared.activity.Activity.{Activity}
 use Rattle.an_state.specs.declared.entry.Row.{Row}
 use Rattle.an_state.specs.declared.entry.Row.TheVariants as kept
@@ -54,7 +54,7 @@ role_text role.Reader = codes "reader"
 role_text role.Writer = codes "writer"
 role_text role.Curator = codes "curator"
 
-unfoldable pub live_reader_members : KeptReader → Reader → Members
+unfoldable pub live_reader_members : ReaderState → Reader → Members
 live_reader_members row reader =
     member (codes "groups") (array (text_items reader.groups))
     (flag_member true
@@ -64,11 +64,11 @@ live_reader_members row reader =
     (text_member (codes "user") reader.user
     (version_member row.version))))))
 
-unfoldable pub reader_tombstone_members : KeptReader → Members
+unfoldable pub reader_tombstone_members : ReaderState → Members
 reader_tombstone_members row =
     flag_member false (text_member (codes "name") row.name (version_member row.version))
 
-abbrev pub reader_members : KeptReader → Members
+abbrev pub reader_members : ReaderState → Members
 reader_members row = elim row.live [
   | None ↦ reader_tombstone_members row
   | Some reader ↦ live_reader_members row reader
@@ -76,7 +76,7 @@ reader_members row = elim row.live [
 
 -- ---- a manifest
 
-unfoldable pub live_manifest_members : KeptManifest → LiveManifest → Members
+unfoldable pub live_manifest_members : ManifestState → LiveManifest → Members
 live_manifest_members row live =
     member (codes "created") (moment_tree live.created)
     (text_member (codes "group") (group_text row.group)
@@ -86,14 +86,14 @@ live_manifest_members row live =
     (member (codes "tree") live.tree
     (version_member row.version))))))
 
-unfoldable pub manifest_tombstone_members : KeptManifest → Members
+unfoldable pub manifest_tombstone_members : ManifestState → Members
 manifest_tombstone_members row =
     text_member (codes "group") (group_text row.group)
     (flag_member false
     (text_member (codes "name") row.name
     (version_member row.version)))
 
-abbrev pub manifest_members : KeptManifest → Members
+abbrev pub manifest_members : ManifestState → Members
 manifest_members row = elim row.live [
   | None ↦ manifest_tombstone_members row
   | Some live ↦ live_manifest_members row live
@@ -102,13 +102,13 @@ manifest_members row = elim row.live [
 -- ---- an annotation
 
 -- the members of a live one from the owner's on
-unfoldable pub live_note_ending : KeptNote → LiveNote → Members
+unfoldable pub live_note_ending : NoteState → LiveNote → Members
 live_note_ending row live =
     text_member (codes "owner") row.owner
     (member (codes "tree") live.tree
     (version_member row.version))
 
-unfoldable pub live_note_members : KeptNote → LiveNote → Members
+unfoldable pub live_note_members : NoteState → LiveNote → Members
 live_note_members row live =
     member (codes "created") (moment_tree live.created)
     (text_member (codes "creator") live.creator
@@ -119,14 +119,14 @@ live_note_members row live =
     (text_member (codes "name") row.name
     (live_note_ending row live)))))))
 
-unfoldable pub note_tombstone_members : KeptNote → Members
+unfoldable pub note_tombstone_members : NoteState → Members
 note_tombstone_members row =
     flag_member false
     (text_member (codes "name") row.name
     (text_member (codes "owner") row.owner
     (version_member row.version)))
 
-abbrev pub note_members : KeptNote → Members
+abbrev pub note_members : NoteState → Members
 note_members row = elim row.live [
   | None ↦ note_tombstone_members row
   | Some live ↦ live_note_members row live

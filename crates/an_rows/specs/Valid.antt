@@ -21,7 +21,7 @@ use Rattle.an_policy.specs.declared.reader.Reader.{Reader}
 use Rattle.an_policy.specs.Group.{is_private}
 use Rattle.an_state.specs.Commands.{is_number}
 use Rattle.an_state.specs.Sound.{agrees}
-use Rattle.an_state.specs.State.{State, KeptReader, KeptManifest, LiveManifest, KeptNote}
+use Rattle.an_state.specs.State.{State, ReaderState, ManifestState, LiveManifest, NoteState}
 use Rattle.an_state.specs.State.{LiveNote}
 use Rattle.an_state.specs.declared.activity.Activity.{Activity}
 use Rattle.an_state.specs.declared.entry.Row.{Row}
@@ -69,7 +69,7 @@ abbrev pub if_any : {A : Type 0} → (A → Bool) → Option A → Bool
 if_any test None = true
 if_any test (Some value) = test value
 
-unfoldable pub is_valid_reader_row : KeptReader → Bool
+unfoldable pub is_valid_reader_row : ReaderState → Bool
 is_valid_reader_row row =
     is_name row.name && is_number row.version && agrees row && if_any is_valid_reader row.live
 
@@ -79,7 +79,7 @@ abbrev pub is_valid_live_manifest : LiveManifest → Bool
 is_valid_live_manifest live =
     is_moment live.created && if_any is_moment live.modified && is_sheet live.tree
 
-unfoldable pub is_valid_manifest_row : KeptManifest → Bool
+unfoldable pub is_valid_manifest_row : ManifestState → Bool
 is_valid_manifest_row row =
     is_name row.name && is_number row.version && is_manifest_group row.group
     && if_any is_valid_live_manifest row.live
@@ -95,7 +95,7 @@ abbrev pub is_number_of_note : Option LiveNote → ℕ → Bool
 is_number_of_note None version = is_tombstone_number version
 is_number_of_note (Some live) version = is_number version
 
-unfoldable pub is_valid_note_row : KeptNote → Bool
+unfoldable pub is_valid_note_row : NoteState → Bool
 is_valid_note_row row =
     is_name row.owner && is_name row.name && is_number_of_note row.live row.version
     && if_any is_valid_live_note row.live

@@ -1,5 +1,5 @@
 -- What was found, by places and by rows, and how what was written of it grows.
-use Rattle.std.proofs.Common.{◌≡◌, ℕ, suc, ◌+◌, ◌<◌, ◌≤◌, List, [], ◌∷◌, ◌++◌, map, length, get_or, take, drop, Bool, true, false, cond, Option, Some, None, Ok, Err, nat_lt, ◌==◌, refl, sym, ap, subst, ◌∙◌, arith, length-append, append-nil, append_assoc}
+use Rattle.std.proofs.Common.{◌≡◌, ℕ, suc, ◌+◌, ◌<◌, List, [], ◌∷◌, ◌++◌, map, length, get_or, take, drop, Bool, true, false, cond, Option, Some, None, Ok, Err, ◌==◌, refl, sym, ap, subst, ◌∙◌, arith, length-append, append-nil, append_assoc}
 use Rattle.std.proofs.lemmas.Bool.Decides.{nat_tests}
 use Rattle.std.specs.List.{filter_map, cons_option}
 use Rattle.std.specs.Prelude.{filter, slice_get}
@@ -13,7 +13,7 @@ use Rattle.an_base.specs.TextSet.{has_text}
 use Rattle.an_base.specs.Write.{item_text, item_commas}
 use Rattle.an_base.proofs.WriteLemmas.{item_commas-append}
 use Rattle.an_highlight.specs.Marks.{highlights_of}
-use Rattle.an_state.specs.State.{KeptNote, LiveNote}
+use Rattle.an_state.specs.State.{NoteState, LiveNote}
 use Rattle.an_model.specs.Bodies.{note_occurrences}
 use Rattle.an_model.specs.declared.occurrence.NoteOccurrence.{NoteOccurrence}
 use Rattle.an_search.specs.Found.{HasListed, StandAt, is_wanted_at}
@@ -30,34 +30,34 @@ use Rattle.an_search.specs.declared.wanted.Wanted.{Wanted}
 
 -- ---- one annotation, as an item
 
-pub listed_item : (base : List ℕ) (row : KeptNote) (tree : Data) → Some tree ≡ listed_note base row → item_commas (items_of (filter_map (listed_note base) (row ∷ []))) ≡ item_text tree
+pub listed_item : (base : List ℕ) (row : NoteState) (tree : Data) → Some tree ≡ listed_note base row → item_commas (items_of (filter_map (listed_note base) (row ∷ []))) ≡ item_text tree
 listed_item base row tree is = rw (sym is) (append-nil (item_text tree))
 
-pub deleted_item : (base : List ℕ) (row : KeptNote) → None ≡ listed_note base row → item_commas (items_of (filter_map (listed_note base) (row ∷ []))) ≡ []
+pub deleted_item : (base : List ℕ) (row : NoteState) → None ≡ listed_note base row → item_commas (items_of (filter_map (listed_note base) (row ∷ []))) ≡ []
 deleted_item base row is = rw (sym is) refl
 
 -- ---- rows at places
 
 -- the annotations at the wanted places are those at all places that are wanted
-pub stand-wanted : (notes : List KeptNote) (wanted : Wanted) (places : List ℕ)
+pub stand-wanted : (notes : List NoteState) (wanted : Wanted) (places : List ℕ)
     → StandAt notes (filter (is_wanted_at notes wanted) places) (filter (matches wanted) (filter_map (slice_get notes) places))
 stand-wanted notes wanted [] = refl
 stand-wanted notes wanted (place ∷ places) = by (slice_get notes place) refl (stand-wanted notes wanted places)
   where
-    kept : (row : KeptNote) (b : Bool) → slice_get notes place ≡ Some row → StandAt notes (filter (is_wanted_at notes wanted) places) (filter (matches wanted) (filter_map (slice_get notes) places))
+    kept : (row : NoteState) (b : Bool) → slice_get notes place ≡ Some row → StandAt notes (filter (is_wanted_at notes wanted) places) (filter (matches wanted) (filter_map (slice_get notes) places))
         → map (slice_get notes) (cond b (place ∷ filter (is_wanted_at notes wanted) places) (filter (is_wanted_at notes wanted) places))
         ≡ map Some (cond b (row ∷ filter (matches wanted) (filter_map (slice_get notes) places)) (filter (matches wanted) (filter_map (slice_get notes) places)))
     kept row true at rest = rw (at, rest) refl
     kept row false at rest = rest
 
-    by : (found : Option KeptNote) → slice_get notes place ≡ found → StandAt notes (filter (is_wanted_at notes wanted) places) (filter (matches wanted) (filter_map (slice_get notes) places))
+    by : (found : Option NoteState) → slice_get notes place ≡ found → StandAt notes (filter (is_wanted_at notes wanted) places) (filter (matches wanted) (filter_map (slice_get notes) places))
         → map (slice_get notes) (cond (passes (matches wanted) found) (place ∷ filter (is_wanted_at notes wanted) places) (filter (is_wanted_at notes wanted) places))
         ≡ map Some (filter (matches wanted) (cons_option found (filter_map (slice_get notes) places)))
     by None at rest = rest
     by (Some row) at rest = kept row (matches wanted row) at rest
 
 -- rows that stand at places are those that are found there, and as many
-pub stand-found : (notes : List KeptNote) (places : List ℕ) (rows : List KeptNote) → StandAt notes places rows → filter_map (slice_get notes) places ≡ rows
+pub stand-found : (notes : List NoteState) (places : List ℕ) (rows : List NoteState) → StandAt notes places rows → filter_map (slice_get notes) places ≡ rows
 stand-found notes [] [] stand = refl
 stand-found notes [] (row ∷ rows) stand = absurd (cc)
 stand-found notes (place ∷ places) [] stand = absurd (cc)
@@ -66,7 +66,7 @@ stand-found notes (place ∷ places) (row ∷ rows) stand =
     let rest : StandAt notes places rows = (cc) in
     rw (here) (ap (λ more. row ∷ more) (stand-found notes places rows rest))
 
-pub stand-count : (notes : List KeptNote) (places : List ℕ) (rows : List KeptNote) → StandAt notes places rows → length places ≡ length rows
+pub stand-count : (notes : List NoteState) (places : List ℕ) (rows : List NoteState) → StandAt notes places rows → length places ≡ length rows
 stand-count notes [] [] stand = refl
 stand-count notes [] (row ∷ rows) stand = absurd (cc)
 stand-count notes (place ∷ places) [] stand = absurd (cc)
@@ -75,20 +75,20 @@ stand-count notes (place ∷ places) (row ∷ rows) stand =
     ap suc (stand-count notes places rows rest)
 
 -- the same of a page
-pub stand-page : (notes : List KeptNote) (page size : ℕ) (places : List ℕ) (rows : List KeptNote) → StandAt notes places rows → StandAt notes (page_of page size places) (page_of page size rows)
+pub stand-page : (notes : List NoteState) (page size : ℕ) (places : List ℕ) (rows : List NoteState) → StandAt notes places rows → StandAt notes (page_of page size places) (page_of page size rows)
 stand-page notes page size places rows stand =
     first size (drop (start_of page size) places) (drop (start_of page size) rows) (later (start_of page size) places rows stand)
   where
-    first : (n : ℕ) (ps : List ℕ) (rs : List KeptNote) → StandAt notes ps rs → StandAt notes (take n ps) (take n rs)
+    first : (n : ℕ) (ps : List ℕ) (rs : List NoteState) → StandAt notes ps rs → StandAt notes (take n ps) (take n rs)
     first n ps rs stand = sym (take-map (slice_get notes) n ps) ∙ ap (take n) stand ∙ take-map Some n rs
 
-    later : (n : ℕ) (ps : List ℕ) (rs : List KeptNote) → StandAt notes ps rs → StandAt notes (drop n ps) (drop n rs)
+    later : (n : ℕ) (ps : List ℕ) (rs : List NoteState) → StandAt notes ps rs → StandAt notes (drop n ps) (drop n rs)
     later n ps rs stand = sym (drop-map (slice_get notes) n ps) ∙ ap (drop n) stand ∙ drop-map Some n rs
 
 -- ---- one place more
 
-module _ (notes : List KeptNote) (places : List ℕ) (i : ℕ) (within : i < length places) where
-  pub place_with_row : (row : KeptNote) → Some row ≡ slice_get notes (get_or places i 0)
+module _ (notes : List NoteState) (places : List ℕ) (i : ℕ) (within : i < length places) where
+  pub place_with_row : (row : NoteState) → Some row ≡ slice_get notes (get_or places i 0)
       → filter_map (slice_get notes) (take (i + 1) places) ≡ filter_map (slice_get notes) (take i places) ++ row ∷ []
   place_with_row row is =
       ap (filter_map (slice_get notes)) (take_more places i 0 within)
@@ -104,7 +104,7 @@ module _ (notes : List KeptNote) (places : List ℕ) (i : ℕ) (within : i < len
 
 -- ---- marks
 
-marks_of-append : (base : List ℕ) (terms : List (List ℕ)) (page : List ℕ) (number : ℕ) (rows : List KeptNote) (row : KeptNote)
+marks_of-append : (base : List ℕ) (terms : List (List ℕ)) (page : List ℕ) (number : ℕ) (rows : List NoteState) (row : NoteState)
     → marks_of base terms page number (rows ++ row ∷ []) ≡ marks_of base terms page number rows ++ row_marks base terms page (number + length (marks_of base terms page number rows)) row
 marks_of-append base terms page number [] row = append-nil _ ∙ ap (λ n. row_marks base terms page n row) (omega arith)
 marks_of-append base terms page number (first ∷ rows) row =
@@ -120,7 +120,7 @@ none_marked : (words : List NoteOccurrence) → filter (λ word. has_text word.t
 none_marked [] = refl
 none_marked (word ∷ words) = none_marked words
 
-pub no_marks : (base : List ℕ) (page : List ℕ) (number : ℕ) (row : KeptNote) → row_marks base [] page number row ≡ []
+pub no_marks : (base : List ℕ) (page : List ℕ) (number : ℕ) (row : NoteState) → row_marks base [] page number row ≡ []
 unfolding highlights_of
 no_marks base page number row = by row.live
   where
@@ -133,7 +133,7 @@ no_marks base page number row = by row.live
 
 -- ---- what was written
 
-module _ (base : List ℕ) (terms : List (List ℕ)) (page : List ℕ) (rows : List KeptNote) (row : KeptNote) (old new : Listed) (has : HasListed base terms page rows old) where
+module _ (base : List ℕ) (terms : List (List ℕ)) (page : List ℕ) (rows : List NoteState) (row : NoteState) (old new : Listed) (has : HasListed base terms page rows old) where
   pub HasListed-more : new.items.items ≡ old.items.items ++ item_commas (items_of (filter_map (listed_note base) (row ∷ [])))
       → new.marks.text.items ≡ old.marks.text.items ++ item_commas (items_of (row_marks base terms page (old.marks.count + 1) row))
       → new.marks.count ≡ old.marks.count + length (row_marks base terms page (old.marks.count + 1) row)
@@ -170,7 +170,7 @@ empty_of (x ∷ xs) is = absurd (omega (arith, is))
 pub none_of : {A : Type 0} (xs : List A) → true ≡ (length xs == 0) → xs ≡ []
 none_of xs is = let count : length xs ≡ 0 = grind (arith, nat_tests) in empty_of xs count
 
-module _ (base : List ℕ) (terms : List (List ℕ)) (page : List ℕ) (number : ℕ) (row : KeptNote) where
+module _ (base : List ℕ) (terms : List (List ℕ)) (page : List ℕ) (number : ℕ) (row : NoteState) where
   unmarked : terms ≡ [] → row_marks base terms page number row ≡ []
   unmarked none = ap (λ terms. row_marks base terms page number row) none ∙ no_marks base page number row
 
@@ -182,10 +182,10 @@ module _ (base : List ℕ) (terms : List (List ℕ)) (page : List ℕ) (number :
 
 -- ---- which page
 
-count-is : (site : Site) (rows : List KeptNote) (total size pages : ℕ) → total ≡ length rows → size ≡ site.size → pages ≡ page_count total size → page_count (length rows) site.size ≡ pages
+count-is : (site : Site) (rows : List NoteState) (total size pages : ℕ) → total ≡ length rows → size ≡ site.size → pages ≡ page_count total size → page_count (length rows) site.size ≡ pages
 count-is site rows total size pages total_is size_is is = sym (is ∙ ap (λ n. page_count n size) total_is ∙ ap (page_count (length rows)) size_is)
 
-pub past-pages : (site : Site) (manifest : List ℕ) (query : QueryRecord) (rows : List KeptNote) (total size page pages : ℕ) → total ≡ length rows → size ≡ site.size → page ≡ query.page
+pub past-pages : (site : Site) (manifest : List ℕ) (query : QueryRecord) (rows : List NoteState) (total size page pages : ℕ) → total ≡ length rows → size ≡ site.size → page ≡ query.page
     → pages ≡ page_count total size → lacks_page (page_count total size) page ≡ true → found_text site manifest query rows ≡ Err (NoPage pages)
 unfolding found_text
 past-pages site manifest query rows total size page pages total_is size_is page_is pages_are past =
@@ -193,7 +193,7 @@ past-pages site manifest query rows total size page pages total_is size_is page_
     let over : lacks_page pages query.page ≡ true = subst (λ n. lacks_page n query.page ≡ true) (sym pages_are) (rw page_is at past) in
     rw (count, over) refl
 
-pub found-page : (site : Site) (manifest : List ℕ) (query : QueryRecord) (rows : List KeptNote) (whole : Whole) (base : List ℕ) (total size page : ℕ) (terms ignored : List (List ℕ)) (text : List ℕ)
+pub found-page : (site : Site) (manifest : List ℕ) (query : QueryRecord) (rows : List NoteState) (whole : Whole) (base : List ℕ) (total size page : ℕ) (terms ignored : List (List ℕ)) (text : List ℕ)
     → whole ≡ whole_of base manifest query → base ≡ site.base → total ≡ length rows → size ≡ site.size → page ≡ query.page → terms ≡ wanted_terms query.q → ignored ≡ query.ignored
     → lacks_page (page_count total size) page ≡ false
     → text ≡ compact_text (list_page search_context whole page size total (items_of (filter_map (listed_note base) (page_of page size rows))) (items_of (marks_of base terms (page_iri whole page) 1 (page_of page size rows))) ignored)

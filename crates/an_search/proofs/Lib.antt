@@ -3,6 +3,9 @@ mod PageRows
 pub mod DateLemmas
 mod QueryRows
 pub mod PairLemmas
+pub mod OtherLemmas
+pub mod PlaceLemmas
+pub mod HitLemmas
 pub mod ViewLemmas
 pub mod WrittenLemmas
 pub mod PieceLemmas

@@ -1,5 +1,5 @@
 -- What a caller may read, by the places of rows and by filters.
-use Rattle.std.proofs.Common.{◌≡◌, ℕ, ◌+◌, List, [], ◌∷◌, ◌++◌, length, Bool, true, false, cond, ◌&&◌, Some, refl, sym, ap, ◌∙◌, subst, append_assoc, length-append}
+use Rattle.std.proofs.Common.{◌≡◌, ℕ, ◌+◌, List, [], ◌∷◌, ◌++◌, length, Bool, true, false, cond, ◌&&◌, refl, sym, ap, ◌∙◌, subst, append_assoc, length-append}
 use Rattle.std.specs.Prelude.{filter, slice_get}
 use Rattle.std.specs.List.{filter_map}
 use Rattle.an_policy.specs.Audience.{Identity}
@@ -10,12 +10,9 @@ use Rattle.an_search.specs.Search.{hits}
 use Rattle.an_search.specs.Wanted.{matches}
 use Rattle.an_search.specs.declared.wanted.Wanted.{Wanted}
 use Rattle.an_search.proofs.FoundLemmas.{stand-wanted}
+use Rattle.an_search.proofs.PlaceLemmas.{slice_get-append}
 
 -- ---- rows at places
-
-slice_get-append : {A : Type 0} (before : List A) (row : A) (rows : List A) → slice_get (before ++ row ∷ rows) (length before) ≡ Some row
-slice_get-append [] row rows = refl
-slice_get-append (x ∷ before) row rows = slice_get-append before row rows
 
 -- the rows behind others, at the places where a test passes, are those that pass it
 rows_at_places : {A : Type 0} (test : A → Bool) (before rows : List A) → filter_map (slice_get (before ++ rows)) (places_from test (length before) rows) ≡ filter test rows
@@ -43,6 +40,10 @@ filter_both p q (row ∷ rows) = elim (q row) as (λ b. filter p (cond b (row �
     | false ↦ filter_both p q rows
   ]
 ]
+
+pub filter_same : {A : Type 0} (p q : A → Bool) → ((row : A) → p row ≡ q row) → (rows : List A) → filter p rows ≡ filter q rows
+filter_same p q same [] = refl
+filter_same p q same (row ∷ rows) = ap (λ pass. cond pass (row ∷ filter p rows) (filter p rows)) (same row) ∙ ap (λ others. cond (q row) (row ∷ others) others) (filter_same p q same rows)
 
 -- the annotations at the readable places are those of the view on the manifest
 pub readable_rows : (s : State) (who : Identity) (manifest : List ℕ)

@@ -1,28 +1,67 @@
 -- For private clauses: what was found, and what of it was written so far.
-use Rattle.std.specs.Prelude.{◌≡◌, ℕ, List, map, length, Bool, Some, slice_get}
-use Rattle.std.specs.List.{filter_map}
+use Rattle.std.specs.Prelude.{◌≡◌, ℕ, ◌≤◌, ◌<◌, ◌==◌, List, [], ◌∷◌, map, length, get_or, Bool}
+use Rattle.std.specs.Prelude.{true, Some, filter, fold, slice_get}
+use Rattle.std.specs.List.{filter_map, list_any}
+use Rattle.std.specs.Option.{option_map_or}
 use Rattle.serde_json.specs.View.{items_of}
 use Rattle.an_base.specs.Outcome.{passes}
 use Rattle.an_base.specs.Write.{item_commas}
-use Rattle.an_state.specs.State.{KeptNote}
+use Rattle.an_policy.specs.Audience.{Identity}
+use Rattle.an_state.specs.State.{State, NoteState}
+use Rattle.an_state.specs.Terms.{places_with_term}
+use Rattle.an_state.specs.View.{readable_places}
 use Rattle.an_search.specs.Listed.{listed_note}
 use Rattle.an_search.specs.Search.{marks_of}
-use Rattle.an_search.specs.Wanted.{matches}
+use Rattle.an_search.specs.Wanted.{fits_but_terms, matches}
 use Rattle.an_search.specs.declared.items.Listed.{Listed}
 use Rattle.an_search.specs.declared.wanted.Wanted.{Wanted}
 
 -- there is an annotation at the place, and it is wanted
-abbrev pub is_wanted_at : List KeptNote → Wanted → ℕ → Bool
+abbrev pub is_wanted_at : List NoteState → Wanted → ℕ → Bool
 is_wanted_at notes wanted place = passes (matches wanted) (slice_get notes place)
 
+-- ---- how hits are found
+
+-- the place is one of these
+abbrev pub is_among : ℕ → List ℕ → Bool
+is_among place places = list_any (λ other. other == place) places
+
+-- no place stands behind a greater one
+abbrev pub Rise : List ℕ → Type 0
+Rise places = (i j : ℕ) → i ≤ j → j < length places → get_or places i 0 ≤ get_or places j 0
+
+-- where the annotations stand that the caller may read and that have the first of the terms, or all
+-- that it may read where there is no term
+abbrev pub candidate_places : State → Identity → List ℕ → List (List ℕ) → List ℕ
+candidate_places s who manifest [] = readable_places s who manifest
+candidate_places s who manifest (term ∷ terms) = places_with_term s who manifest term
+
+-- the annotation was deleted, or has what is wanted but for terms
+abbrev pub suits : Wanted → NoteState → Bool
+suits wanted row = option_map_or (fits_but_terms wanted) row.live true
+
+abbrev pub is_suited_at : List NoteState → Wanted → ℕ → Bool
+is_suited_at notes wanted place = passes (suits wanted) (slice_get notes place)
+
+-- those of the places where the annotations have one more term
+abbrev pub with_term : State → Identity → List ℕ → List ℕ → List ℕ → List ℕ
+with_term s who manifest places term =
+    filter (λ place. is_among place (places_with_term s who manifest term)) places
+
+-- and those where they have each of the terms
+abbrev pub with_terms : State → Identity → List ℕ → List ℕ → List (List ℕ) → List ℕ
+with_terms s who manifest places terms = fold (with_term s who manifest) places terms
+
+-- ---- what is written
+
 -- these annotations stand at these places
-abbrev pub StandAt : List KeptNote → List ℕ → List KeptNote → Type 0
+abbrev pub StandAt : List NoteState → List ℕ → List NoteState → Type 0
 StandAt notes places rows = map (slice_get notes) places ≡ map Some rows
 
 -- these annotations were written as items, each behind a comma, and so were their marks for these
 -- terms on this page
 pub record HasListed (base : List ℕ) (terms : List (List ℕ)) (page : List ℕ)
-    (rows : List KeptNote) (listed : Listed) : Type 0 where
+    (rows : List NoteState) (listed : Listed) : Type 0 where
   pub items : listed.items.items ≡ item_commas (items_of (filter_map (listed_note base) rows))
   pub marks : listed.marks.text.items ≡ item_commas (items_of (marks_of base terms page 1 rows))
   pub count : listed.marks.count ≡ length (marks_of base terms page 1 rows)

@@ -5,6 +5,7 @@ pub mod PageText
 pub mod Listed
 pub mod Found
 pub mod Search
+pub mod Cost
 pub mod Pairs
 pub mod Given
 pub mod Filters

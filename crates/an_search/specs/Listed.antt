@@ -2,17 +2,17 @@
 use Rattle.std.specs.Prelude.{ℕ, List, ◌++◌, codes, Option, option_map}
 use Rattle.serde_json.specs.Data.{Data}
 use Rattle.an_model.specs.Dress.{dressed}
-use Rattle.an_state.specs.State.{KeptNote, LiveNote}
+use Rattle.an_state.specs.State.{NoteState, LiveNote}
 
 -- the IRI of an annotation
 abbrev pub note_iri : List ℕ → List ℕ → List ℕ → List ℕ
 note_iri base owner name = base ++ (codes "/annotations/" ++ (owner ++ (codes "/" ++ name)))
 
 -- the tree that is kept, as it is served
-abbrev pub listed_live : List ℕ → KeptNote → LiveNote → Data
+abbrev pub listed_live : List ℕ → NoteState → LiveNote → Data
 listed_live base row live =
     dressed (note_iri base row.owner row.name) live.creator live.created live.modified live.tree
 
 -- nothing of an annotation that was deleted
-abbrev pub listed_note : List ℕ → KeptNote → Option Data
+abbrev pub listed_note : List ℕ → NoteState → Option Data
 listed_note base row = option_map (listed_live base row) row.live

@@ -1,5 +1,5 @@
 -- A search in the annotations on a manifest (IIIF Content Search API 2.0).
-use Rattle.std.specs.Prelude.{ℕ, ◌+◌, List, [], ◌∷◌, ◌++◌, length, filter, codes, is_some, nat_lt}
+use Rattle.std.specs.Prelude.{ℕ, ◌+◌, List, [], ◌∷◌, ◌++◌, length, filter, codes, is_some}
 use Rattle.std.specs.Prelude.{if◌then◌else◌, Some, None, Result, Ok, Err}
 use Rattle.std.specs.List.{filter_map}
 use Rattle.serde_json.specs.Data.{Data}
@@ -7,7 +7,7 @@ use Rattle.serde_json.specs.View.{items_of}
 use Rattle.serde_json.specs.Written.{compact_text}
 use Rattle.an_code.specs.declared.parameter.Parameter.TheVariants as parameter
 use Rattle.an_highlight.specs.Marks.{highlights_of}
-use Rattle.an_state.specs.State.{KeptNote}
+use Rattle.an_state.specs.State.{NoteState}
 use Rattle.an_state.specs.View.{View, is_on, manifest_in}
 use Rattle.an_search.specs.Filters.{filter_parameters}
 use Rattle.an_search.specs.Form.{form_of}
@@ -24,20 +24,20 @@ use Rattle.an_search.specs.declared.wanted.Wanted.{Wanted}
 -- ---- what is found
 
 -- the annotations of the view on the manifest that are wanted, in their order
-unfoldable pub hits : View → List ℕ → Wanted → List KeptNote
+unfoldable pub hits : View → List ℕ → Wanted → List NoteState
 hits view manifest wanted = filter (matches wanted) (filter (is_on manifest) view.notes)
 
 -- ---- the marks of a page
 
 -- the marks of an annotation of a list on a page; one that was deleted has none
-abbrev pub row_marks : List ℕ → List (List ℕ) → List ℕ → ℕ → KeptNote → List Data
+abbrev pub row_marks : List ℕ → List (List ℕ) → List ℕ → ℕ → NoteState → List Data
 row_marks base terms page number row = elim row.live [
   | None ↦ []
   | Some live ↦ highlights_of live.tree (note_iri base row.owner row.name) terms page number
 ]
 
 -- those of all annotations of the page, numbered on
-abbrev pub marks_of : List ℕ → List (List ℕ) → List ℕ → ℕ → List KeptNote → List Data
+abbrev pub marks_of : List ℕ → List (List ℕ) → List ℕ → ℕ → List NoteState → List Data
 marks_of base terms page number [] = []
 marks_of base terms page number (row ∷ rows) =
     let first = row_marks base terms page number row in
@@ -62,7 +62,7 @@ whole_of base manifest query = record {
 }
 
 -- the page of what was found that the query asks for
-abbrev pub found_page : Site → Whole → QueryRecord → List KeptNote → Data
+abbrev pub found_page : Site → Whole → QueryRecord → List NoteState → Data
 found_page site whole query found =
     let rows = page_of query.page site.size found in
     list_page search_context whole query.page site.size (length found)
@@ -71,7 +71,7 @@ found_page site whole query found =
     query.ignored
 
 -- the same as text, unless it is past the last page
-unfoldable pub found_text : Site → List ℕ → QueryRecord → List KeptNote → Result (List ℕ) AskError
+unfoldable pub found_text : Site → List ℕ → QueryRecord → List NoteState → Result (List ℕ) AskError
 found_text site manifest query found =
     let pages = page_count (length found) site.size in
     if lacks_page pages query.page then Err (NoPage pages)

@@ -8,7 +8,7 @@ use Rattle.an_base.specs.TextSet.{has_text}
 use Rattle.an_terms.specs.Terms.{terms_of}
 use Rattle.an_model.specs.Bodies.{iris_of, note_terms}
 use Rattle.an_model.specs.Note.{motivations_of}
-use Rattle.an_state.specs.State.{KeptNote, LiveNote}
+use Rattle.an_state.specs.State.{NoteState, LiveNote}
 use Rattle.an_search.specs.Dates.{pieces_of, range_of}
 use Rattle.an_search.specs.Filters.{FiltersRecord}
 use Rattle.an_search.specs.Query.{QueryRecord}
@@ -55,11 +55,15 @@ wanted_by q filters = record {
 abbrev pub wanted_of : QueryRecord → Wanted
 wanted_of query = wanted_by query.q query.filters
 
+-- nothing but terms is wanted
+abbrev pub wants_terms_alone : Wanted → Bool
+wants_terms_alone wanted =
+    length wanted.iris == 0 && (length wanted.motivations == 0
+    && (length wanted.ranges == 0 && length wanted.users == 0))
+
 -- nothing is wanted: no condition is set
 abbrev pub wants_nothing : Wanted → Bool
-wants_nothing wanted =
-    length wanted.iris == 0 && (length wanted.terms == 0 && (length wanted.motivations == 0
-    && (length wanted.ranges == 0 && length wanted.users == 0)))
+wants_nothing wanted = length wanted.terms == 0 && wants_terms_alone wanted
 
 -- ---- what fits it
 
@@ -88,12 +92,16 @@ fits_users users creator = is_none_or users (has_text creator users)
 abbrev pub has_all : List (List ℕ) → List (List ℕ) → Bool
 has_all wanted texts = list_all (λ text. has_text text texts) wanted
 
--- the annotation has each IRI among its bodies' and each term among its texts', and fits the rest
-abbrev pub fits : Wanted → LiveNote → Bool
-fits wanted live =
-    has_all wanted.iris (iris_of live.tree) && (has_all wanted.terms (note_terms live.tree)
+-- the annotation has each IRI among its bodies', and fits the filters
+abbrev pub fits_but_terms : Wanted → LiveNote → Bool
+fits_but_terms wanted live =
+    has_all wanted.iris (iris_of live.tree)
     && (fits_motivations wanted.motivations (motivations_of live.tree)
-    && (fits_ranges wanted.ranges live.created && fits_users wanted.users live.creator)))
+    && (fits_ranges wanted.ranges live.created && fits_users wanted.users live.creator))
 
-abbrev pub matches : Wanted → KeptNote → Bool
+-- it has each term among its texts' too
+abbrev pub fits : Wanted → LiveNote → Bool
+fits wanted live = has_all wanted.terms (note_terms live.tree) && fits_but_terms wanted live
+
+abbrev pub matches : Wanted → NoteState → Bool
 matches wanted row = passes (fits wanted) row.live

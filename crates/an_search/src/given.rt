@@ -1,7 +1,9 @@
-ghost use Rattle.std.specs.Prelude.{◌≡◌, IfOk, IfSome, IsTrue, bytes_eq, find};
+ghost use Rattle.std.specs.Prelude.{◌≡◌, ◌&&◌, ◌||◌, ℕ, IfOk, IfSome, IsTrue, List, OnOk};
+ghost use Rattle.std.specs.Prelude.{bytes_eq, find, not};
 ghost use Rattle.std.specs.Option.{option_copied};
 ghost use Rattle.an_base.specs.TextSet.{has_text};
 ghost use Rattle.an_code.specs.Code.{parameter_text};
+ghost use Rattle.an_highlight.specs.Lent.{is_lent};
 ghost use Rattle.an_search.specs.Given.{parameter_in, has_name, value_of, repeated};
 ghost use Rattle.an_search.specs.Given.{twice_of, is_other, others_of, is_number, number_in};
 ghost use Rattle.an_search.specs.Given.{is_bad_number};
@@ -9,7 +11,9 @@ ghost use Rattle.an_search.specs.Given.{is_bad_number};
 use crate::pairs::Pair;
 use an_base::{List, Text, TryCopy, read_decimal};
 use an_code::Parameter;
+use an_highlight::add_lent;
 use std::alloc::{AllocError, Global};
+use std::collections::BTreeSet;
 
 /// The greatest number that a query gives.
 const LAST_NUMBER: u32 = 999_999_999;
@@ -85,7 +89,8 @@ fn has_name(name: &str, pairs: &[Pair]) -> bool
     pairs.iter().any(|pair| pair.name.as_str() == name)
 }
 
-/// The names that are those of no parameter that is read, each where it first comes.
+/// The names that are those of no parameter that is read, each where it first comes. It compares a
+/// name with few of the others.
 pub fn others_in(
     alloc: Global,
     reads: &[Parameter],
@@ -94,13 +99,32 @@ pub fn others_in(
     ensures others { IfOk result (λ others. others ≡ others_of reads.now pairs.now) }
 {
     let mut others = Vec::new(alloc);
+    let mut told = BTreeSet::new(alloc);
     for pair in pairs {
         let name = &pair.name;
-        if is_other(reads, name.as_str()) && !has_text(name.as_str(), others.as_slice()) {
+        if is_new(reads, &mut told, name.as_str())? {
             others.push(name.copy()?)?;
         }
     }
     Ok(List::from_vec(others))
+}
+
+/// Whether the name is that of no parameter that is read, and isn't told yet. Then it is told.
+fn is_new<'a>(
+    reads: &[Parameter],
+    told: &mut BTreeSet<&'a str>,
+    name: &'a str,
+) -> Result<bool, AllocError>
+    ensures new { IfOk result (λ new. new
+        ≡ (is_other reads.now name.now && not (is_lent name.now told.old))) }
+    ensures told { OnOk result ((other : List ℕ) → is_lent other told.new
+        ≡ ((is_other reads.now name.now && bytes_eq name.now other) || is_lent other told.old)) }
+{
+    if is_other(reads, name) {
+        add_lent(told, name)
+    } else {
+        Ok(false)
+    }
 }
 
 fn is_other(reads: &[Parameter], name: &str) -> bool

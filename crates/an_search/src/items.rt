@@ -1,9 +1,9 @@
 ghost use Rattle.std.specs.Prelude.{◌≡◌, ℕ, ◌+◌, ◌*◌, ◌<◌, ◌≤◌, ◌^◌, List, ◌∷◌, ◌++◌, []};
-ghost use Rattle.std.specs.Prelude.{length, map, vec_len, IfOk, All, false};
+ghost use Rattle.std.specs.Prelude.{length, map, vec_len, IfOk, OnOk, All, false};
 ghost use Rattle.serde_json.specs.View.{items_of, view};
 ghost use Rattle.serde_json.specs.Written.{has_float};
 ghost use Rattle.an_base.specs.Write.{item_commas};
-ghost use Rattle.an_state.specs.State.{KeptNote};
+ghost use Rattle.an_state.specs.State.{NoteState};
 ghost use Rattle.an_highlight.specs.Marks.{highlights_of};
 ghost use Rattle.an_search.specs.Found.{HasListed, StandAt};
 ghost use Rattle.an_search.specs.Listed.{note_iri};
@@ -44,9 +44,12 @@ pub fn list_items<T: Look, L: Ledger>(
     steps: &mut Steps<L>,
 ) -> Result<Listed, AllocError>
     requires few { length places.now ≤ 100 }
-    ensures listed { IfOk result (λ listed. (rows : List KeptNote)
+    ensures listed { IfOk result (λ listed. (rows : List NoteState)
         → StandAt (T.state look.now).notes places.now rows
         → HasListed base.now terms.now page.now rows listed) }
+    ensures steps { OnOk result (steps.new ≡ steps.old + length places.now) }
+    ensures steps_most { steps.new ≤ steps.old + length places.now }
+    ensures steps_least { steps.old ≤ steps.new }
 {
     let mut listed = nothing_listed(alloc);
     for place in places {
@@ -81,7 +84,7 @@ fn list_row(
     page: &str,
 ) -> Result<Listed, AllocError>
     requires numbers { listed.marks.count + 11 < 2 ^ 64 }
-    ensures row { IfOk result (λ new. (rows : List KeptNote)
+    ensures row { IfOk result (λ new. (rows : List NoteState)
         → HasListed base.now terms.now page.now rows listed
         → HasListed base.now terms.now page.now (rows ++ row.now ∷ []) new) }
     ensures few { IfOk result (λ new. new.marks.count ≤ listed.marks.count + 10) }

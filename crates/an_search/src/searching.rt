@@ -1,11 +1,13 @@
-ghost use Rattle.std.specs.Prelude.{◌≡◌, ◌≤◌, List, ◌++◌, codes, length, string_bytes, IfOk};
+ghost use Rattle.std.specs.Prelude.{◌≡◌, ◌+◌, ◌≤◌, List, ◌++◌, codes, length, string_bytes};
+ghost use Rattle.std.specs.Prelude.{IfOk, OnOk};
 ghost use Rattle.std.specs.List.{filter_map};
 ghost use Rattle.serde_json.specs.View.{items_of};
 ghost use Rattle.serde_json.specs.Written.{compact_text};
 ghost use Rattle.an_base.specs.Outcome.{Gives};
 ghost use Rattle.an_policy.specs.Audience.{identity};
-ghost use Rattle.an_state.specs.State.{KeptNote};
+ghost use Rattle.an_state.specs.State.{NoteState};
 ghost use Rattle.an_state.specs.View.{view_of};
+ghost use Rattle.an_search.specs.Cost.{Takes, find_cost, page_cost, search_cost, shown_cost};
 ghost use Rattle.an_search.specs.Found.{StandAt};
 ghost use Rattle.an_search.specs.Listed.{listed_note};
 ghost use Rattle.an_search.specs.Page.{list_page, page_iri, page_of};
@@ -55,6 +57,7 @@ impl From<AllocError> for AskError {
 
 /// A page of a search in the annotations on a manifest (IIIF Content Search API 2.0): those that
 /// the caller may read and that are wanted, in their order, and the words that were found in them.
+/// Each that has the first word is fetched once, and each on the page once more.
 pub fn search<T: Look, L: Ledger>(
     alloc: Global,
     look: &T,
@@ -66,6 +69,11 @@ pub fn search<T: Look, L: Ledger>(
 ) -> Result<Bytes, AskError>
     ensures answer { Gives (λ page. page) AskError.Memory result (search_of settings.now
         (view_of (T.state look.now) (identity who.now)) manifest.now query.now) }
+    ensures steps { Takes AskError.Memory result steps.old steps.new (search_cost settings.now
+        (view_of (T.state look.now) (identity who.now)) manifest.now query.now) }
+    ensures steps_most { steps.new ≤ steps.old + search_cost settings.now
+        (view_of (T.state look.now) (identity who.now)) manifest.now query.now }
+    ensures steps_least { steps.old ≤ steps.new }
 {
     match shown_manifest(look, who, manifest) {
         Some(_) => search_shown(alloc, look, who, manifest, query, settings, steps),
@@ -85,6 +93,11 @@ pub fn found_total<T: Look, L: Ledger>(
     ensures total { IfOk result (λ total. total ≡ length
         (hits (view_of (T.state look.now) (identity who.now)) manifest.now
         (wanted_of query.now))) }
+    ensures steps { OnOk result (steps.new ≡ steps.old + find_cost
+        (view_of (T.state look.now) (identity who.now)) manifest.now query.now) }
+    ensures steps_most { steps.new ≤ steps.old + find_cost
+        (view_of (T.state look.now) (identity who.now)) manifest.now query.now }
+    ensures steps_least { steps.old ≤ steps.new }
 {
     let wanted = wanted_of(alloc, query)?;
     let places = hit_places(alloc, look, who, manifest, &wanted, steps)?;
@@ -100,10 +113,15 @@ fn search_shown<T: Look, L: Ledger>(
     settings: &Settings,
     steps: &mut Steps<L>,
 ) -> Result<Bytes, AskError>
-    ensures { Gives (λ page. page) AskError.Memory result
+    ensures answer { Gives (λ page. page) AskError.Memory result
         (found_text settings.now manifest.now query.now
         (hits (view_of (T.state look.now) (identity who.now)) manifest.now
         (wanted_of query.now))) }
+    ensures steps { Takes AskError.Memory result steps.old steps.new (shown_cost settings.now
+        (view_of (T.state look.now) (identity who.now)) manifest.now query.now) }
+    ensures steps_most { steps.new ≤ steps.old + shown_cost settings.now
+        (view_of (T.state look.now) (identity who.now)) manifest.now query.now }
+    ensures steps_least { steps.old ≤ steps.new }
 {
     let wanted = wanted_of(alloc, query)?;
     let places = hit_places(alloc, look, who, manifest, &wanted, steps)?;
@@ -132,9 +150,14 @@ fn page_at<T: Look, L: Ledger>(
     steps: &mut Steps<L>,
 ) -> Result<Bytes, AskError>
     requires terms { terms.now ≡ wanted_terms query.now.q }
-    ensures { (rows : List KeptNote) → StandAt (T.state look.now).notes places.now rows
+    ensures answer { (rows : List NoteState) → StandAt (T.state look.now).notes places.now rows
         → Gives (λ page. page) AskError.Memory result
         (found_text settings.now manifest.now query.now rows) }
+    ensures steps { Takes AskError.Memory result steps.old steps.new
+        (page_cost query.now.page settings.now.size places.now) }
+    ensures steps_most { steps.new ≤ steps.old
+        + page_cost query.now.page settings.now.size places.now }
+    ensures steps_least { steps.old ≤ steps.new }
 {
     let paging = Paging {
         page: query.page(),
@@ -168,12 +191,15 @@ fn write_page<T: Look, L: Ledger>(
     requires few { length places.now ≤ 100 }
     requires page { 1 ≤ paging.page }
     requires size { 1 ≤ paging.size }
-    ensures { (rows : List KeptNote) → StandAt (T.state look.now).notes places.now rows
+    ensures page { (rows : List NoteState) → StandAt (T.state look.now).notes places.now rows
         → IfOk result (λ text. text ≡ compact_text
         (list_page search_context whole.now paging.page paging.size paging.total
         (items_of (filter_map (listed_note base.now) rows))
         (items_of (marks_of base.now terms.now (page_iri whole.now paging.page) 1 rows))
         ignored.now)) }
+    ensures steps { OnOk result (steps.new ≡ steps.old + length places.now) }
+    ensures steps_most { steps.new ≤ steps.old + length places.now }
+    ensures steps_least { steps.old ≤ steps.new }
 {
     let iri = page_iri(alloc, whole, paging.page as usize)?;
     let listed = list_items(alloc, look, places, terms, base, iri.as_str(), steps)?;

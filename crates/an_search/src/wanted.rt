@@ -7,17 +7,17 @@ ghost use Rattle.an_state.specs.Live.{lent_note};
 ghost use Rattle.an_model.specs.Bodies.{iris_of, note_terms};
 ghost use Rattle.an_model.specs.Note.{motivations_of};
 ghost use Rattle.an_search.specs.Dates.{pieces_of, range_of};
-ghost use Rattle.an_search.specs.Wanted.{fits, fits_motivations, fits_ranges, fits_users};
-ghost use Rattle.an_search.specs.Wanted.{given_pieces, has_all, is_in, is_iri, matches, wanted_iris};
-ghost use Rattle.an_search.specs.Wanted.{wanted_by, wanted_of, wanted_ranges, wanted_terms};
-ghost use Rattle.an_search.specs.Wanted.{wants_nothing, words_of};
+ghost use Rattle.an_search.specs.Wanted.{fits, fits_but_terms, fits_motivations, fits_ranges};
+ghost use Rattle.an_search.specs.Wanted.{fits_users, given_pieces, has_all, is_in, is_iri};
+ghost use Rattle.an_search.specs.Wanted.{matches, wanted_by, wanted_iris, wanted_of, wanted_ranges};
+ghost use Rattle.an_search.specs.Wanted.{wanted_terms, wants_nothing, wants_terms_alone, words_of};
 
 use crate::dates::{DateRange, range_of};
 use crate::filters::Filters;
 use crate::given::has_text;
 use crate::query::Query;
 use an_base::{List, Moment, Text, TryCopy};
-use an_model as model;
+use an_model::KeptNote;
 use an_state::{LiveNote, NoteRow};
 use an_terms::occurrences;
 use std::alloc::{AllocError, Global};
@@ -63,8 +63,14 @@ pub fn wanted_by(alloc: Global, q: Option<&Text>, filters: &Filters) -> Result<W
 pub fn wants_nothing(wanted: &Wanted) -> bool
     ensures nothing { result ≡ wants_nothing wanted.now }
 {
+    wanted.terms.as_slice().is_empty() && wants_terms_alone(wanted)
+}
+
+/// Whether nothing but terms is wanted.
+pub(crate) fn wants_terms_alone(wanted: &Wanted) -> bool
+    ensures alone { result ≡ wants_terms_alone wanted.now }
+{
     wanted.iris.as_slice().is_empty()
-        && wanted.terms.as_slice().is_empty()
         && wanted.motivations.as_slice().is_empty()
         && wanted.ranges.as_slice().is_empty()
         && wanted.users.as_slice().is_empty()
@@ -209,26 +215,32 @@ pub fn matches(row: &NoteRow, wanted: &Wanted) -> bool
 fn fits(live: &LiveNote<'_>, wanted: &Wanted) -> bool
     ensures { result ≡ fits wanted.now (lent_note live.now) }
 {
+    has_terms(live.tree, wanted.terms.as_slice()) && fits_but_terms(live, wanted)
+}
+
+/// Whether the annotation has the IRIs, and fits the filters. Takes no memory.
+pub(crate) fn fits_but_terms(live: &LiveNote<'_>, wanted: &Wanted) -> bool
+    ensures fits { result ≡ fits_but_terms wanted.now (lent_note live.now) }
+{
     has_iris(live.tree, wanted.iris.as_slice())
-        && has_terms(live.tree, wanted.terms.as_slice())
         && fits_motivations(live.tree, wanted.motivations.as_slice())
         && fits_ranges(wanted.ranges.as_slice(), live.created)
         && fits_users(wanted.users.as_slice(), live.creator)
 }
 
-fn has_iris(note: &model::KeptNote, iris: &[Text]) -> bool
+fn has_iris(note: &KeptNote, iris: &[Text]) -> bool
     ensures { result ≡ has_all iris.now (iris_of note.now) }
 {
     iris.iter().all(|iri| note.has_iri(iri.as_str()))
 }
 
-fn has_terms(note: &model::KeptNote, terms: &[Text]) -> bool
+fn has_terms(note: &KeptNote, terms: &[Text]) -> bool
     ensures { result ≡ has_all terms.now (note_terms note.now) }
 {
     terms.iter().all(|term| note.has_term(term.as_str()))
 }
 
-fn fits_motivations(note: &model::KeptNote, pieces: &[Text]) -> bool
+fn fits_motivations(note: &KeptNote, pieces: &[Text]) -> bool
     ensures { result ≡ fits_motivations pieces.now (motivations_of note.now) }
 {
     pieces.is_empty()
@@ -236,7 +248,7 @@ fn fits_motivations(note: &model::KeptNote, pieces: &[Text]) -> bool
         || (has_text("non-painting", pieces) && !note.has_motivation("painting"))
 }
 
-fn has_one_motivation(note: &model::KeptNote, pieces: &[Text]) -> bool
+fn has_one_motivation(note: &KeptNote, pieces: &[Text]) -> bool
     ensures { result ≡ list_any (λ piece. has_text piece (motivations_of note.now)) pieces.now }
 {
     pieces

@@ -6,6 +6,7 @@ use Rattle.an_code.specs.declared.code.Code.TheVariants as code
 use Rattle.an_http.specs.declared.reply.Allow.{Allow}
 use Rattle.an_http.specs.declared.reply.Reply.{Reply}
 use Rattle.an_http.specs.declared.request.Request.{Request}
+use Rattle.an_keep.specs.Keeper.{Told}
 use Rattle.an_machine.specs.Legal.{Write}
 use Rattle.an_machine.specs.Step.{step}
 use Rattle.an_machine.specs.declared.command.Decided.{Decided}
@@ -21,7 +22,7 @@ use Rattle.an_state.specs.State.{State}
 use Rattle.an_state.specs.declared.command.Command.{Command}
 use Rattle.an_state.specs.declared.entry.Entry.{Entry}
 use Rattle.an_answers.specs.Answer.{refusal_reply, write_answer}
-use Rattle.an_serve.specs.Events.{Event, Wrote, IsLegal, state_at}
+use Rattle.an_serve.specs.Events.{Event, Wrote, IsLegal, Keeps, state_at, told_at}
 use Rattle.an_serve.specs.Respond.{response_of}
 use Rattle.an_serve.specs.declared.respond.Response.{Response}
 use Rattle.an_serve.specs.declared.respond.Response.TheVariants as response
@@ -57,12 +58,14 @@ IsAnswer Unsure clock site s (response.Write methods caller command) reply added
     × IsWritten Unsure site methods moment caller command (step s moment caller command)
     reply added faults
 
--- at this list of events the request is answered by this reply, and these events stand behind it
+-- At this list of events the request is answered by this reply, and these events stand behind it.
+-- What is accepted is kept, as the keeper told before the reply is written.
 pub record Answered (Unsure : Type 0) (clock : ℤ → Bool) (site : Site) (at : List Event)
     (request : Request) (reply : Reply) (added : List Event) (faults : ℕ) : Type 0 where
-  pub legal : IsLegal at
   pub writes : List Write
-  pub are : added ≡ map (λ write. Wrote write) writes
+  pub told : Told
+  pub are : added ≡ map (λ write. Wrote write told) writes
+  pub legal : IsLegal (at ++ added)
   pub answers : IsAnswer Unsure clock site (state_at at) (response_of site (state_at at) request)
       reply writes faults
 
@@ -76,11 +79,12 @@ desk_rules Unsure clock site = record { shared = false; answers = Answered Unsur
 abbrev pub IsCounted : ℕ → ℕ → Type 0
 IsCounted faults count = count < 2 ^ 64 - 1 → faults ≤ count
 
--- a desk stands for what is known: its state is that of the events, and its keeper counted the
--- faults
+-- a desk stands for what is known: its state is that of the events, and is kept, and its keeper
+-- counted the faults
 pub record StandsFor (desk : Store) (known : Known Event) : Type 0 where
   pub legal : IsLegal known.list
   pub state : desk.state ≡ state_at known.list
+  pub keeps : Keeps (told_at known.list) desk.state desk.told
   pub counted : IsCounted known.faults desk.faults
 
 -- Each request of a connection is answered at the list before it with all that this connection

@@ -11,6 +11,7 @@ use Rattle.an_shelf.specs.declared.error.WriteError.{WriteError}
 use Rattle.an_shelf.specs.declared.error.WriteError.TheVariants as error
 use Rattle.an_answers.specs.Answer.{refusal_reply, write_answer}
 use Rattle.an_serve.specs.AtDesk.{IsAnswer, IsCounted}
+use Rattle.an_serve.specs.Events.{Keeps}
 use Rattle.an_serve.specs.declared.respond.Response.{Response}
 
 -- the settings, and the clock
@@ -25,14 +26,21 @@ told_reply site methods (Err (error.Refused refused)) = write_answer site method
 told_reply site methods (Err error.Keeper) = refusal_reply methods code.Keeper
 told_reply site methods (Err error.Memory) = refusal_reply methods code.Keeper
 
--- a desk came to this reply, and its state to another, and the faults that it met are counted
+-- a desk came to this reply, and its state to another, which is kept, and the faults that it met are
+-- counted
 pub record DeskComes (Unsure : Type 0) (clock : ℤ → Bool) (site : Site) (response : Response)
     (old : Store) (reply : Reply) (new : Store) : Type 0 where
   pub added : List Write
   pub faults : ℕ
   pub answers : IsAnswer Unsure clock site old.state response reply added faults
   pub leads : new.state ≡ state_of old.state added
+  pub keeps : Keeps old.told new.state new.told
   pub counted : (before : ℕ) → IsCounted before old.faults → IsCounted (before + faults) new.faults
+
+-- nothing came of a request: the state is as it was, and is kept still
+pub record DeskRests (old new : Store) : Type 0 where
+  pub state : new.state ≡ old.state
+  pub keeps : Keeps old.told new.state new.told
 
 -- no keeper begins to tell its cells, and none forgets a fault
 pub record DeskKeeps (old new : Store) : Type 0 where

@@ -5,7 +5,7 @@ ghost use Rattle.an_rows.specs.Cells.{cells};
 ghost use Rattle.an_session.specs.Session.{ReadsRequests, line};
 ghost use Rattle.an_session.specs.Trail.{Comes, Goes};
 ghost use Rattle.an_serve.specs.AtDesk.{Connection, StandsFor};
-ghost use Rattle.an_serve.specs.Setting.{DeskComes, DeskKeeps, told_reply};
+ghost use Rattle.an_serve.specs.Setting.{DeskComes, DeskKeeps, DeskRests, told_reply};
 ghost use Rattle.an_state.specs.Commands.{is_sendable};
 
 use crate::respond::{Response, respond};
@@ -50,8 +50,9 @@ pub fn session_at_desk<L: Link, K: Keeper, C: Clock>(
     ensures told { IsSome desk.new.told → IsSome desk.old.told }
     ensures cells { IfSome desk.new.told (λ found. found ≡ cells desk.new.state) }
 {
+    let _before = desk.book();
     let ended = serve_link(alloc, link, desk, &Context { settings, clock });
-    let _book = desk.look();
+    let _behind = desk.book();
     ended
 }
 
@@ -115,6 +116,7 @@ impl<'a, K: Keeper, C: Clock> Service<Context<'a, C>> for Desk<K> {
         context: &Context<'a, C>,
         request: &Request,
     ) -> Result<Reply, AllocError> {
+        self.settle()?;
         match respond(alloc, self.look(), context.settings(), request)? {
             Response::Ready(reply) => Ok(reply),
             Response::Write {
@@ -127,7 +129,7 @@ impl<'a, K: Keeper, C: Clock> Service<Context<'a, C>> for Desk<K> {
 }
 
 /// Does a write at the moment that it is, and answers it. Where memory runs out it may be done all
-/// the same.
+/// the same, and wait to be shown.
 fn write<K: Keeper, C: Clock>(
     alloc: Global,
     desk: &mut Desk<K>,
@@ -140,7 +142,7 @@ fn write<K: Keeper, C: Clock>(
     ensures comes { IfOk result (λ reply. DeskComes
         (¬ (IsTrue K.is_sure)) (C.answers context.now.clock) context.now.site
         (Response.Write allow caller command) desk.old reply desk.new) }
-    ensures memory { OnErr result ((desk.new.state ≡ desk.old.state) ⊎ ((reply : Reply) × DeskComes
+    ensures memory { OnErr result (DeskRests desk.old desk.new ⊎ ((reply : Reply) × DeskComes
         (¬ (IsTrue K.is_sure)) (C.answers context.now.clock) context.now.site
         (Response.Write allow caller command) desk.old reply desk.new)) }
     ensures kept { DeskKeeps desk.old desk.new }

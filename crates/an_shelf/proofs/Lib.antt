@@ -1,4 +1,6 @@
 pub mod ClosingLemmas
+pub mod FitLemmas
+pub mod FrontLemmas
 pub mod NextLemmas
 pub mod ReadingLemmas
 pub mod RestoringLemmas

@@ -1,11 +1,15 @@
 -- What is known of the cells that were read, of the one that comes next, and of those behind it.
-use Rattle.std.proofs.Common.{◌≡◌, List, [], ◌∷◌, ◌++◌, true, false, Option, Some, None, Result, Ok, Err, refl, sym, ap, subst, ◌∙◌, append_assoc}
+use Rattle.std.proofs.Common.{◌≡◌, ◌≤◌, ◌<◌, ◌^◌, ◌-◌, ℕ, inl, inr, arith, List, [], ◌∷◌, ◌++◌, true, false, Option, Some, None, Result, Ok, Err, refl, sym, ap, subst, ◌∙◌, append_assoc}
 use Rattle.std.specs.Prelude.{IfErr, IfSome}
-use Rattle.std.proofs.lemmas.Bool.{cond-true, cond-false}
+use Rattle.std.proofs.lemmas.Bool.{cases_lt, cond-true, cond-false}
 use Rattle.std.proofs.lemmas.Option.{same_Some}
+use Rattle.an_base.specs.Faults.{Rises}
 use Rattle.an_keep.specs.Cells.{Ascend, first_of, next_after}
-use Rattle.an_keep.specs.Keeper.{Told, Stays}
+use Rattle.an_keep.specs.Keeper.{Told, Stays, StaysOrBegins}
 use Rattle.an_keep.specs.declared.cell.Cell.{Cell}
+use Rattle.an_keep.specs.declared.keeper.KeepError.{KeepError}
+use Rattle.an_keep.specs.declared.keeper.KeepError.TheVariants as keep
+use Rattle.an_shelf.specs.Failure.{open_error}
 use Rattle.an_state.specs.Entries.{with_row}
 use Rattle.an_state.specs.Sound.{is_sound}
 use Rattle.an_state.specs.State.{State, empty}
@@ -25,6 +29,16 @@ pub record IsReading (told : Told) (s : State) (cell : Cell) : Type 0 where
   pub read : List Cell
   pub restores : restored empty read ≡ Ok s
   pub next : IfSome told (ComesNext read cell)
+
+-- ---- what a keeper tells
+
+-- a keeper that tells what it told, or began to tell, before calls that change nothing does behind
+-- them
+pub begins-stays : (old mid new : Told) → StaysOrBegins old mid → Stays mid new → StaysOrBegins old new
+begins-stays None mid new begins stays = tt
+begins-stays (Some cells) mid None begins stays = tt
+begins-stays (Some cells) None (Some new) begins stays = absurd stays
+begins-stays (Some cells) (Some mid) (Some new) begins stays = stays ∙ begins
 
 -- ---- rows of cells
 
@@ -269,6 +283,13 @@ pub exit-uncounted : {X P : Type 0} (s : State) (cell : Cell) (result : Result X
 exit-uncounted s cell result e y is same damage keeper =
     let none : IsDamage (state_behind s cell) Keeper = subst (IsDamage (state_behind s cell)) (sym same ∙ same_Err y Keeper (sym is ∙ keeper)) damage in
     absurd none
+
+-- or it failed, and has counted it
+pub failed-counted : {X : Type 0} (result : Result X OpenError) (error : KeepError) (y : OpenError) (old mid new : ℕ) → result ≡ Err y → y ≡ open_error error → old ≤ mid → mid ≤ new
+    → (◌≡◌ {A = Result (Option Cell) KeepError} (Err error) (Err keep.Failed) → Rises mid new) → result ≡ Err Keeper → Rises old new
+failed-counted result keep.Failed y old mid new is so kept more counted keeper =
+    λ below. elim (cases_lt mid (2 ^ 64 - 1)) [ inl less ↦ (let rises : mid < new = counted refl less in omega arith) | inr full ↦ omega arith ]
+failed-counted result keep.Memory y old mid new is so kept more counted keeper = let failed = same_Err y Keeper (sym is ∙ keeper) in absurd (cc)
 
 -- ---- no cells
 

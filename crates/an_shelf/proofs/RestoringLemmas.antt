@@ -5,16 +5,16 @@ use Rattle.std.specs.List.{list_any, position, position_or_len}
 use Rattle.std.specs.Result.{result_ok}
 use Rattle.std.proofs.lemmas.Bool.{cases_Bool, lt-ltb, le-ltb, cond-true, cond-false, ltb-false}
 use Rattle.std.proofs.lemmas.Bool.Decides.{nat_tests}
-use Rattle.std.proofs.lemmas.List.{length-set}
 use Rattle.std.proofs.lemmas.Option.{slice_get-get_or}
 use Rattle.an_base.specs.Outcome.{or_refuse}
 use Rattle.an_keep.specs.declared.cell.Cell.{Cell}
 use Rattle.an_keyed.specs.Key.{Key, same_key}
-use Rattle.an_keyed.specs.Rows.{place_of, row_of, put_at}
+use Rattle.an_keyed.specs.Rows.{place_of, row_of}
+use Rattle.an_keyed.proofs.PutLemmas.{length-put_at}
 use Rattle.an_policy.specs.Audience.{Identity, signed}
 use Rattle.an_policy.specs.declared.reader.Reader.{Reader}
 use Rattle.an_state.specs.Entries.{with_row}
-use Rattle.an_state.specs.State.{State, KeptReader, KeptManifest, KeptNote, reader_key, manifest_key, note_key, reader_row, manifest_row, note_row, reader_with_token, live_readers}
+use Rattle.an_state.specs.State.{State, ReaderState, ManifestState, NoteState, reader_key, manifest_key, note_key, reader_row, manifest_row, note_row, reader_with_token, live_readers}
 use Rattle.an_state.specs.declared.entry.Row.{Row}
 use Rattle.an_state.specs.declared.entry.Row.TheVariants as kept
 use Rattle.an_rows.specs.Cells as its
@@ -97,27 +97,27 @@ of_name name = record { owner = None; name = name }
 of_owner : List ℕ → List ℕ → Key
 of_owner owner name = record { owner = Some owner; name = name }
 
-pub reader-there : (s : State) (row x : KeptReader) (name : List ℕ) → name ≡ row.name → Some x ≡ reader_row s name → true ≡ has_key reader_key row s.readers
+pub reader-there : (s : State) (row x : ReaderState) (name : List ℕ) → name ≡ row.name → Some x ≡ reader_row s name → true ≡ has_key reader_key row s.readers
 unfolding of_name
 reader-there s row x name same is = keyed-there reader_key (of_name name) (reader_key row) s.readers (ap of_name same) x is
 
-pub reader-nowhere : (s : State) (row : KeptReader) (name : List ℕ) → name ≡ row.name → None ≡ reader_row s name → false ≡ has_key reader_key row s.readers
+pub reader-nowhere : (s : State) (row : ReaderState) (name : List ℕ) → name ≡ row.name → None ≡ reader_row s name → false ≡ has_key reader_key row s.readers
 unfolding of_name
 reader-nowhere s row name same is = keyed-nowhere reader_key (of_name name) (reader_key row) s.readers (ap of_name same) is
 
-pub manifest-there : (s : State) (row x : KeptManifest) (name : List ℕ) → name ≡ row.name → Some x ≡ manifest_row s name → true ≡ has_key manifest_key row s.manifests
+pub manifest-there : (s : State) (row x : ManifestState) (name : List ℕ) → name ≡ row.name → Some x ≡ manifest_row s name → true ≡ has_key manifest_key row s.manifests
 unfolding of_name
 manifest-there s row x name same is = keyed-there manifest_key (of_name name) (manifest_key row) s.manifests (ap of_name same) x is
 
-pub manifest-nowhere : (s : State) (row : KeptManifest) (name : List ℕ) → name ≡ row.name → None ≡ manifest_row s name → false ≡ has_key manifest_key row s.manifests
+pub manifest-nowhere : (s : State) (row : ManifestState) (name : List ℕ) → name ≡ row.name → None ≡ manifest_row s name → false ≡ has_key manifest_key row s.manifests
 unfolding of_name
 manifest-nowhere s row name same is = keyed-nowhere manifest_key (of_name name) (manifest_key row) s.manifests (ap of_name same) is
 
-pub note-there : (s : State) (row x : KeptNote) (owner name : List ℕ) → owner ≡ row.owner → name ≡ row.name → Some x ≡ note_row s owner name → true ≡ has_key note_key row s.notes
+pub note-there : (s : State) (row x : NoteState) (owner name : List ℕ) → owner ≡ row.owner → name ≡ row.name → Some x ≡ note_row s owner name → true ≡ has_key note_key row s.notes
 unfolding of_owner
 note-there s row x owner name own same is = keyed-there note_key (of_owner owner name) (note_key row) s.notes (ap (λ o. of_owner o name) own ∙ ap (of_owner row.owner) same) x is
 
-pub note-nowhere : (s : State) (row : KeptNote) (owner name : List ℕ) → owner ≡ row.owner → name ≡ row.name → None ≡ note_row s owner name → false ≡ has_key note_key row s.notes
+pub note-nowhere : (s : State) (row : NoteState) (owner name : List ℕ) → owner ≡ row.owner → name ≡ row.name → None ≡ note_row s owner name → false ≡ has_key note_key row s.notes
 unfolding of_owner
 note-nowhere s row owner name own same is = keyed-nowhere note_key (of_owner owner name) (note_key row) s.notes (ap (λ o. of_owner o name) own ∙ ap (of_owner row.owner) same) is
 
@@ -142,10 +142,6 @@ is_free s token sought same is = sym (ap (taken s) (sym same) ∙ by_reader (rea
     by_reader (Some reader) at h = absurd (cc)
 
 -- ---- how many rows there are
-
-length-put_at : {R : Type 0} (key : R → Key) (place : Option ℕ) (row : R) (rows : List R) → length (put_at key place row rows) ≤ length rows + 1
-length-put_at key None row rows = let e = length-append rows (row ∷ []) in omega arith
-length-put_at key (Some place) row rows = let e = length-set rows place row in omega arith
 
 first-more : (x y a b c : ℕ) → y ≤ x + 1 → y + a + b + c ≤ x + a + b + c + 1
 first-more x y a b c h = omega arith

@@ -1,6 +1,6 @@
 -- What is decided of a write, and what keeping it does to the cells.
-use Rattle.std.proofs.Common.{◌≡◌, ℤ, true, Option, Some, None, Result, Ok, Err, IsTrue, refl, sym, ap, subst, ◌∙◌}
-use Rattle.std.specs.Prelude.{IfOk, IfSome, OnErr, OnOk}
+use Rattle.std.proofs.Common.{◌≡◌, ℤ, true, ℕ, Option, Some, None, Result, Ok, Err, IsTrue, inl, inr, refl, sym, ap, subst, ◌∙◌}
+use Rattle.std.specs.Prelude.{◌⊎◌, IfOk, IfSome, OnOk}
 use Rattle.std.proofs.lemmas.Bool.{false≢true}
 use Rattle.an_keep.specs.Cells.{put_changes}
 use Rattle.an_keep.specs.Keeper.{Told, Stays, Turns}
@@ -29,8 +29,12 @@ use Rattle.an_laws.proofs.AcceptedLemmas.{accepted-settled}
 use Rattle.an_laws.proofs.SoundLemmas.{sound-after}
 use Rattle.an_laws.proofs.ValidStepLemmas.{valid-after}
 use Rattle.an_rows.proofs.ChangeLemmas.{changes-lead}
-use Rattle.an_shelf.specs.Store.{Stands}
+use Rattle.an_shelf.specs.Front.{Shown, Stops, all_shown, behind, desk_of}
+use Rattle.an_shelf.specs.Store.{Stands, Store}
+use Rattle.an_shelf.specs.Writing.{KeepsLook, RunsOut}
 use Rattle.an_shelf.specs.declared.error.WriteError.{WriteError}
+use Rattle.an_shelf.specs.declared.error.WriteError.TheVariants as error
+use Rattle.an_shelf.proofs.ReadingLemmas.{stays-same}
 
 -- ---- a write that had been done
 
@@ -108,19 +112,72 @@ cells-behind t old None turns = tt
 cells-behind t None (Some new) turns = absurd turns
 cells-behind t (Some old) (Some new) turns = turns
 
--- the state behind a write is the one that was decided, or the one before
-led : (P : State → Type 0) (s t u : State) (result : Result WriteReply WriteError) → OnOk result (t ≡ u) → OnErr result (t ≡ s) → P s → P u → P t
-led P s t u (Ok reply) ok err before behind = subst P (sym ok) behind
-led P s t u (Err error) ok err before behind = subst P (sym err) before
+-- what holds before a write, and behind what was decided, holds behind it
+led : (P : State → Type 0) (s t u : State) → (t ≡ s) ⊎ (t ≡ u) → P s → P u → P t
+led P s t u (inl is) before behind = subst P (sym is) before
+led P s t u (inr is) before behind = subst P (sym is) behind
 
 pub stands-behind : (s : State) (moment : ℤ) (caller : Caller) (command : Command) (d : Decided) → step s moment caller command ≡ Ok d → IsTrue (is_write moment command)
-    → (t : State) (old new : Told) (result : Result WriteReply WriteError) → Stands old s → OnOk result (t ≡ state_after s d.entry) → OnErr result (t ≡ s)
-    → Turns (λ found. cells t) old new → Stands new t
-stands-behind s moment caller command d is sent t old new result stands ok err turns = record {
+    → (t : State) (old new : Told) → Stands old s → (t ≡ s) ⊎ (t ≡ state_after s d.entry) → Turns (λ found. cells t) old new → Stands new t
+stands-behind s moment caller command d is sent t old new stands leads turns = record {
   cells_are = cells-behind t old new turns;
-  valid = led (λ t. IsTrue (is_valid t)) s t (state_after s d.entry) result ok err stands.valid (decided-valid s moment caller command d is stands.sound sent stands.valid d.entry refl);
-  sound = led (λ t. IsTrue (is_sound t)) s t (state_after s d.entry) result ok err stands.sound (decided-sound s moment caller command d is stands.sound d.entry refl);
+  valid = led (λ t. IsTrue (is_valid t)) s t (state_after s d.entry) leads stands.valid (decided-valid s moment caller command d is stands.sound sent stands.valid d.entry refl);
+  sound = led (λ t. IsTrue (is_sound t)) s t (state_after s d.entry) leads stands.sound (decided-sound s moment caller command d is stands.sound d.entry refl);
 }
+
+-- ---- where memory runs out
+
+module _ (entry : Option Entry) (s t : State) (front : Shown) (old new : Told) where
+  stops-led : Stops entry s t front old new → (t ≡ s) ⊎ (t ≡ state_after s entry)
+  stops-led (inl h) = inl h.0
+  stops-led (inr h) = inr (h.2 ∙ ap (state_after s) (sym h.1))
+
+  stops-lacks : Stops entry s t front old new → t ≡ behind front
+  stops-lacks (inl h) = h.0 ∙ ap behind (sym h.1)
+  stops-lacks (inr h) = h.2 ∙ ap behind (sym h.3)
+
+  -- the state behind a write is the one before, or the one that was decided
+  pub leads-either : (result : Result WriteReply WriteError) → OnOk result (t ≡ state_after s entry) → ((refusal : Refused) → ¬ (result ≡ Err (error.Refused refusal)))
+      → (result ≡ Err error.Keeper → t ≡ s) → (result ≡ Err error.Memory → Stops entry s t front old new) → (t ≡ s) ⊎ (t ≡ state_after s entry)
+  leads-either (Ok reply) ok none still stops = inr ok
+  leads-either (Err (error.Refused refusal)) ok none still stops = absurd (none refusal refl)
+  leads-either (Err error.Keeper) ok none still stops = inl (still refl)
+  leads-either (Err error.Memory) ok none still stops = stops-led (stops refl)
+
+  -- all of it is shown, but for an entry that waits
+  pub lacks-behind : (result : Result WriteReply WriteError) → (¬ (result ≡ Err error.Memory) → front ≡ all_shown t) → (result ≡ Err error.Memory → Stops entry s t front old new)
+      → t ≡ behind front
+  lacks-behind (Ok reply) shown stops = ap behind (sym (shown (λ is. cc)))
+  lacks-behind (Err (error.Refused refusal)) shown stops = ap behind (sym (shown (λ is. cc)))
+  lacks-behind (Err error.Keeper) shown stops = ap behind (sym (shown (λ is. cc)))
+  lacks-behind (Err error.Memory) shown stops = stops-lacks (stops refl)
+
+  pub stops-runs_out : (step : Result Decided Refused) (d : Decided) (before : Shown) (m n : ℕ) → step ≡ Ok d → d.entry ≡ entry → Stops entry s t front old new
+      → RunsOut step (desk_of s before old m) (desk_of t front new n)
+  stops-runs_out step d before m n is has (inl h) = inl (record { same_state = h.0; stays = h.2 }, inr (ap (λ f. f.state) h.1, ap (λ f. f.waiting) h.1))
+  stops-runs_out step d before m n is has (inr h) = inr (record {
+    write = d;
+    entry = h.0;
+    is = is;
+    has = has ∙ h.1;
+    leads = h.2;
+    shown = ap (λ f. f.state) h.3;
+    waits = ap (λ f. f.waiting) h.3;
+  })
+
+module _ (step : Result Decided Refused) (s : State) (before : Shown) (told : Told) (m : ℕ) where
+  -- nothing was written
+  pub leaves-runs_out : (front : Shown) → front ≡ before → RunsOut step (desk_of s before told m) (desk_of s front told m)
+  leaves-runs_out front same = inl (record { same_state = refl; stays = stays-same told }, inl (ap (λ f. f.state) same, ap (λ f. f.waiting) same))
+
+  -- what runs out where all is shown, runs out where an entry waited before
+  shown-look : (mid : Shown) (new : Store) → mid ≡ all_shown s → KeepsLook (desk_of s mid told m) new → KeepsLook (desk_of s before told m) new
+  shown-look mid new is (inl h) = inr (h.0 ∙ ap (λ f. f.state) is, h.1 ∙ ap (λ f. f.waiting) is)
+  shown-look mid new is (inr h) = inr h
+
+  pub shown-runs_out : (mid : Shown) (new : Store) → mid ≡ all_shown s → RunsOut step (desk_of s mid told m) new → RunsOut step (desk_of s before told m) new
+  shown-runs_out mid new is (inl h) = inl (record { same_state = h.0.same_state; stays = h.0.stays }, shown-look mid new is h.1)
+  shown-runs_out mid new is (inr h) = inr (record { write = h.write; entry = h.entry; is = h.is; has = h.has; leads = h.leads; shown = h.shown; waits = h.waits })
 
 -- ---- a repeat
 

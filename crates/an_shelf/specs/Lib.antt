@@ -1,4 +1,5 @@
 pub mod Failure
+pub mod Front
 pub mod Opening
 pub mod Reading
 pub mod Restoring

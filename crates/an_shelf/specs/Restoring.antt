@@ -1,8 +1,12 @@
 -- What comes of the next cell, as it is read.
-use Rattle.std.specs.Prelude.{◌≡◌, ℕ, ◌+◌, length, Result, Ok, Err, MatchResult, ⊤}
+use Rattle.std.specs.Prelude.{◌≡◌, ℕ, ◌+◌, length, Result, Ok, Err, IsTrue, MatchResult}
+use Rattle.std.specs.Prelude.{⊤}
 use Rattle.an_keep.specs.declared.cell.Cell.{Cell}
 use Rattle.an_state.specs.Entries.{with_row}
 use Rattle.an_state.specs.State.{State}
+use Rattle.an_state.specs.declared.entry.Entry.TheVariants.{Restored}
+use Rattle.an_state.specs.declared.entry.Row.{Row}
+use Rattle.an_snapshot.specs.Fits.{fits}
 use Rattle.an_rows.specs.Cells.{Place, row_behind}
 use Rattle.an_rows.specs.declared.refusal.RowError.{RowError}
 use Rattle.an_rows.specs.declared.refusal.RowError.TheVariants as read
@@ -30,6 +34,10 @@ state_behind s cell = elim (row_behind s cell) [
   | Err place ↦ Err place
   | Ok row ↦ Ok (with_row s row)
 ]
+
+-- the row of a cell that stands next can be shown
+abbrev pub RowFits : State → Cell → Type 0
+RowFits s cell = (row : Row) → row_behind s cell ≡ Ok row → IsTrue (fits s (Restored row))
 
 -- how many rows the four lists have
 abbrev pub row_count : State → ℕ

@@ -3,6 +3,7 @@ ghost use Rattle.an_keep.specs.Cells.{Ascend, first_of};
 ghost use Rattle.an_base.specs.Faults.{Rises};
 ghost use Rattle.an_keep.specs.Keeper.{Stays, StaysOrBegins};
 ghost use Rattle.an_state.specs.Sound.{is_sound};
+ghost use Rattle.an_state.specs.State.{empty};
 ghost use Rattle.an_rows.specs.Cells.{cells, is_first};
 ghost use Rattle.an_rows.specs.Valid.{is_valid};
 ghost use Rattle.an_shelf.specs.Opening.{IsDamagedBy, StandFor};
@@ -11,16 +12,37 @@ ghost use Rattle.an_shelf.specs.Reading.{ComesNext};
 use crate::error::OpenError;
 use crate::restoring::{damage, restore};
 use an_keep::{Cell, Keeper};
+use an_snapshot::Snapshot;
 use an_state::Book;
 use std::alloc::Global;
 
 /// The keys of a table end below this, so that no store has as many rows.
 const MOST_ROWS: u64 = 4_611_686_018_427_387_904;
 
+/// The book of a keeper's cells, and a look at its state.
+#[derive(Drop)]
+pub struct Loaded {
+    pub book: Book,
+    pub snapshot: Snapshot,
+}
+
+impl Loaded {
+    /// Those of no cell. It takes no memory.
+    fn new(alloc: Global) -> Loaded
+        ensures empty { result.book.state ≡ empty }
+        ensures shown { result.snapshot.state ≡ result.book.state }
+    {
+        Loaded {
+            book: Book::new(alloc),
+            snapshot: Snapshot::new(alloc),
+        }
+    }
+}
+
 /// The state that a keeper's cells stand for, or which of them is damaged, the first in their
 /// order. It calls `first` once, and `next_after` once for each cell, and commits nothing.
-pub fn load<K: Keeper>(alloc: Global, keeper: &mut K) -> Result<Book, OpenError>
-    ensures state { IfOk result (λ book. StandFor (K.told keeper.new) book.state) }
+pub fn load<K: Keeper>(alloc: Global, keeper: &mut K) -> Result<Loaded, OpenError>
+    ensures state { IfOk result (λ its. StandFor (K.told keeper.new) its.book.state) }
     ensures damaged { IfErr result (IsDamagedBy (K.told keeper.new)) }
     ensures stays { StaysOrBegins (K.told keeper.old) (K.told keeper.new) }
     ensures counted { result ≡ Err OpenError.Keeper
@@ -28,26 +50,30 @@ pub fn load<K: Keeper>(alloc: Global, keeper: &mut K) -> Result<Book, OpenError>
     ensures faults_kept { K.faults keeper.old ≤ K.faults keeper.new }
 
     // The cells are those of the state, and whether they are told or not it is valid and sound.
-    ensures cells { IfOk result (λ book. IfSome (K.told keeper.new)
-        (λ found. found ≡ cells book.state)) }
-    ensures valid { IfOk result (λ book. IsTrue (is_valid book.state)) }
-    ensures sound { IfOk result (λ book. IsTrue (is_sound book.state)) }
+    ensures cells { IfOk result (λ its. IfSome (K.told keeper.new)
+        (λ found. found ≡ cells its.book.state)) }
+    ensures valid { IfOk result (λ its. IsTrue (is_valid its.book.state)) }
+    ensures sound { IfOk result (λ its. IsTrue (is_sound its.book.state)) }
+
+    // The look shows the state.
+    ensures shown { IfOk result (λ its. its.snapshot.state ≡ its.book.state) }
 {
     match keeper.first()? {
         Some(cell) => load_from(alloc, keeper, &cell),
-        None => Ok(Book::new(alloc)),
+        None => Ok(Loaded::new(alloc)),
     }
 }
 
 /// The state that the cells stand for of which this is the first.
-fn load_from<K: Keeper>(alloc: Global, keeper: &mut K, first: &Cell) -> Result<Book, OpenError>
+fn load_from<K: Keeper>(alloc: Global, keeper: &mut K, first: &Cell) -> Result<Loaded, OpenError>
     requires first { IfSome (K.told keeper.old) (λ cells. Some first.now ≡ first_of cells) }
     requires ascend { IfSome (K.told keeper.old) Ascend }
-    ensures state { IfOk result (λ book. StandFor (K.told keeper.new) book.state) }
-    ensures cells { IfOk result (λ book. IfSome (K.told keeper.new)
-        (λ found. found ≡ cells book.state)) }
-    ensures valid { IfOk result (λ book. IsTrue (is_valid book.state)) }
-    ensures sound { IfOk result (λ book. IsTrue (is_sound book.state)) }
+    ensures state { IfOk result (λ its. StandFor (K.told keeper.new) its.book.state) }
+    ensures cells { IfOk result (λ its. IfSome (K.told keeper.new)
+        (λ found. found ≡ cells its.book.state)) }
+    ensures valid { IfOk result (λ its. IsTrue (is_valid its.book.state)) }
+    ensures sound { IfOk result (λ its. IsTrue (is_sound its.book.state)) }
+    ensures shown { IfOk result (λ its. its.snapshot.state ≡ its.book.state) }
     ensures damaged { IfErr result (IsDamagedBy (K.told keeper.new)) }
     ensures stays { Stays (K.told keeper.old) (K.told keeper.new) }
     ensures counted { result ≡ Err OpenError.Keeper
@@ -72,26 +98,27 @@ fn is_first(cell: &Cell) -> bool
 }
 
 /// The state of the rows from this cell on, which stands behind the first.
-fn load_rows<K: Keeper>(alloc: Global, keeper: &mut K, cell: Cell) -> Result<Book, OpenError>
+fn load_rows<K: Keeper>(alloc: Global, keeper: &mut K, cell: Cell) -> Result<Loaded, OpenError>
     requires next { IfSome (K.told keeper.old) (ComesNext [] cell) }
-    ensures state { IfOk result (λ book. StandFor (K.told keeper.new) book.state) }
-    ensures cells { IfOk result (λ book. IfSome (K.told keeper.new)
-        (λ found. found ≡ cells book.state)) }
-    ensures valid { IfOk result (λ book. IsTrue (is_valid book.state)) }
-    ensures sound { IfOk result (λ book. IsTrue (is_sound book.state)) }
+    ensures state { IfOk result (λ its. StandFor (K.told keeper.new) its.book.state) }
+    ensures cells { IfOk result (λ its. IfSome (K.told keeper.new)
+        (λ found. found ≡ cells its.book.state)) }
+    ensures valid { IfOk result (λ its. IsTrue (is_valid its.book.state)) }
+    ensures sound { IfOk result (λ its. IsTrue (is_sound its.book.state)) }
+    ensures shown { IfOk result (λ its. its.snapshot.state ≡ its.book.state) }
     ensures damaged { IfErr result (IsDamagedBy (K.told keeper.new)) }
     ensures stays { Stays (K.told keeper.old) (K.told keeper.new) }
     ensures counted { result ≡ Err OpenError.Keeper
         → Rises (K.faults keeper.old) (K.faults keeper.new) }
     ensures faults_kept { K.faults keeper.old ≤ K.faults keeper.new }
 {
-    let mut book = Book::new(alloc);
+    let mut loaded = Loaded::new(alloc);
     let mut cell = cell;
     for _ in 0..MOST_ROWS {
-        restore(alloc, &mut book, &cell)?;
+        restore(alloc, &mut loaded, &cell)?;
         match keeper.next_after(cell.tab, cell.key)? {
             Some(next) => cell = next,
-            None => return Ok(book),
+            None => return Ok(loaded),
         }
     }
     Err(OpenError::Memory)

@@ -1,32 +1,55 @@
-//! The row of a cell, put behind those of a book.
-ghost use Rattle.std.specs.Prelude.{◌≡◌, ◌+◌, ◌<◌, ◌≤◌, ◌^◌, bytes_eq, IfErr, IfOk, OnOk, Ok};
+//! The row of a cell, put behind those of a book, and shown.
+ghost use Rattle.std.specs.Prelude.{◌≡◌, ◌+◌, ◌<◌, ◌≤◌, ◌^◌, bytes_eq, IfErr, IfOk, IsTrue};
+ghost use Rattle.std.specs.Prelude.{OnOk, Ok};
 ghost use Rattle.std.specs.List.{list_any};
+ghost use Rattle.an_snapshot.specs.Fits.{fits};
+ghost use Rattle.an_state.specs.Entries.{after};
 ghost use Rattle.an_state.specs.Sound.{is_live_manifest, stands_on_live};
 ghost use Rattle.an_state.specs.State.{live_readers, manifest_key, note_key, reader_key};
 ghost use Rattle.an_rows.specs.Cells.{has_its_token, has_key, if_next, may_follow, row_behind};
 ghost use Rattle.an_rows.specs.Cells.{rows_before};
 ghost use Rattle.an_rows.specs.RowTree.{table_of};
-ghost use Rattle.an_shelf.specs.Restoring.{IsDamage, Reads, read_error, row_count, state_behind};
+ghost use Rattle.an_shelf.specs.Restoring.{IsDamage, Reads, RowFits, read_error, row_count};
+ghost use Rattle.an_shelf.specs.Restoring.{state_behind};
 
 use crate::error::OpenError;
+use crate::opening::Loaded;
 use an_base::{Name, Text, TryCopy};
 use an_keep::Cell;
 use an_keyed::Keyed;
 use an_policy::Caller;
 use an_rows::{RowError, read_row};
+use an_snapshot::Snapshot;
 use an_state::{Activity, Book, Entry, Look, ManifestRow, NoteRow, ReaderRow, Row};
 use std::alloc::{AllocError, Global};
 
-/// Puts the row of a cell behind those of the book.
-pub(crate) fn restore(alloc: Global, book: &mut Book, cell: &Cell) -> Result<(), OpenError>
-    requires few { row_count book.old.state < 2 ^ 62 }
-    ensures row { OnOk result (state_behind book.old.state cell.now ≡ Ok book.new.state) }
-    ensures damaged { IfErr result (IsDamage (state_behind book.old.state cell.now)) }
-    ensures one { OnOk result (row_count book.new.state ≤ row_count book.old.state + 1) }
+/// Puts the row of a cell behind those of the book, and shows it.
+pub(crate) fn restore(alloc: Global, loaded: &mut Loaded, cell: &Cell) -> Result<(), OpenError>
+    requires few { row_count loaded.old.book.state < 2 ^ 62 }
+    requires fits { RowFits loaded.old.book.state cell.now }
+    requires shown { loaded.old.snapshot.state ≡ loaded.old.book.state }
+    ensures row { OnOk result
+        (state_behind loaded.old.book.state cell.now ≡ Ok loaded.new.book.state) }
+    ensures damaged { IfErr result (IsDamage (state_behind loaded.old.book.state cell.now)) }
+    ensures one { OnOk result
+        (row_count loaded.new.book.state ≤ row_count loaded.old.book.state + 1) }
+    ensures shown { OnOk result (loaded.new.snapshot.state ≡ loaded.new.book.state) }
 {
-    let row = row_behind(alloc, book, cell)?;
-    let entry = Entry::Restored(row);
+    let row = row_behind(alloc, &loaded.book, cell)?;
+    put(&mut loaded.book, &mut loaded.snapshot, Entry::Restored(row))?;
+    Ok(())
+}
+
+/// Puts an entry that fits, and shows it.
+#[tactic(auto, using(crate::proofs::FrontLemmas::showing))]
+fn put(book: &mut Book, snapshot: &mut Snapshot, entry: Entry) -> Result<(), AllocError>
+    requires fits { IsTrue (fits book.old.state entry) }
+    requires shown { snapshot.old.state ≡ book.old.state }
+    ensures put { OnOk result (book.new.state ≡ after book.old.state entry) }
+    ensures shown { OnOk result (snapshot.new.state ≡ book.new.state) }
+{
     book.room(&entry)?;
+    snapshot.apply(&entry)?;
     book.apply(entry);
     Ok(())
 }

@@ -6,7 +6,7 @@ use Rattle.std.proofs.lemmas.Slice.Eq.{bytes_eq-Decides}
 use Rattle.an_base.specs.Outcome.{passes}
 use Rattle.an_policy.specs.Audience.{Identity, is_in, is_owner, may}
 use Rattle.an_policy.specs.declared.group.Group.TheVariants.{Public}
-use Rattle.an_state.specs.State.{State, KeptManifest, KeptNote, LiveNote, manifest_row}
+use Rattle.an_state.specs.State.{State, ManifestState, NoteState, LiveNote, manifest_row}
 use Rattle.an_state.specs.View.{is_on, is_open_on, manifest_audience, opens, places_from, shows_note}
 
 and-false : (b : Bool) → (b && false) ≡ false
@@ -18,7 +18,7 @@ apart : (b inner : Bool) → (b && inner) ≡ ((b && true) && inner)
 apart true inner = refl
 apart false inner = refl
 
-below : (who : Identity) (live : LiveNote) (owner : List ℕ) (manifest : Option KeptManifest)
+below : (who : Identity) (live : LiveNote) (owner : List ℕ) (manifest : Option ManifestState)
     → passes (λ m. may who (record { outer = m.group; inner = live.group; owner = Some owner })) manifest
     ≡ (passes (λ m. may who (manifest_audience m)) manifest && may who (record { outer = Public; inner = live.group; owner = Some owner }))
 below who live owner None = refl
@@ -42,14 +42,14 @@ asked : (s : State) (who : Identity) (manifest owner : List ℕ) (live : Option 
 asked s who manifest owner None = sym (and-false (opens s who manifest))
 asked s who manifest owner (Some live) = on s who manifest owner live
 
-shown_on : (s : State) (who : Identity) (manifest : List ℕ) (row : KeptNote) → (is_on manifest row && shows_note s who row) ≡ (opens s who manifest && is_open_on who manifest row)
+shown_on : (s : State) (who : Identity) (manifest : List ℕ) (row : NoteState) → (is_on manifest row && shows_note s who row) ≡ (opens s who manifest && is_open_on who manifest row)
 shown_on s who manifest row = asked s who manifest row.owner row.live
 
 module _ (s : State) (who : Identity) (manifest : List ℕ) where
-  pub opened : opens s who manifest ≡ true → ◌≡◌ {A = KeptNote → Bool} (λ row. is_on manifest row && shows_note s who row) (is_open_on who manifest)
+  pub opened : opens s who manifest ≡ true → ◌≡◌ {A = NoteState → Bool} (λ row. is_on manifest row && shows_note s who row) (is_open_on who manifest)
   opened is = λ i row. (shown_on s who manifest row ∙ ap (λ b. b && is_open_on who manifest row) is) i
 
-  pub shut : opens s who manifest ≡ false → ◌≡◌ {A = KeptNote → Bool} (λ row. is_on manifest row && shows_note s who row) (λ row. false)
+  pub shut : opens s who manifest ≡ false → ◌≡◌ {A = NoteState → Bool} (λ row. is_on manifest row && shows_note s who row) (λ row. false)
   shut is = λ i row. (shown_on s who manifest row ∙ ap (λ b. b && is_open_on who manifest row) is) i
 
 pub no_places : {A : Type 0} (place : ℕ) (rows : List A) → places_from (λ row. false) place rows ≡ []

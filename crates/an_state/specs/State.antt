@@ -15,7 +15,7 @@ pub use Rattle.an_keyed.specs.Rows.{keys_are_distinct}
 use Rattle.an_state.specs.declared.activity.Activity.{Activity}
 
 -- a reader's row; without a live part it is a tombstone
-pub record KeptReader : Type 0 where
+pub record ReaderState : Type 0 where
   pub name : List ℕ
   pub version : ℕ
   pub live : Option Reader
@@ -26,7 +26,7 @@ pub record LiveManifest : Type 0 where
   pub tree : Data
 
 -- a manifest's row; its group stays when it is deleted
-pub record KeptManifest : Type 0 where
+pub record ManifestState : Type 0 where
   pub name : List ℕ
   pub version : ℕ
   pub group : Group
@@ -41,38 +41,38 @@ pub record LiveNote : Type 0 where
   pub tree : Data
 
 -- an annotation's row
-pub record KeptNote : Type 0 where
+pub record NoteState : Type 0 where
   pub owner : List ℕ
   pub name : List ℕ
   pub version : ℕ
   pub live : Option LiveNote
 
 pub record State : Type 0 where
-  pub readers : List KeptReader
-  pub manifests : List KeptManifest
-  pub notes : List KeptNote
+  pub readers : List ReaderState
+  pub manifests : List ManifestState
+  pub notes : List NoteState
   pub activities : List Activity
 
 abbrev pub empty : State
 empty = record { readers = []; manifests = []; notes = []; activities = [] }
 
 -- an annotation is found by its owner and its name, a reader and a manifest by the name alone
-abbrev pub reader_key : KeptReader → Key
+abbrev pub reader_key : ReaderState → Key
 reader_key row = record { owner = None; name = row.name }
 
-abbrev pub manifest_key : KeptManifest → Key
+abbrev pub manifest_key : ManifestState → Key
 manifest_key row = record { owner = None; name = row.name }
 
-abbrev pub note_key : KeptNote → Key
+abbrev pub note_key : NoteState → Key
 note_key row = record { owner = Some row.owner; name = row.name }
 
-abbrev pub reader_row : State → List ℕ → Option KeptReader
+abbrev pub reader_row : State → List ℕ → Option ReaderState
 reader_row s name = row_of reader_key (record { owner = None; name = name }) s.readers
 
-abbrev pub manifest_row : State → List ℕ → Option KeptManifest
+abbrev pub manifest_row : State → List ℕ → Option ManifestState
 manifest_row s name = row_of manifest_key (record { owner = None; name = name }) s.manifests
 
-abbrev pub note_row : State → List ℕ → List ℕ → Option KeptNote
+abbrev pub note_row : State → List ℕ → List ℕ → Option NoteState
 note_row s owner name = row_of note_key (record { owner = Some owner; name = name }) s.notes
 
 -- no two manifests have one name
@@ -91,7 +91,7 @@ abbrev pub live_readers : State → List Reader
 live_readers s = filter_map (λ row. row.live) s.readers
 
 -- the token of a row, while its reader is live
-abbrev pub reader_token : KeptReader → Option (List ℕ)
+abbrev pub reader_token : ReaderState → Option (List ℕ)
 reader_token row = option_map (λ reader. reader.token) row.live
 
 -- the live reader with this token; no two have one token

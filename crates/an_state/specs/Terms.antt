@@ -7,13 +7,13 @@ use Rattle.an_base.specs.Totals.{totals_of, with_prefix}
 use Rattle.an_base.specs.declared.span.TermTotal.{TermTotal}
 use Rattle.an_model.specs.Bodies.{note_terms}
 use Rattle.an_policy.specs.Audience.{Identity}
-use Rattle.an_state.specs.State.{State, KeptNote}
+use Rattle.an_state.specs.State.{State, NoteState}
 use Rattle.an_state.specs.View.{is_on, shows_note, places_from}
 
 -- ---- one term
 
 -- the annotation is live, and a word of its texts has the term
-abbrev pub has_term : List ℕ → KeptNote → Bool
+abbrev pub has_term : List ℕ → NoteState → Bool
 has_term term row = passes (λ live. has_text term (note_terms live.tree)) row.live
 
 -- where the annotations on a manifest stand that the caller may read and that have a term
@@ -24,15 +24,15 @@ places_with_term s who manifest term =
 -- ---- how often each term occurs
 
 -- the terms of a live annotation, each as often as it occurs
-abbrev pub terms_of_row : KeptNote → List (List ℕ)
+abbrev pub terms_of_row : NoteState → List (List ℕ)
 terms_of_row row = option_map_or (λ live. note_terms live.tree) row.live []
 
 -- the terms of annotations that begin with the prefix, each as often as it occurs
-abbrev pub terms_in : List ℕ → List KeptNote → List (List ℕ)
+abbrev pub terms_in : List ℕ → List NoteState → List (List ℕ)
 terms_in prefix rows = with_prefix prefix (flat_map terms_of_row rows)
 
 -- these terms, each once, and how often each occurs in all of the annotations
-abbrev pub totals_in : List ℕ → List KeptNote → List TermTotal
+abbrev pub totals_in : List ℕ → List NoteState → List TermTotal
 totals_in prefix rows = totals_of (terms_in prefix rows)
 
 -- the same for the annotations on a manifest that the caller may read

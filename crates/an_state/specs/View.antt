@@ -8,7 +8,7 @@ use Rattle.an_policy.specs.declared.group.Audience.{Audience}
 use Rattle.an_policy.specs.declared.group.Group.TheVariants.{Public}
 use Rattle.an_policy.specs.declared.who.Caller.{Caller}
 use Rattle.an_policy.specs.Audience.{Identity, anonymous, may}
-use Rattle.an_state.specs.State.{State, KeptManifest, KeptNote, LiveNote, manifest_row, who_of}
+use Rattle.an_state.specs.State.{State, ManifestState, NoteState, LiveNote, manifest_row, who_of}
 use Rattle.an_base.specs.Outcome.{passes}
 use Rattle.an_policy.specs.Seen.{as_seen}
 use Rattle.an_policy.specs.declared.kind.Kind.{Kind}
@@ -17,30 +17,30 @@ use Rattle.an_state.specs.declared.activity.Seen.{Seen}
 use Rattle.an_state.specs.declared.command.Object.{Object}
 use Rattle.an_state.specs.declared.command.Object.TheVariants as object
 
-abbrev pub manifest_audience : KeptManifest → Audience
+abbrev pub manifest_audience : ManifestState → Audience
 manifest_audience row = record { outer = row.group; inner = Public; owner = None }
 
 -- an annotation's audience, below its manifest's row
-abbrev pub note_audience : KeptManifest → KeptNote → LiveNote → Audience
+abbrev pub note_audience : ManifestState → NoteState → LiveNote → Audience
 note_audience manifest row live =
     record { outer = manifest.group; inner = live.group; owner = Some row.owner }
 
 -- the audience of a manifest that is live
-abbrev pub audience_of_manifest : KeptManifest → Option Audience
+abbrev pub audience_of_manifest : ManifestState → Option Audience
 audience_of_manifest row = option_map (λ live. manifest_audience row) row.live
 
 -- the audience of an annotation that is live, whose manifest has a row
-abbrev pub audience_of_note : State → KeptNote → Option Audience
+abbrev pub audience_of_note : State → NoteState → Option Audience
 audience_of_note s row = option_and_then (λ live.
     option_map (λ manifest. note_audience manifest row live)
     (manifest_row s live.manifest)) row.live
 
 -- the manifest is live, and the caller may read it
-abbrev pub shows_manifest : Identity → KeptManifest → Bool
+abbrev pub shows_manifest : Identity → ManifestState → Bool
 shows_manifest who row = is_some row.live && may who (manifest_audience row)
 
 -- the annotation is live, and the caller may read it
-abbrev pub shows_note : State → Identity → KeptNote → Bool
+abbrev pub shows_note : State → Identity → NoteState → Bool
 shows_note s who row =
     passes (λ live. passes (λ manifest. may who (note_audience manifest row live))
     (manifest_row s live.manifest)) row.live
@@ -98,8 +98,8 @@ last_kind key seen = option_map (λ change. change.kind) (last_change key seen)
 -- caller may read, and the activities that it sees, in their order
 pub record View : Type 0 where
   pub who : Option Identity
-  pub manifests : List KeptManifest
-  pub notes : List KeptNote
+  pub manifests : List ManifestState
+  pub notes : List NoteState
   pub seen : List Seen
 
 abbrev pub view_of : State → Identity → View
@@ -120,16 +120,16 @@ abbrev pub view_by : State → Caller → View
 view_by s caller = view_for s (who_of s caller)
 
 -- the manifest of this name in the view
-abbrev pub manifest_in : View → List ℕ → Option KeptManifest
+abbrev pub manifest_in : View → List ℕ → Option ManifestState
 manifest_in view name = find (λ row. bytes_eq row.name name) view.manifests
 
 -- the annotation of this owner and name in the view
-abbrev pub note_in : View → List ℕ → List ℕ → Option KeptNote
+abbrev pub note_in : View → List ℕ → List ℕ → Option NoteState
 note_in view owner name =
     find (λ row. bytes_eq row.owner owner && bytes_eq row.name name) view.notes
 
 -- the annotation is live, and on this manifest
-abbrev pub is_on : List ℕ → KeptNote → Bool
+abbrev pub is_on : List ℕ → NoteState → Bool
 is_on manifest row = passes (λ live. bytes_eq live.manifest manifest) row.live
 
 -- where the rows stand that pass a test, when the first of them stands at `place`
@@ -151,11 +151,11 @@ abbrev pub opens : State → Identity → List ℕ → Bool
 opens s who manifest = passes (λ row. may who (manifest_audience row)) (manifest_row s manifest)
 
 -- the annotation's own group and owner let the caller read it
-abbrev pub shows_inside : Identity → KeptNote → Bool
+abbrev pub shows_inside : Identity → NoteState → Bool
 shows_inside who row =
     passes (λ live. may who
     (record { outer = Public; inner = live.group; owner = Some row.owner })) row.live
 
 -- the annotation is on this manifest, and its own group and owner let the caller read it
-abbrev pub is_open_on : Identity → List ℕ → KeptNote → Bool
+abbrev pub is_open_on : Identity → List ℕ → NoteState → Bool
 is_open_on who manifest row = is_on manifest row && shows_inside who row

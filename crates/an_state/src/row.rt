@@ -4,7 +4,7 @@ ghost use Rattle.std.specs.Option.{option_copied};
 use an_base::{Moment, Name, Shared, Text, TryCopy};
 use an_keyed::{Keyed, Marked};
 use an_manifest::KeptSheet;
-use an_model as model;
+use an_model::KeptNote;
 use an_policy::{Group, Reader};
 use std::alloc::AllocError;
 use std::marker::Model;
@@ -20,10 +20,10 @@ pub struct ReaderRow {
 
 impl Model for ReaderRow {
     ghost use Rattle.std.specs.Prelude.{IsTrue};
-    ghost use Rattle.an_state.specs.State.{KeptReader};
+    ghost use Rattle.an_state.specs.State.{ReaderState};
     ghost use Rattle.an_state.specs.Rows.{reader_agrees};
 
-    ghost Value = { KeptReader };
+    ghost Value = { ReaderState };
 
     ghost view = { λ r. record { name = r.name; version = r.version; live = r.reader } };
 
@@ -100,10 +100,10 @@ impl Model for ManifestRow {
     ghost use Rattle.std.specs.Prelude.{IsTrue};
     ghost use Rattle.std.specs.Coded.{codes};
     ghost use Rattle.an_base.specs.TreeCode.{tree_code};
-    ghost use Rattle.an_state.specs.State.{KeptManifest};
+    ghost use Rattle.an_state.specs.State.{ManifestState};
     ghost use Rattle.an_state.specs.Rows.{live_manifest, manifest_agrees};
 
-    ghost Value = { KeptManifest };
+    ghost Value = { ManifestState };
 
     ghost coded = { Prim.hlevel (codes, tree_code) };
 
@@ -184,17 +184,17 @@ pub struct NoteRow {
     pub creator: Option<Text>,
     pub created: Option<Moment>,
     pub modified: Option<Moment>,
-    pub tree: Option<model::KeptNote>,
+    pub tree: Option<KeptNote>,
 }
 
 impl Model for NoteRow {
     ghost use Rattle.std.specs.Prelude.{IsTrue};
     ghost use Rattle.std.specs.Coded.{codes};
     ghost use Rattle.an_base.specs.TreeCode.{tree_code};
-    ghost use Rattle.an_state.specs.State.{KeptNote};
+    ghost use Rattle.an_state.specs.State.{NoteState};
     ghost use Rattle.an_state.specs.Rows.{live_note, note_agrees};
 
-    ghost Value = { KeptNote };
+    ghost Value = { NoteState };
 
     ghost coded = { Prim.hlevel (codes, tree_code) };
 
@@ -232,7 +232,7 @@ pub struct LiveNote<'a> {
     pub creator: &'a Text,
     pub created: Moment,
     pub modified: Option<Moment>,
-    pub tree: &'a model::KeptNote,
+    pub tree: &'a KeptNote,
 }
 
 impl NoteRow {

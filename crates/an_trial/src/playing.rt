@@ -1,5 +1,5 @@
 //! The writes of the trial, at a store in memory.
-ghost use Rattle.std.specs.Prelude.{◌≡◌, [], IfOk, IsSome, IsTrue, OnOk, fold};
+ghost use Rattle.std.specs.Prelude.{◌≡◌, [], IfOk, IsSome, IsTrue, None, OnOk, fold};
 ghost use Rattle.an_state.specs.Commands.{is_sendable};
 ghost use Rattle.an_state.specs.State.{empty};
 ghost use Rattle.an_trial.specs.Trial.{state_behind, trial_state};
@@ -16,6 +16,7 @@ use std::alloc::{AllocError, Global};
 pub(crate) fn play(alloc: Global, count: u32, seed: u32) -> Result<Desk<SureKeeper>, AllocError>
     ensures state { IfOk result (λ desk. IsSome desk.told
         → desk.state ≡ trial_state count seed) }
+    ensures nothing_waits { IfOk result (λ desk. desk.waiting ≡ None) }
 {
     let mut desk = open(alloc)?;
     put(alloc, &mut desk, reader_write(alloc)?)?;
@@ -26,7 +27,8 @@ pub(crate) fn play(alloc: Global, count: u32, seed: u32) -> Result<Desk<SureKeep
 
 /// A store without a row.
 fn open(alloc: Global) -> Result<Desk<SureKeeper>, AllocError>
-    ensures { IfOk result (λ desk. IsSome desk.told → desk.state ≡ empty) }
+    ensures empty { IfOk result (λ desk. IsSome desk.told → desk.state ≡ empty) }
+    ensures nothing_waits { IfOk result (λ desk. desk.waiting ≡ None) }
 {
     match Desk::open(alloc, SureKeeper::new(Vec::new(alloc))) {
         Ok(desk) => Ok(desk),
@@ -46,8 +48,10 @@ fn put_notes(
     count: u32,
     seed: u32,
 ) -> Result<(), AllocError>
+    requires nothing_waits { desk.old.waiting ≡ None }
     ensures state { OnOk result (desk.new.state
         ≡ fold state_behind desk.old.state (note_writes seed count)) }
+    ensures nothing_waits { OnOk result (desk.new.waiting ≡ None) }
     ensures told { IsSome desk.new.told → IsSome desk.old.told }
 {
     let mut generator = Generator { number: seed };
@@ -63,6 +67,7 @@ fn put_notes(
 fn put(alloc: Global, desk: &mut Desk<SureKeeper>, write: Write) -> Result<(), AllocError>
     requires { IsTrue (is_sendable write.command) }
     ensures state { OnOk result (desk.new.state ≡ state_behind desk.old.state write) }
+    ensures nothing_waits { OnOk result (desk.new.waiting ≡ None) }
     ensures told { IsSome desk.new.told → IsSome desk.old.told }
 {
     let Write {

@@ -11,7 +11,8 @@ use an_base::{Steps, TermTotal};
 use an_complete::{QueryAskError, asked_terms, read_ask};
 use an_policy::{Caller, Who};
 use an_search::{QueryError, read_query};
-use an_state::{Book, Look};
+use an_snapshot::Snapshot;
+use an_state::Look;
 use an_terms::term_of;
 use std::alloc::{AllocError, Global};
 use std::sync::ledger::Ledger;
@@ -20,17 +21,17 @@ use std::sync::ledger::Ledger;
 #[tactic(auto, unfolding(crate::specs::Trial::found_total))]
 pub(crate) fn found_total<L: Ledger>(
     alloc: Global,
-    book: &Book,
+    look: &Snapshot,
     who: &Who<'_>,
     parameters: &str,
     steps: &mut Steps<L>,
 ) -> Result<usize, AllocError>
     ensures total { IfOk result (λ total. total
-        ≡ found_total (view_of book.now.state (identity who.now)) parameters.now) }
+        ≡ found_total (view_of look.now.state (identity who.now)) parameters.now) }
 {
     let manifest = name(alloc, "m1")?;
     match read_query(alloc, parameters) {
-        Ok(query) => an_search::found_total(alloc, book, who, &manifest, &query, steps),
+        Ok(query) => an_search::found_total(alloc, look, who, &manifest, &query, steps),
         Err(QueryError::Memory) => Err(AllocError),
         Err(_) => Ok(0),
     }
@@ -40,19 +41,19 @@ pub(crate) fn found_total<L: Ledger>(
 #[tactic(auto, unfolding(crate::specs::Trial::listed_total))]
 pub(crate) fn listed_total<L: Ledger>(
     alloc: Global,
-    book: &Book,
+    look: &Snapshot,
     who: &Who<'_>,
     parameters: &str,
     word: &str,
     steps: &mut Steps<L>,
 ) -> Result<u64, AllocError>
     ensures total { IfOk result (λ total. total
-        ≡ listed_total (view_of book.now.state (identity who.now)) parameters.now word.now) }
+        ≡ listed_total (view_of look.now.state (identity who.now)) parameters.now word.now) }
 {
     let manifest = name(alloc, "m1")?;
     match read_ask(alloc, parameters) {
         Ok(ask) => {
-            let terms = asked_terms(alloc, book, who, &manifest, &ask, steps)?;
+            let terms = asked_terms(alloc, look, who, &manifest, &ask, steps)?;
             total_of_word(alloc, word, terms.as_slice())
         }
         Err(QueryAskError::Memory) => Err(AllocError),

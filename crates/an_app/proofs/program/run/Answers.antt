@@ -6,11 +6,11 @@ use Rattle.an_app.proofs.program.run.Goals as goal
 
 pub returns-clause-sure_link : goal.returns-clause-sure_link
 returns-clause-sure_link g c = λ sure.
-    ends_unfailing _ _ _ _ _ _ (form_of (map string_bytes c.args.words.now)) (λ rises. rises) (λ rises. rises)
+    ends_unfailing _ _ _ _ _ (form_of (map string_bytes c.args.words.now)) (λ rises. rises) (λ rises. rises)
     (never_rises _ _ (g.met.L.Link.sure_reads sure c.args.link.now) (g.met.L.Link.sure_reads sure c.run_words.new.link))
     (never_rises _ _ (g.met.L.Link.sure_writes sure c.args.link.now) (g.met.L.Link.sure_writes sure c.run_words.new.link))
     c.run_words.ensures.understood c.run_words.ensures.misunderstood
 
 pub returns-clause-sure_keeper : goal.returns-clause-sure_keeper
 returns-clause-sure_keeper g c = λ sure.
-    ends_kept _ _ _ _ _ _ (form_of (map string_bytes c.args.words.now)) (λ unsure. unsure sure) c.run_words.ensures.understood c.run_words.ensures.misunderstood
+    ends_kept _ _ _ _ _ (form_of (map string_bytes c.args.words.now)) (λ unsure. unsure sure) c.run_words.ensures.understood c.run_words.ensures.misunderstood

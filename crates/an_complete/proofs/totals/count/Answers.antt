@@ -1,4 +1,4 @@
-use Rattle.std.proofs.Common.{[], ◌∷◌, take, ap, ◌∙◌}
+use Rattle.std.proofs.Common.{[], ◌∷◌, take, arith, ap, ◌∙◌}
 use Rattle.std.proofs.lemmas.List.Elements.{filter-append}
 use Rattle.std.specs.Prelude.{filter, slice_get}
 use Rattle.std.specs.List.{filter_map}
@@ -16,8 +16,8 @@ loop-place-preserved g c =
     elim c.match-note_at.branch [
       | in-Some+in_ok-try_row-in-Some w ↦
           let more = ap (filter test) (place_with_row notes c.args.places.now c.loop-place.place-index c.loop-place-test.true w.in-Some.row.now w.in-Some.ensures.row) ∙ filter-append test found (w.in-Some.row.now ∷ []) in
-          rw (w.totals-is, more) (w.in_ok-try_row-in-Some.ensures.row so_far c.loop-place.invariant)
+          rw (w.totals-is, more) (w.in_ok-try_row-in-Some.ensures.row so_far c.loop-place.invariant.0, omega (arith, c.note_at.ensures.step, c.loop-place.invariant.1))
       | in-None w ↦
           let more = ap (filter test) (place_without notes c.args.places.now c.loop-place.place-index c.loop-place-test.true w.in-None.ensures.row) in
-          rw (w.totals-is, more) c.loop-place.invariant
+          rw (w.totals-is, more) (c.loop-place.invariant.0, omega (arith, c.note_at.ensures.step, c.loop-place.invariant.1))
     ]

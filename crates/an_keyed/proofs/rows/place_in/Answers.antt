@@ -1,5 +1,5 @@
 use Rattle.std.proofs.Common.{arith, sym, ◌∙◌}
-use Rattle.an_keyed.proofs.PlaceLemmas.{length-hashed, place_of-here, place_of-nowhere, other_here}
+use Rattle.an_keyed.proofs.RowLemmas.{length-hashed, place_of-here, place_of-nowhere, other_here}
 use Rattle.an_keyed.proofs.WalkLemmas.{walk_goes}
 use Rattle.an_keyed.proofs.rows.place_in.Goals as goal
 

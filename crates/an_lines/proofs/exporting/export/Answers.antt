@@ -15,7 +15,7 @@ returns-in-Ok-None-clause-exports g c =
     let Failed = Rises (g.L.Link.write_faults c.args.link.now) (g.L.Link.write_faults told.new.link) in
     let old = g.L.Link.traffic c.args.link.now in
     let new = g.L.Link.traffic told.new.link in
-    let nobody = sym c.in-Ok-None.field-0-is ∙ c.in-Ok-None.ensures ∙ ap (λ s. option_map exported (view_named s by)) c.look.ensures.state in
+    let nobody = sym c.in-Ok-None.field-0-is ∙ c.in-Ok-None.ensures ∙ ap (λ s. option_map exported (view_named s by)) (c.look.ensures.state c.requires.nothing_waits) in
     subst (λ report. TellsReport report Failed old new told.result) (unnamed (view_named c.args.desk.now.state by) nobody)
     (subst (λ text. TellsReport (record { status = NoReader; text = text }) Failed old new told.result) c.as_bytes.ensures.value told.ensures.tells)
 

@@ -1,15 +1,14 @@
-use Rattle.std.proofs.Common.{◌≡◌, Ok, sym, subst, ◌∙◌, arith}
+use Rattle.std.proofs.Common.{◌≡◌, Ok, subst, ◌∙◌, arith}
 use Rattle.an_lines.specs.Import.{Progress, import_line}
 use Rattle.an_lines.specs.Shown.{Leads}
 use Rattle.an_lines.specs.Split.{lines_of}
-use Rattle.an_lines.proofs.ImportLemmas.{Front, front_none, front_leaves, leads-ok, line_done, line_done-front, counted_most, on_err}
+use Rattle.an_lines.proofs.ImportLemmas.{front_leaves, leads-ok, lost_front, line_done, line_done-front, counted_most, on_err}
 use Rattle.an_lines.proofs.importing.import_lines.Goals as goal
 
 pub returns-in_err-more-clause-front : goal.returns-in_err-more-clause-front
 returns-in_err-more-clause-front g c =
     let p : Progress = record { state = c.lines.desk.state; counts = c.lines.counts } in
-    let front : Front (lines_of c.lines.left.now) c.lines.number p c.import_line.new.desk.state =
-    subst (λ t. Front (lines_of c.lines.left.now) c.lines.number p t) (sym c.in_err-more.ensures.still) (front_none (lines_of c.lines.left.now) c.lines.number p) in
+    let front = lost_front c.in-Some.line.now (lines_of c.in-Some.rest.now) (lines_of c.lines.left.now) c.lines.number p c.in-Some.ensures.first _ c.in_err-more.ensures.lost in
     on_err _ _ (front_leaves _ _ _ (c.lines.invariant.fronts _ front))
 
 pub lines-preserved : goal.lines-preserved

@@ -1,11 +1,11 @@
 use Rattle.std.proofs.Common.{◌≡◌, Bool, not, [], ◌∷◌, IfOk, ap, ap₂, subst, ◌∙◌}
-use Rattle.an_state.specs.State.{KeptNote}
+use Rattle.an_state.specs.State.{NoteState}
 use Rattle.an_state.specs.declared.activity.Activity.{Activity}
 use Rattle.an_machine.specs.declared.effect.Effect.{Effect}
 use Rattle.an_state.specs.declared.entry.Row.TheVariants as kept
 use Rattle.an_machine.proofs.put_note.note_effect.Goals as goal
 
-abbrev with_note : Bool → KeptNote → Activity → Effect
+abbrev with_note : Bool → NoteState → Activity → Effect
 with_note made row activity = record { made = made; rows = kept.Note row ∷ []; activities = activity ∷ [] }
 
 -- the audience of the row that is put is that below its manifest

@@ -7,8 +7,8 @@ use Rattle.an_search.specs.Page.{list_page, page_iri}
 use Rattle.an_search.specs.Search.{marks_of, search_context}
 use Rattle.an_search.proofs.searching.write_page.Goals as goal
 
-pub returns : goal.returns
-returns g c = λ rows stand.
+pub returns-clause-page : goal.returns-clause-page
+returns-clause-page g c = λ rows stand.
     let listed = c.in_ok-listed.ensures.listed rows stand in
     let iri : c.as_str.result.now ≡ page_iri c.args.whole.now c.args.paging.page = c.as_str.ensures.value ∙ c.in_ok-iri.ensures.iri in
     let items = c.as_slice-items.ensures.value ∙ listed.items in

@@ -8,7 +8,7 @@ use Rattle.an_trial.proofs.report.totals_text.Goals as goal
 
 pub returns : goal.returns
 returns g c =
-    let s = c.args.book.now.state in
+    let s = c.args.look.now.state in
     let word = c.args.word.now in
     let read : View = view_of s (identity c.reading-who.result) in
     let view : View = view_by s c.args.caller.now in

@@ -1,7 +1,7 @@
 use Rattle.std.proofs.Common.{◌≡◌, arith, Some, None}
 use Rattle.an_keyed.specs.KeyHash.{key_hash}
 use Rattle.an_keyed.specs.Rows.{place_of}
-use Rattle.an_keyed.proofs.PlaceLemmas.{IsHashed-push_row, IsHashed-set_row}
+use Rattle.an_keyed.proofs.RowLemmas.{IsHashed-push_row, IsHashed-set_row}
 use Rattle.an_keyed.proofs.rows.Rows.put.Goals as goal
 
 pub invariant_of-self : goal.invariant_of-self

@@ -1,0 +1,22 @@
+-- How many steps a completion takes. A step is one fetch of an annotation's row. The caller's view
+-- tells the number, so that nothing hidden does.
+use Rattle.std.specs.Prelude.{ℕ, List, length, filter, is_some, if◌then◌else◌}
+use Rattle.an_state.specs.View.{View, is_on, manifest_in}
+use Rattle.an_search.specs.Wanted.{wants_nothing}
+use Rattle.an_search.specs.declared.wanted.Wanted.{Wanted}
+use Rattle.an_complete.specs.Ask.{AskRecord}
+use Rattle.an_complete.specs.Complete.{filters_of}
+
+-- with a filter each annotation of the view on the manifest is fetched once; without one the counts
+-- of the terms tell all
+abbrev pub filter_cost : View → List ℕ → Wanted → ℕ
+filter_cost view manifest filters =
+    if wants_nothing filters then 0 else length (filter (is_on manifest) view.notes)
+
+abbrev pub terms_cost : View → List ℕ → AskRecord → ℕ
+terms_cost view manifest ask = filter_cost view manifest (filters_of ask)
+
+-- the steps of a completion: none without the manifest
+abbrev pub complete_cost : View → List ℕ → AskRecord → ℕ
+complete_cost view manifest ask =
+    if is_some (manifest_in view manifest) then terms_cost view manifest ask else 0

@@ -1,0 +1,15 @@
+use Rattle.std.proofs.Common.{ℕ, List, sym, ap, ◌∙◌}
+use Rattle.std.specs.List.{sum_by}
+use Rattle.an_base.specs.Totals.{capped}
+use Rattle.an_slots.specs.Texts.{under}
+use Rattle.an_slots.proofs.NestLemmas.{found-there, missing-there}
+use Rattle.an_counts.specs.declared.class_counts.ClassCount.{ClassCount}
+use Rattle.an_counts.specs.Counts.{count_in}
+use Rattle.an_counts.proofs.SumsOverClasses.{total_none}
+use Rattle.an_counts.proofs.counts.Counts.total_under.Goals as goal
+
+pub returns-in-Some : goal.returns-in-Some
+returns-in-Some c = record { total = c.total.ensures.total ∙ ap (λ (l : List (List ℕ × List ClassCount)). capped (sum_by (count_in (under c.args.term.now l)) c.args.classes.now)) (sym (found-there c.self.inside.manifests.entries c.args.self.now c.self.view_is c.args.manifest.now c.in-Some.terms.now (sym c.in-Some.ensures.value))) }
+
+pub returns-in-None : goal.returns-in-None
+returns-in-None c = record { total = total_none c.args.classes.now ∙ ap (λ (l : List (List ℕ × List ClassCount)). capped (sum_by (count_in (under c.args.term.now l)) c.args.classes.now)) (sym (missing-there c.self.inside.manifests.entries c.args.self.now c.self.view_is c.args.manifest.now (sym c.in-None.ensures.value))) }

@@ -1,0 +1,9 @@
+pub mod FiledLemmas
+pub mod LeftLemmas
+pub mod NeedLemmas
+pub mod OnceLemmas
+pub mod PartLemmas
+pub mod ReadLemmas
+pub mod RoomLemmas
+pub mod SpaceLemmas
+pub mod StandLemmas

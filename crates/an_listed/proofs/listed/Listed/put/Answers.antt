@@ -1,0 +1,25 @@
+use Rattle.std.proofs.Common.{[], ◌∷◌, sym, subst, arith, length-append}
+use Rattle.std.proofs.lemmas.List.{length-set}
+use Rattle.an_listed.specs.Room.{HasRoom}
+use Rattle.an_listed.proofs.listed.Listed.put.Goals as goal
+
+pub returns-then-place-len-clause-rest : goal.returns-then-place-len-clause-rest
+returns-then-place-len-clause-rest c = λ coming room.
+    let before = subst (HasRoom (c.args.row ∷ coming)) (sym c.self.view_is) room in
+    let n = length-set c.self.inside.rows.items c.args.place c.args.row in
+    record {
+      space = c.replace.ensures.rest coming before.space;
+      behind = omega (arith, before.behind);
+      few = omega (arith, before.few, n);
+    }
+
+pub returns-else-place-len-clause-rest : goal.returns-else-place-len-clause-rest
+returns-else-place-len-clause-rest c = λ coming room.
+    let before = subst (HasRoom (c.args.row ∷ coming)) (sym c.self.view_is) room in
+    let items = c.push_reserved.ensures.items in
+    let n = length-append c.self.inside.rows.items (c.args.row ∷ []) in
+    record {
+      space = c.push.ensures.rest coming before.space;
+      behind = omega (arith, before.behind, c.push_reserved.ensures.capacity, c.push_reserved.ensures.len);
+      few = rw items (omega (arith, before.few, n));
+    }

@@ -1,0 +1,34 @@
+use Rattle.std.proofs.Common.{ℕ, List, [], ◌∷◌, Option, ap, ◌∙◌}
+use Rattle.an_base.specs.declared.span.TermTotal.{TermTotal}
+use Rattle.an_counts.specs.Counts.{count_of}
+use Rattle.an_postings.specs.Postings.{places_in}
+use Rattle.an_slots.specs.Rows.{added, posted, unposted}
+use Rattle.an_slots.specs.Slot.{Slot}
+use Rattle.an_listed.specs.Filed.{whole_parts, word_parts}
+use Rattle.an_listed.specs.Staying.{left_whole, left_words}
+use Rattle.an_listed.proofs.SpaceLemmas.{space-kept}
+use Rattle.an_listed.proofs.StandLemmas.{small-taken, stands-set, stands-there}
+use Rattle.an_listed.proofs.register.Register.replace.Goals as goal
+
+pub take-requires-clause-there : goal.take-requires-clause-there
+take-requires-clause-there c = stands-there c.args.self.now c.args.rows.now c.requires.stands c.args.place c.index-rows-place.result c.requires.place c.index-rows-place.is
+
+pub put-requires-clause-space : goal.put-requires-clause-space
+put-requires-clause-space c = space-kept (c.args.row.now ∷ []) c.args.self.now c.take.new.self c.take.ensures.word_room c.take.ensures.whole_room c.take.ensures.count_room c.requires.space
+
+pub put-requires-clause-small : goal.put-requires-clause-small
+put-requires-clause-small c = small-taken c.args.self.now c.args.rows.now c.requires.stands c.index-rows-place.result c.args.row.now (count_of c.take.new.self.counts) c.take.ensures.counts
+
+pub returns-clause-stands : goal.returns-clause-stands
+returns-clause-stands c =
+    let self = c.args.self.now in
+    let place = c.args.place in
+    let old = c.index-rows-place.result in
+    let row = c.args.row.now in
+    let words = c.put.ensures.words ∙ ap (λ (ls : Slot → List ℕ). posted place ls (word_parts row)) (c.take.ensures.words ∙ ap (λ (s : Option (List TermTotal)). unposted place (places_in self.words) (left_words old s)) c.staying_terms.ensures.staying) in
+    let whole = c.put.ensures.whole ∙ ap (λ (ls : Slot → List ℕ). posted place ls (whole_parts row)) (c.take.ensures.whole ∙ ap (λ (s : Option (List TermTotal)). unposted place (places_in self.whole) (left_whole old s)) c.staying_terms.ensures.staying) in
+    let counts = c.put.ensures.counts ∙ ap (λ (f : Slot → ℕ). added f (word_parts row)) c.take.ensures.counts in
+    stands-set self c.args.rows.now c.requires.stands c.put.new.self place old row c.requires.place c.index-rows-place.is words whole counts
+
+pub returns-clause-rest : goal.returns-clause-rest
+returns-clause-rest c = λ rest space. c.put.ensures.rest rest (space-kept (c.args.row.now ∷ rest) c.args.self.now c.take.new.self c.take.ensures.word_room c.take.ensures.whole_room c.take.ensures.count_room space)

@@ -1,0 +1,4 @@
+pub mod Filed
+pub mod Stands
+pub mod Room
+pub mod Staying

@@ -1,0 +1,153 @@
+ghost use Rattle.std.specs.Prelude.{◌≡◌, ◌∷◌, ◌&&◌, ◌≤◌, [], IfOk, List, OnOk, filter, length, map};
+ghost use Rattle.an_policy.specs.Audience.{identity};
+ghost use Rattle.an_state.specs.Terms.{has_term, totals_in};
+ghost use Rattle.an_state.specs.View.{is_on, places_from};
+ghost use Rattle.an_listed.specs.Filed.{put_at, reads_on};
+ghost use Rattle.an_listed.specs.Room.{HasRoom};
+
+use crate::filed::Filed;
+use crate::register::Register;
+use an_base::{Name, TermTotal};
+use an_policy::{Classes, Who};
+use std::alloc::{AllocError, Global};
+use std::marker::Model;
+
+/// So many rows can be listed, since a list keeps each place in 32 bits.
+const MOST_ROWS: usize = 4_294_967_296;
+
+/// Rows beside the lists by which they are found: for each manifest, term and class of audience the
+/// places of the live annotations, the same under no term, and how often each term occurs there.
+/// Contracts see the rows, the lists, and for how many rows more there is memory.
+#[derive(Drop)]
+pub struct Listed {
+    rows: Vec<Filed>,
+    register: Register,
+}
+
+impl Model for Listed {
+    ghost use Rattle.std.specs.Prelude.{◌-◌, vec_capacity, vec_len};
+    ghost use Rattle.std.specs.Coded.{codes};
+    ghost use Rattle.an_base.specs.TreeCode.{tree_code};
+    ghost use Rattle.an_listed.specs.Stands.{Listings, Stands};
+
+    ghost Value = { Listings };
+
+    ghost coded = { Prim.hlevel (codes, tree_code) };
+
+    ghost view = { λ l. record {
+      rows = l.rows.items;
+      register = l.register;
+      room = vec_capacity l.rows - vec_len l.rows;
+    } };
+
+    ghost invariant = { λ l. Stands l.register l.rows.items };
+}
+
+impl Listed {
+    /// No rows, and room for none. It takes no memory.
+    pub fn new(alloc: Global) -> Listed
+        ensures empty { result.rows ≡ [] }
+    {
+        Listed {
+            rows: Vec::new(alloc),
+            register: Register::new(alloc),
+        }
+    }
+
+    /// The rows by their places.
+    pub fn rows(&self) -> &[Filed]
+        ensures rows { result.now ≡ self.now.rows }
+    {
+        self.rows.as_slice()
+    }
+
+    /// Takes the memory that these rows need, in whatever order and at whatever places they are
+    /// put. Its only error is want of memory, which more than 2^32 rows are answered with too.
+    pub fn room(&mut self, rows: &[Filed]) -> Result<(), AllocError>
+        ensures ok { OnOk result (HasRoom rows.now self.new) }
+        ensures rows { self.new.rows ≡ self.old.rows }
+        ensures kept { (coming : List Filed) → HasRoom coming self.old → HasRoom coming self.new }
+    {
+        if MOST_ROWS - self.rows.len() < rows.len() {
+            return Err(AllocError);
+        }
+        self.rows.reserve(rows.len())?;
+        let alloc = *self.rows.allocator();
+        self.register.room(alloc, rows)
+    }
+
+    /// Puts a row at a place: in place of the row there, or behind all. It takes no memory.
+    pub fn put(&mut self, place: usize, row: Filed)
+        requires place { place ≤ length self.old.rows }
+        requires room { HasRoom (row ∷ []) self.old }
+        ensures rows { self.new.rows ≡ put_at place row self.old.rows }
+        ensures rest { (coming : List Filed)
+            → HasRoom (row ∷ coming) self.old → HasRoom coming self.new }
+    {
+        if place < self.rows.len() {
+            self.register.replace(self.rows.as_slice(), place, &row);
+            self.rows[place] = row;
+        } else {
+            self.register.push(self.rows.as_slice(), &row);
+            self.rows.push_reserved(row);
+        }
+    }
+
+    /// The places of the live annotations on a manifest, ascending.
+    pub fn on_manifest(&self, alloc: Global, manifest: &Name) -> Result<Vec<usize>, AllocError>
+        ensures places { IfOk result (λ places. places.items
+            ≡ places_from (λ row. is_on manifest.now row.note) 0 self.now.rows) }
+    {
+        self.register.on_manifest(alloc, manifest)
+    }
+
+    /// The places of the annotations on a manifest that the caller may read, ascending.
+    pub fn readable(
+        &self,
+        alloc: Global,
+        classes: &Classes,
+        who: &Who<'_>,
+        manifest: &Name,
+    ) -> Result<Vec<usize>, AllocError>
+        ensures places { IfOk result (λ places. places.items
+            ≡ places_from (reads_on (identity who.now) classes.now manifest.now) 0
+            self.now.rows) }
+    {
+        self.register.readable(alloc, classes, who, manifest)
+    }
+
+    /// The places of those that have a term, ascending.
+    pub fn with_term(
+        &self,
+        alloc: Global,
+        classes: &Classes,
+        who: &Who<'_>,
+        manifest: &Name,
+        term: &str,
+    ) -> Result<Vec<usize>, AllocError>
+        ensures places { IfOk result (λ places. places.items
+            ≡ places_from (λ row. reads_on (identity who.now) classes.now manifest.now row
+            && has_term term.now row.note) 0 self.now.rows) }
+    {
+        self.register.with_term(alloc, classes, who, manifest, term)
+    }
+
+    /// The terms that begin with a prefix, ascending by their bytes, and how often each occurs in
+    /// the annotations on a manifest that the caller may read.
+    pub fn terms_from(
+        &self,
+        alloc: Global,
+        classes: &Classes,
+        who: &Who<'_>,
+        manifest: &Name,
+        prefix: &str,
+    ) -> Result<Vec<TermTotal>, AllocError>
+        ensures terms { IfOk result (λ terms. terms.items
+            ≡ totals_in prefix.now (map (λ row. row.note)
+            (filter (reads_on (identity who.now) classes.now manifest.now)
+            self.now.rows))) }
+    {
+        self.register
+            .terms_from(alloc, classes, who, manifest, prefix)
+    }
+}

@@ -1,0 +1,148 @@
+ghost use Rattle.std.specs.Prelude.{◌≡◌, ◌+◌, ◌++◌, ◌<◌, ◌≤◌, ◌^◌, List, ℕ, OnOk, if◌then◌else◌};
+ghost use Rattle.std.specs.Option.{option_copied};
+ghost use Rattle.an_counts.specs.Counts.{count_of, has_room};
+ghost use Rattle.an_postings.specs.Postings.{places_in};
+ghost use Rattle.an_slots.specs.Places.{without_place};
+ghost use Rattle.an_slots.specs.Rows.{IsThere, added, parts, parts_at, posted, taken, unposted};
+ghost use Rattle.an_slots.specs.Slot.{Slot, at, slot_of};
+ghost use Rattle.an_listed.specs.Room.{AreKept, HasCounts, HasWanted, IsEnough, IsKept};
+ghost use Rattle.an_listed.specs.Stands.{left_parts, stays};
+
+use crate::needs::wanted;
+use an_base::{Name, TermList};
+use an_counts::Counts;
+use an_postings::Postings;
+use std::alloc::AllocError;
+
+/// Takes the memory for so many places more in the list of each of these terms as are wanted there.
+pub(crate) fn room_for_places(
+    words: &mut Postings,
+    manifest: &Name,
+    class: usize,
+    terms: &TermList,
+    needed: Option<&Counts>,
+) -> Result<(), AllocError>
+    ensures ok { OnOk result (HasWanted (option_copied needed.entry)
+        (parts manifest.now class terms.now) words.new) }
+    ensures places { places_in words.new ≡ places_in words.old }
+    ensures kept { IsKept words.old words.new }
+{
+    for at in 0..terms.len() {
+        let term = terms.term(at);
+        let more = wanted(needed, manifest, term, class);
+        words.room_add(manifest, term, class, more)?;
+    }
+    Ok(())
+}
+
+/// Takes the memory for the count of each of these terms.
+pub(crate) fn room_for_counts(
+    counts: &mut Counts,
+    manifest: &Name,
+    class: usize,
+    terms: &TermList,
+) -> Result<(), AllocError>
+    ensures ok { OnOk result (HasCounts (parts manifest.now class terms.now) counts.new) }
+    ensures count { count_of counts.new ≡ count_of counts.old }
+    ensures kept { AreKept counts.old counts.new }
+{
+    for at in 0..terms.len() {
+        counts.room(manifest, terms.term(at), class)?;
+    }
+    Ok(())
+}
+
+/// Takes the place out of the list of each of these terms that doesn't stay.
+pub(crate) fn take_places(
+    words: &mut Postings,
+    manifest: &Name,
+    class: usize,
+    terms: &TermList,
+    staying: Option<&TermList>,
+    place: usize,
+)
+    requires place { place < 2 ^ 32 }
+    ensures places { places_in words.new ≡ unposted place (places_in words.old)
+        (left_parts manifest.now class (option_copied staying.entry) terms.now) }
+    ensures kept { IsKept words.old words.new }
+{
+    for at in 0..terms.len() {
+        take_place(words, manifest, class, terms.term(at), staying, place);
+    }
+}
+
+fn take_place(
+    words: &mut Postings,
+    manifest: &Name,
+    class: usize,
+    term: &str,
+    staying: Option<&TermList>,
+    place: usize,
+)
+    requires place { place < 2 ^ 32 }
+    ensures places { places_in words.new
+        ≡ (if stays (option_copied staying.entry) term.now then places_in words.old
+        else at (slot_of manifest.now term.now class) (without_place place)
+        (places_in words.old)) }
+    ensures kept { IsKept words.old words.new }
+{
+    if !stays(staying, term) {
+        words.remove(manifest, term, class, place);
+    }
+}
+
+fn stays(staying: Option<&TermList>, term: &str) -> bool
+    ensures { result ≡ stays (option_copied staying.entry) term.now }
+{
+    match staying {
+        Some(terms) => terms.has(term),
+        None => false,
+    }
+}
+
+/// Puts the place into the list of each of these terms.
+pub(crate) fn put_places(
+    words: &mut Postings,
+    manifest: &Name,
+    class: usize,
+    terms: &TermList,
+    place: usize,
+)
+    requires place { place < 2 ^ 32 }
+    requires room { IsEnough (parts manifest.now class terms.now) words.old }
+    ensures places { places_in words.new
+        ≡ posted place (places_in words.old) (parts manifest.now class terms.now) }
+    ensures rest { (rest : List (Slot × ℕ))
+        → IsEnough (parts manifest.now class terms.now ++ rest) words.old
+        → IsEnough rest words.new }
+{
+    for at in 0..terms.len() {
+        words.add(manifest, terms.term(at), class, place);
+    }
+}
+
+/// Takes how often each of these terms occurs from its count.
+pub(crate) fn take_counts(counts: &mut Counts, manifest: &Name, class: usize, terms: &TermList)
+    requires there { IsThere (count_of counts.old) (parts manifest.now class terms.now) }
+    ensures count { count_of counts.new
+        ≡ taken (count_of counts.old) (parts manifest.now class terms.now) }
+    ensures kept { has_room counts.new ≡ has_room counts.old }
+{
+    for at in 0..terms.len() {
+        counts.take(manifest, terms.term(at), class, terms.total(at));
+    }
+}
+
+/// Adds how often each of these terms occurs to its count.
+pub(crate) fn add_counts(counts: &mut Counts, manifest: &Name, class: usize, terms: &TermList)
+    requires room { HasCounts (parts manifest.now class terms.now) counts.old }
+    requires small { (slot : Slot) → count_of counts.old slot
+        + parts_at (parts manifest.now class terms.now) slot < 2 ^ 128 }
+    ensures count { count_of counts.new
+        ≡ added (count_of counts.old) (parts manifest.now class terms.now) }
+    ensures kept { has_room counts.new ≡ has_room counts.old }
+{
+    for at in 0..terms.len() {
+        counts.add(manifest, terms.term(at), class, terms.total(at));
+    }
+}

@@ -1,0 +1,13 @@
+-- For private clauses: the hash of an audience. Of it only this is used, that equal audiences have
+-- one hash.
+use Rattle.std.specs.Prelude.{ℕ, ◌++◌, fold}
+use Rattle.std.specs.Hash as fed
+use Rattle.std.specs.Hash.DefaultHasher as sip
+use Rattle.an_policy.specs.Group.{group_text}
+use Rattle.an_policy.specs.declared.group.Audience.{Audience}
+
+-- SipHash-1-3 of the groups' texts and of the owner
+unfoldable pub audience_hash : Audience → ℕ
+audience_hash a =
+    sip.finish (fold sip.write sip.initial (fed.str (group_text a.outer)
+    ++ (fed.str (group_text a.inner) ++ fed.option fed.str a.owner)))

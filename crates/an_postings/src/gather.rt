@@ -1,0 +1,74 @@
+ghost use Rattle.std.specs.Prelude.{◌≡◌, [], IfOk, map, flat_map, ℕ, false};
+ghost use Rattle.an_slots.specs.Places.{Rises, ascending, has};
+ghost use Rattle.an_postings.specs.Gather.{AllRise, picked};
+ghost use Rattle.an_postings.specs.Lists.{IsOrdered, class_of, places_at};
+
+use crate::class_lists::ClassPlaces;
+use crate::merge::{merged, wide};
+use crate::sorted::sorted;
+use an_slots::is_among;
+use std::alloc::{AllocError, Global};
+
+/// The places of these classes, ascending, each once.
+pub(crate) fn places_in(
+    alloc: Global,
+    lists: &[ClassPlaces],
+    classes: &[usize],
+) -> Result<Vec<usize>, AllocError>
+    requires ordered { IsOrdered lists.now }
+    requires rises { Rises 0 classes.now }
+    ensures places { IfOk result (λ places. places.items
+        ≡ ascending (flat_map (places_at lists.now) classes.now)) }
+{
+    let chosen = chosen(alloc, lists, classes)?;
+    widened(alloc, chosen.as_slice())
+}
+
+/// The lists of these classes.
+fn chosen<'a>(
+    alloc: Global,
+    lists: &'a [ClassPlaces],
+    classes: &[usize],
+) -> Result<Vec<&'a [u32]>, AllocError>
+    requires ordered { IsOrdered lists.now }
+    requires rises { Rises 0 classes.now }
+    ensures chosen { IfOk result (λ chosen. flat_map (λ l. l.now) chosen.items
+        ≡ flat_map (picked classes.now) lists.now) }
+    ensures rise { IfOk result (λ chosen. AllRise chosen.items) }
+{
+    let mut chosen = Vec::new(alloc);
+    for list in lists {
+        if is_among(classes, list.class) {
+            chosen.push(list.places.as_slice())?;
+        }
+    }
+    Ok(chosen)
+}
+
+/// One list is copied, a few are merged, and many, which are mostly short, are sorted.
+fn widened(alloc: Global, lists: &[&[u32]]) -> Result<Vec<usize>, AllocError>
+    requires rise { AllRise lists.now }
+    ensures places { IfOk result (λ places. places.items
+        ≡ ascending (flat_map (λ l. l.now) lists.now)) }
+{
+    let count = lists.len();
+    if count == 1 {
+        return wide(alloc, lists[0]);
+    }
+    if count > 32 {
+        return sorted(alloc, lists);
+    }
+    let narrow = merged(alloc, lists)?;
+    wide(alloc, narrow.as_slice())
+}
+
+/// The classes that have a list, ascending.
+pub(crate) fn classes_of(alloc: Global, lists: &[ClassPlaces]) -> Result<Vec<usize>, AllocError>
+    requires ordered { IsOrdered lists.now }
+    ensures classes { IfOk result (λ classes. classes.items ≡ map class_of lists.now) }
+    ensures rises { Rises 0 (map class_of lists.now) }
+    ensures others { (class : ℕ) → has class (map class_of lists.now) ≡ false
+        → places_at lists.now class ≡ [] }
+{
+    lists.iter().map(|list| list.class).collect(alloc)
+}

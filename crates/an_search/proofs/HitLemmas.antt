@@ -1,0 +1,167 @@
+-- Hits are found among the candidates.
+use Rattle.std.proofs.Common.{◌≡◌, ℕ, ◌+◌, ◌-◌, List, [], ◌∷◌, length, drop, min, Bool, true, false, cond, ◌&&◌, Some, None, Result, Ok, Err, OnOk, refl, sym, ap, ◌∙◌, arith}
+use Rattle.std.proofs.lemmas.Bool.Decides.{nat_tests}
+use Rattle.std.proofs.lemmas.List.{length-take, length-drop}
+use Rattle.std.specs.Prelude.{filter, ◌==◌}
+use Rattle.std.specs.List.{list_all}
+use Rattle.an_base.specs.TextSet.{has_text}
+use Rattle.an_model.specs.Bodies.{note_terms}
+use Rattle.an_policy.specs.Audience.{Identity}
+use Rattle.an_state.specs.State.{State, NoteState, LiveNote}
+use Rattle.an_state.specs.Terms.{has_term}
+use Rattle.an_state.specs.View.{view_of, is_on, shows_note, places_from, readable_places}
+use Rattle.an_search.specs.Cost.{Takes, candidates, page_cost}
+use Rattle.an_search.specs.Found.{candidate_places, is_suited_at, is_wanted_at, suits, with_terms}
+use Rattle.an_search.specs.Page.{lacks_page, page_count, page_of, start_of}
+use Rattle.an_search.specs.Wanted.{fits_but_terms, matches, wants_terms_alone}
+use Rattle.an_search.specs.declared.dates.DateRange.{DateRange}
+use Rattle.an_search.specs.declared.wanted.Wanted.{Wanted}
+use Rattle.an_search.proofs.PlaceLemmas.{common_places, length-places, same_places, tested_places}
+use Rattle.an_search.proofs.ViewLemmas.{filter_both, filter_same}
+
+-- what holds anyway holds where a call succeeds
+pub on_ok : {A E : Type 0} {Fact : Type 0} (result : Result A E) → Fact → OnOk result Fact
+on_ok (Ok x) fact = fact
+on_ok (Err e) fact = tt
+
+-- ---- where terms alone are wanted
+
+is_some : {A : Type 0} (x : A) (xs : List A) → (length (x ∷ xs) == 0) ≡ false
+is_some x xs = grind (arith, nat_tests)
+
+fits_alone : (iris terms motivations : List (List ℕ)) (ranges : List DateRange) (users : List (List ℕ)) (live : LiveNote)
+    → wants_terms_alone (record { iris = iris; terms = terms; motivations = motivations; ranges = ranges; users = users }) ≡ true
+    → fits_but_terms (record { iris = iris; terms = terms; motivations = motivations; ranges = ranges; users = users }) live ≡ true
+fits_alone [] terms [] [] [] live alone = refl
+fits_alone [] terms [] [] (user ∷ users) live alone = cc (is_some user users)
+fits_alone [] terms [] (range ∷ ranges) users live alone = cc (is_some range ranges)
+fits_alone [] terms (motivation ∷ motivations) ranges users live alone = cc (is_some motivation motivations)
+fits_alone (iri ∷ iris) terms motivations ranges users live alone = cc (is_some iri iris)
+
+-- each annotation has what is wanted but for them
+pub alone_fits : (wanted : Wanted) (live : LiveNote) → wants_terms_alone wanted ≡ true → fits_but_terms wanted live ≡ true
+alone_fits wanted live alone = fits_alone wanted.iris wanted.terms wanted.motivations wanted.ranges wanted.users live alone
+
+pub alone_suits : (wanted : Wanted) (row : NoteState) → wants_terms_alone wanted ≡ true → suits wanted row ≡ true
+alone_suits wanted row alone = elim row.live as (λ live. suits wanted (record row { live = live }) ≡ true) [
+  | None ↦ refl
+  | Some live ↦ alone_fits wanted live alone
+]
+
+-- ---- tests of one annotation
+
+both_last : (a b c : Bool) → ((a && b) && c) ≡ (a && (b && c))
+both_last true b c = refl
+both_last false b c = refl
+
+and_true : (a : Bool) → a ≡ (a && true)
+and_true true = refl
+and_true false = refl
+
+either_first : (a b : Bool) → (a && b) ≡ (b && a)
+either_first true true = refl
+either_first true false = refl
+either_first false true = refl
+either_first false false = refl
+
+one_after_another : (may has suited : Bool) (each : List ℕ → Bool) (terms : List (List ℕ))
+    → (((may && has) && suited) && list_all (λ term. may && each term) terms) ≡ (may && ((has && list_all each terms) && suited))
+one_after_another false has suited each terms = refl
+one_after_another true false suited each terms = refl
+one_after_another true true suited each terms = either_first suited (list_all each terms)
+
+-- ---- places
+
+module _ (s : State) (who : Identity) (manifest : List ℕ) where
+  abbrev may : NoteState → Bool
+  may row = is_on manifest row && shows_note s who row
+
+  abbrev has : List ℕ → NoteState → Bool
+  has term row = may row && has_term term row
+
+  with_each : (kept : NoteState → Bool) (terms : List (List ℕ))
+      → with_terms s who manifest (places_from kept 0 s.notes) terms ≡ places_from (λ row. kept row && list_all (λ term. has term row) terms) 0 s.notes
+  with_each kept [] = same_places kept (λ row. kept row && true) 0 s.notes (λ row. and_true (kept row))
+  with_each kept (term ∷ terms) =
+      ap (λ places. with_terms s who manifest places terms) (common_places kept (has term) 0 s.notes)
+      ∙ with_each (λ row. kept row && has term row) terms
+      ∙ same_places (λ row. (kept row && has term row) && list_all (λ term. has term row) terms) (λ row. kept row && list_all (λ term. has term row) (term ∷ terms)) 0 s.notes
+      (λ row. both_last (kept row) (has term row) (list_all (λ term. has term row) terms))
+
+  -- what is wanted of an annotation, and what is asked of it in turn
+  in_turn : (wanted : Wanted) (term : List ℕ) (terms : List (List ℕ)) (row : NoteState) → wanted.terms ≡ term ∷ terms
+      → ((has term row && suits wanted row) && list_all (λ term. has term row) terms) ≡ (may row && matches wanted row)
+  in_turn wanted term terms row are = elim row.live as (λ live.
+      ((has term (record row { live = live }) && suits wanted (record row { live = live })) && list_all (λ term. has term (record row { live = live })) terms)
+      ≡ (may (record row { live = live }) && matches wanted (record row { live = live }))) [
+        | None ↦ refl
+        | Some live ↦ rw are (one_after_another (may (record row { live = Some live })) (has_text term (note_terms live.tree)) (fits_but_terms wanted live) (λ term. has_text term (note_terms live.tree)) terms)
+      ]
+
+  no_terms : (wanted : Wanted) (row : NoteState) → wanted.terms ≡ [] → (may row && suits wanted row) ≡ (may row && matches wanted row)
+  no_terms wanted row none = elim row.live as (λ live. (may (record row { live = live }) && suits wanted (record row { live = live })) ≡ (may (record row { live = live }) && matches wanted (record row { live = live }))) [
+    | None ↦ refl
+    | Some live ↦ rw none refl
+  ]
+
+  -- the wanted places are those of the candidates that suit and have each other term
+  wanted_places : (wanted : Wanted) (terms : List (List ℕ)) → wanted.terms ≡ terms
+      → with_terms s who manifest (filter (is_suited_at s.notes wanted) (candidate_places s who manifest terms)) (drop 1 terms)
+      ≡ filter (is_wanted_at s.notes wanted) (readable_places s who manifest)
+  wanted_places wanted [] none =
+      tested_places (suits wanted) may [] s.notes
+      ∙ same_places (λ row. may row && suits wanted row) (λ row. may row && matches wanted row) 0 s.notes (λ row. no_terms wanted row none)
+      ∙ sym (tested_places (matches wanted) may [] s.notes)
+  wanted_places wanted (term ∷ terms) are =
+      ap (λ places. with_terms s who manifest places terms) (tested_places (suits wanted) (has term) [] s.notes)
+      ∙ with_each (λ row. has term row && suits wanted row) terms
+      ∙ same_places (λ row. (has term row && suits wanted row) && list_all (λ term. has term row) terms) (λ row. may row && matches wanted row) 0 s.notes (λ row. in_turn wanted term terms row are)
+      ∙ sym (tested_places (matches wanted) may [] s.notes)
+
+  pub found_places : (wanted : Wanted) → with_terms s who manifest (filter (is_suited_at s.notes wanted) (candidate_places s who manifest wanted.terms)) (drop 1 wanted.terms)
+      ≡ filter (is_wanted_at s.notes wanted) (readable_places s who manifest)
+  found_places wanted = wanted_places wanted wanted.terms refl
+
+  -- there are as many as the view tells
+  pub readable_count : length (readable_places s who manifest) ≡ length (filter (is_on manifest) (view_of s who).notes)
+  readable_count = length-places may 0 s.notes ∙ ap length (sym (filter_both (is_on manifest) (shows_note s who) s.notes))
+
+  pub candidate_count : (terms : List (List ℕ)) → length (candidate_places s who manifest terms) ≡ length (candidates (view_of s who) manifest terms)
+  unfolding candidates
+  candidate_count [] = readable_count
+  candidate_count (term ∷ terms) =
+      length-places (has term) 0 s.notes
+      ∙ ap length (filter_same (has term) (λ row. has_term term row && may row) (λ row. either_first (may row) (has_term term row)) s.notes
+      ∙ sym (filter_both (has_term term) may s.notes)
+      ∙ ap (filter (has_term term)) (sym (filter_both (is_on manifest) (shows_note s who) s.notes)))
+
+-- ---- pages
+
+-- a page of as many has as many
+pub page_count-same : {A B : Type 0} (page size : ℕ) (first : List A) (second : List B) → length first ≡ length second → length (page_of page size first) ≡ length (page_of page size second)
+page_count-same page size first second same =
+    length-take size (drop (start_of page size) first)
+    ∙ ap (min size) (length-drop (start_of page size) first ∙ ap (λ n. n - start_of page size) same ∙ sym (length-drop (start_of page size) second))
+    ∙ sym (length-take size (drop (start_of page size) second))
+
+pub page_cost-same : {A B : Type 0} (page size : ℕ) (first : List A) (second : List B) → length first ≡ length second → page_cost page size first ≡ page_cost page size second
+page_cost-same page size first second same = rw (same, page_count-same page size first second same) refl
+
+module _ {A : Type 0} (page size : ℕ) (found : List A) (number most : ℕ) (size_is : most ≡ size) (page_is : number ≡ page) where
+  lacks : lacks_page (page_count (length found) size) page ≡ lacks_page (page_count (length found) most) number
+  lacks = ap (λ n. lacks_page (page_count (length found) n) page) (sym size_is) ∙ ap (λ n. lacks_page (page_count (length found) most) n) (sym page_is)
+
+  pub cost_past : lacks_page (page_count (length found) most) number ≡ true → page_cost page size found ≡ 0
+  cost_past past = ap (λ b. cond b 0 (length (page_of page size found))) (lacks ∙ past)
+
+  pub cost_shown : lacks_page (page_count (length found) most) number ≡ false → page_cost page size found ≡ length (page_of number most found)
+  cost_shown there =
+      ap (λ b. cond b 0 (length (page_of page size found))) (lacks ∙ there)
+      ∙ ap (λ n. length (page_of page n found)) (sym size_is)
+      ∙ ap (λ n. length (page_of n most found)) (sym page_is)
+
+-- one cost and then another
+pub takes_both : {A E : Type 0} (memory : E) (result : Result A E) (old middle new first more rest : ℕ) → Takes memory result middle new more → middle ≡ old + first → more ≡ rest
+    → Takes memory result old new (first + rest)
+takes_both memory (Ok x) old middle new first more rest second one same = omega (arith, second, one, same)
+takes_both memory (Err e) old middle new first more rest second one same = λ other. let is = second other in omega (arith, is, one, same)

@@ -1,0 +1,10 @@
+use Rattle.std.proofs.Common.{◌≡◌, ◌+◌, ◌++◌, drop}
+use Rattle.std.specs.Prelude.{filter}
+use Rattle.an_search.specs.Found.{is_suited_at}
+use Rattle.an_search.proofs.hits.suited_among.Given as goal
+
+-- the suited places that are left stand behind those so far, and each place took a step
+abbrev pub invariant-loop-place : goal.invariant-loop-place
+invariant-loop-place g l =
+    let test = is_suited_at (g.T.Look.state l.look).notes l.wanted in
+    (l.suited.items ++ filter test (drop l.place-index l.places) ≡ filter test l.places) × (l.steps ≡ l.fn.steps + l.place-index)

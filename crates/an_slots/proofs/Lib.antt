@@ -1,0 +1,11 @@
+pub mod ChangeLemmas
+pub mod ClassedLemmas
+pub mod GatheredLemmas
+pub mod MergedLemmas
+pub mod NestLemmas
+pub mod PartLemmas
+pub mod PlacesFromLemmas
+pub mod PlacesLemmas
+pub mod ShownLemmas
+pub mod SlotLemmas
+pub mod SumLemmas

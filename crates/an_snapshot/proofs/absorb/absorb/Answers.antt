@@ -1,0 +1,36 @@
+use Rattle.std.proofs.Common.{◌≡◌, List, All, map, sym, ap, subst, ◌∙◌}
+use Rattle.an_policy.specs.declared.group.Audience.{Audience}
+use Rattle.an_state.specs.Entries.{with_rows, after}
+use Rattle.an_state.specs.State.{State}
+use Rattle.an_state.specs.declared.activity.Activity.{Activity}
+use Rattle.an_state.specs.declared.entry.Entry.{Entry}
+use Rattle.an_state.specs.declared.entry.Row.{Row}
+use Rattle.an_listed.specs.declared.filed.Filed.{Filed}
+use Rattle.an_snapshot.specs.Fits.{rows_of}
+use Rattle.an_snapshot.specs.Listing.{IsFiled}
+use Rattle.an_snapshot.specs.Plan.{state_behind}
+use Rattle.an_snapshot.specs.Steps.{row_of_step}
+use Rattle.an_snapshot.proofs.StepLemmas.{after-behind, filed-behind, listing-after, steps-filed}
+use Rattle.an_snapshot.proofs.absorb.absorb.Goals as goal
+
+pub returns-in-Some-clause-listing : goal.returns-in-Some-clause-listing
+returns-in-Some-clause-listing c =
+    let s : State = c.args.book.now.state in
+    let entry : Entry = c.args.entry.now in
+    let old : List Audience = c.args.classes.now in
+    let new : List Audience = c.prepare.new.classes in
+    let rows : List Filed = c.args.listed.now.rows in
+    let steps = c.in-Some.prepared.steps.items in
+    let activities : List Activity = c.in-Some.prepared.activities.items in
+    let t : State = with_rows (rows_of entry) s in
+    let planned = rw c.in-Some.is at c.in_ok-prepared.ensures.planned in
+    let state : c.put.new.book.state ≡ after s entry =
+    c.put.ensures.state
+    ∙ ap (λ (u : State). state_behind u (map row_of_step steps) activities) c.prepare.ensures.state
+    ∙ ap (λ (l : List Row). state_behind s l activities) planned.1
+    ∙ ap (state_behind s (rows_of entry)) planned.3
+    ∙ after-behind s entry in
+    let before = subst (All (IsFiled t new)) (sym c.prepare.ensures.rows) (filed-behind entry s old new rows c.prepare.ensures.grows c.requires.listing planned.0) in
+    rw state (listing-after entry s old new rows c.put.new.listed.rows c.requires.listing planned.0
+    (c.put.ensures.notes ∙ ap (λ (u : State). u.notes) state)
+    (c.put.ensures.filed t new (steps-filed t new steps planned.2) before))

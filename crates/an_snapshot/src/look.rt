@@ -1,0 +1,77 @@
+use crate::snapshot::Snapshot;
+use an_base::{Name, Steps, TermTotal};
+use an_policy::{Caller, Kind, Who};
+use an_state::{Look, ManifestRow, NoteRow, Seen};
+use std::alloc::{AllocError, Global};
+use std::sync::ledger::Ledger;
+
+impl Look for Snapshot {
+    ghost state = { λ s. s.state };
+
+    fn who(&self, caller: &Caller) -> Option<Who<'_>> {
+        self.book().who(caller)
+    }
+
+    fn manifest(&self, name: &Name) -> Option<&ManifestRow> {
+        self.book().manifest(name)
+    }
+
+    fn note(&self, owner: &Name, name: &Name) -> Option<&NoteRow> {
+        self.book().note(owner, name)
+    }
+
+    fn note_at<L: Ledger>(&self, place: usize, steps: &mut Steps<L>) -> Option<&NoteRow> {
+        self.book().note_at(place, steps)
+    }
+
+    fn readable(
+        &self,
+        alloc: Global,
+        who: &Who<'_>,
+        manifest: &Name,
+    ) -> Result<Vec<usize>, AllocError> {
+        self.places(alloc, who, manifest)
+    }
+
+    fn with_term(
+        &self,
+        alloc: Global,
+        who: &Who<'_>,
+        manifest: &Name,
+        term: &str,
+    ) -> Result<Vec<usize>, AllocError> {
+        self.places_with(alloc, who, manifest, term)
+    }
+
+    fn terms_from(
+        &self,
+        alloc: Global,
+        who: &Who<'_>,
+        manifest: &Name,
+        prefix: &str,
+    ) -> Result<Vec<TermTotal>, AllocError> {
+        self.terms(alloc, who, manifest, prefix)
+    }
+
+    fn manifest_at(&self, place: usize) -> Option<&ManifestRow> {
+        self.book().manifest_at(place)
+    }
+
+    fn seen_count(&self, who: &Who<'_>) -> usize {
+        self.book().seen_count(who)
+    }
+
+    fn seen_slice(
+        &self,
+        alloc: Global,
+        who: &Who<'_>,
+        start: usize,
+        count: usize,
+    ) -> Result<Vec<Seen>, AllocError> {
+        self.book().seen_slice(alloc, who, start, count)
+    }
+
+    fn last_change(&self, who: &Who<'_>, owner: Option<&Name>, name: &Name) -> Option<Kind> {
+        self.book().last_change(who, owner, name)
+    }
+}

@@ -1,0 +1,166 @@
+ghost use Rattle.std.specs.Prelude.{◌≡◌, All, IfOk, Some, map, option_map, true};
+ghost use Rattle.an_policy.specs.Classes.{Grows, class_of};
+ghost use Rattle.an_state.specs.State.{is_distinct};
+ghost use Rattle.an_snapshot.specs.Fits.{notes_stand};
+ghost use Rattle.an_snapshot.specs.Listing.{IsListing};
+ghost use Rattle.an_snapshot.specs.Plan.{AreLeft, LeavesFitting, Plans};
+ghost use Rattle.an_snapshot.specs.Steps.{IsFiledOver, IsStepOver};
+ghost use Rattle.an_snapshot.specs.Steps.{row_of_step};
+ghost use Rattle.an_snapshot.specs.declared.steps.Step.TheVariants.{Note};
+
+use crate::fits::stand;
+use crate::left::{Left, left_of};
+use crate::steps::Step;
+use an_base::{Name, Shared, TryCopy};
+use an_listed::{Filed, Listed};
+use an_policy::{Audience, Classes, Group};
+use an_state::{Book, NoteRow, Row};
+use std::alloc::{AllocError, Global};
+
+/// The steps that rows come to; none where they don't fit.
+pub(crate) fn plan(
+    alloc: Global,
+    book: &Book,
+    classes: &mut Classes,
+    listed: &Listed,
+    rows: Vec<Row>,
+) -> Result<Option<Vec<Step>>, AllocError>
+    requires listing { IsListing book.now.state classes.old listed.now.rows }
+    ensures grows { Grows classes.old classes.new }
+    ensures plan { IfOk result (λ steps.
+        Plans book.now.state classes.new rows.items (option_map (λ v. v.items) steps)) }
+{
+    match left_by(alloc, book, listed, rows.as_slice())? {
+        Some(left) => {
+            let steps = steps_of(alloc, book, classes, &left, rows)?;
+            Ok(Some(steps))
+        }
+        None => Ok(None),
+    }
+}
+
+/// What is left of rows; none where they don't fit.
+fn left_by(
+    alloc: Global,
+    book: &Book,
+    listed: &Listed,
+    rows: &[Row],
+) -> Result<Option<Left>, AllocError>
+    requires notes { map (λ filed. filed.note) listed.now.rows ≡ book.now.state.notes }
+    requires distinct { is_distinct book.now.state ≡ true }
+    requires stand { notes_stand book.now.state ≡ true }
+    ensures left { IfOk result (λ left. LeavesFitting book.now.state rows.now left) }
+{
+    match left_of(alloc, book, rows)? {
+        Some(left) => if stand(alloc, book, listed, &left)? {
+            Ok(Some(left))
+        } else {
+            Ok(None)
+        },
+        None => Ok(None),
+    }
+}
+
+/// The steps of rows, of which this is left.
+fn steps_of(
+    alloc: Global,
+    book: &Book,
+    classes: &mut Classes,
+    left: &Left,
+    rows: Vec<Row>,
+) -> Result<Vec<Step>, AllocError>
+    ensures grows { Grows classes.old classes.new }
+    ensures rows { IfOk result (λ steps. map row_of_step steps.items ≡ rows.items) }
+    ensures steps { IfOk result (λ steps. All
+        (IsStepOver book.now.state left.now.manifests.rows classes.new) steps.items) }
+{
+    let mut steps = Vec::with_capacity(alloc, rows.len())?;
+    for row in rows {
+        steps.push(step_of(book, classes, left, row)?)?;
+    }
+    Ok(steps)
+}
+
+fn step_of(book: &Book, classes: &mut Classes, left: &Left, row: Row) -> Result<Step, AllocError>
+    ensures grows { Grows classes.old classes.new }
+    ensures row { IfOk result (λ step. row_of_step step ≡ row) }
+    ensures step { IfOk result
+        (λ step. IsStepOver book.now.state left.now.manifests.rows classes.new step) }
+{
+    match row {
+        Row::Note(row) => {
+            let class = class_in(book, classes, left, row.get())?;
+            note_step(row, class)
+        }
+        Row::Reader(row) => Ok(Step::Other(Row::Reader(row))),
+        Row::Manifest(row) => Ok(Step::Other(Row::Manifest(row))),
+        Row::Activity(activity) => Ok(Step::Other(Row::Activity(activity))),
+    }
+}
+
+fn note_step(row: Shared<NoteRow>, class: usize) -> Result<Step, AllocError>
+    ensures { IfOk result (λ step. step ≡ Note row (record { note = row; class = class })) }
+{
+    let note = row.copy()?;
+    Ok(Step::Note(row, Filed { note, class }))
+}
+
+/// The class of an annotation's audience, which has one then where the annotation is live and its
+/// manifest has a row.
+fn class_in(
+    book: &Book,
+    classes: &mut Classes,
+    left: &Left,
+    row: &NoteRow,
+) -> Result<usize, AllocError>
+    ensures grows { Grows classes.old classes.new }
+    ensures class { IfOk result (λ class.
+        IsFiledOver book.now.state left.now.manifests.rows classes.new row.now class) }
+{
+    match row.live() {
+        Some(live) => match left.manifest(book, live.manifest) {
+            Some(manifest) => class_of(classes, manifest.group(), live.group, row.owned_by()),
+            None => Ok(0),
+        },
+        None => Ok(0),
+    }
+}
+
+/// The class of an audience in parts, which has one then.
+fn class_of(
+    classes: &mut Classes,
+    outer: &Group,
+    inner: &Group,
+    owner: &Name,
+) -> Result<usize, AllocError>
+    ensures grows { Grows classes.old classes.new }
+    ensures class { IfOk result (λ class. class_of
+        (record { outer = outer.now; inner = inner.now; owner = Some owner.now }) classes.new
+        ≡ Some class) }
+{
+    match classes.class_of_parts(outer, inner, Some(owner)) {
+        Some(class) => Ok(class),
+        None => add_class(classes, outer, inner, owner),
+    }
+}
+
+fn add_class(
+    classes: &mut Classes,
+    outer: &Group,
+    inner: &Group,
+    owner: &Name,
+) -> Result<usize, AllocError>
+    ensures grows { Grows classes.old classes.new }
+    ensures class { IfOk result (λ class. class_of
+        (record { outer = outer.now; inner = inner.now; owner = Some owner.now }) classes.new
+        ≡ Some class) }
+{
+    let outer = outer.copy()?;
+    let inner = inner.copy()?;
+    let owner = Some(owner.copy()?);
+    classes.add(&Audience {
+        outer,
+        inner,
+        owner,
+    })
+}

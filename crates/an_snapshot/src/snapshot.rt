@@ -1,0 +1,142 @@
+ghost use Rattle.std.specs.Prelude.{◌≡◌, IfOk, OnErr, OnOk};
+ghost use Rattle.an_policy.specs.Audience.{identity};
+ghost use Rattle.an_state.specs.Terms.{places_with_term, terms_with_prefix};
+ghost use Rattle.an_state.specs.View.{readable_places};
+ghost use Rattle.an_snapshot.specs.Absorbed.{absorbed, nothing};
+
+use crate::absorb::absorb;
+use crate::prepare::prepare;
+use an_base::{Name, TermTotal};
+use an_listed::Listed;
+use an_policy::{Classes, Who};
+use an_state::{Book, Entry};
+use std::alloc::{AllocError, Global};
+use std::marker::Model;
+
+/// A state that is answered from lists. Contracts see the state, and how many entries were applied.
+#[derive(Drop)]
+pub struct Snapshot {
+    alloc: Global,
+    book: Book,
+    classes: Classes,
+    listed: Listed,
+    count: u128,
+}
+
+impl Model for Snapshot {
+    ghost use Rattle.std.specs.Coded.{codes};
+    ghost use Rattle.an_base.specs.TreeCode.{tree_code};
+    ghost use Rattle.an_snapshot.specs.Absorbed.{Absorbed};
+    ghost use Rattle.an_snapshot.specs.Listing.{IsListing};
+
+    ghost Value = { Absorbed };
+
+    ghost coded = { Prim.hlevel (codes, tree_code) };
+
+    ghost view = { λ s. record { state = s.book.state; count = s.count } };
+
+    ghost invariant = { λ s. IsListing s.book.state s.classes s.listed.rows };
+}
+
+impl Snapshot {
+    /// The empty state, to which nothing was applied. It takes no memory.
+    pub fn new(alloc: Global) -> Snapshot
+        ensures empty { result ≡ nothing }
+    {
+        Snapshot {
+            alloc,
+            book: Book::new(alloc),
+            classes: Classes::new(alloc),
+            listed: Listed::new(alloc),
+            count: 0,
+        }
+    }
+
+    /// How many entries were applied, those that didn't fit with them. It takes no memory.
+    pub fn count(&self) -> u128
+        ensures count { result ≡ self.now.count }
+    {
+        self.count
+    }
+
+    /// Takes the memory that the entry needs. Nothing changes, also where memory runs out.
+    pub fn room(&mut self, entry: &Entry) -> Result<(), AllocError>
+        ensures same { self.new ≡ self.old }
+    {
+        prepare(
+            self.alloc,
+            &mut self.book,
+            &mut self.classes,
+            &mut self.listed,
+            entry,
+        )?;
+        Ok(())
+    }
+
+    /// Applies an entry. One that doesn't fit leaves the state as it is, and is counted. Its only
+    /// error is want of memory, and then nothing changes.
+    #[tactic(auto, unfolding(crate::specs::Absorbed::counted))]
+    pub fn apply(&mut self, entry: &Entry) -> Result<(), AllocError>
+        ensures ok { OnOk result (self.new ≡ absorbed self.old entry.now) }
+        ensures same { OnErr result (self.new ≡ self.old) }
+    {
+        absorb(
+            self.alloc,
+            &mut self.book,
+            &mut self.classes,
+            &mut self.listed,
+            entry,
+        )?;
+        self.count = self.count.saturating_add(1);
+        Ok(())
+    }
+
+    pub(crate) fn book(&self) -> &Book
+        ensures state { result.now.state ≡ self.now.state }
+    {
+        &self.book
+    }
+
+    /// The places of the live annotations on a manifest that the caller may read.
+    pub(crate) fn places(
+        &self,
+        alloc: Global,
+        who: &Who<'_>,
+        manifest: &Name,
+    ) -> Result<Vec<usize>, AllocError>
+        ensures places { IfOk result (λ places. places.items
+            ≡ readable_places self.now.state (identity who.now) manifest.now) }
+    {
+        self.listed.readable(alloc, &self.classes, who, manifest)
+    }
+
+    /// The places of those of them that have a term.
+    pub(crate) fn places_with(
+        &self,
+        alloc: Global,
+        who: &Who<'_>,
+        manifest: &Name,
+        term: &str,
+    ) -> Result<Vec<usize>, AllocError>
+        ensures places { IfOk result (λ places. places.items
+            ≡ places_with_term self.now.state (identity who.now) manifest.now term.now) }
+    {
+        self.listed
+            .with_term(alloc, &self.classes, who, manifest, term)
+    }
+
+    /// Their terms that begin so, and how often each occurs.
+    pub(crate) fn terms(
+        &self,
+        alloc: Global,
+        who: &Who<'_>,
+        manifest: &Name,
+        prefix: &str,
+    ) -> Result<Vec<TermTotal>, AllocError>
+        ensures terms { IfOk result (λ terms. terms.items
+            ≡ terms_with_prefix self.now.state (identity who.now) manifest.now prefix.now) }
+    {
+        self.listed
+            .terms_from(alloc, &self.classes, who, manifest, prefix)
+    }
+}

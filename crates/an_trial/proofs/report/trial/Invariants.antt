@@ -1,5 +1,0 @@
-use Rattle.an_trial.proofs.report.trial.Given as goal
-
--- the ledger of the blank
-abbrev pub ghosts-report : goal.ghosts-report
-ghosts-report a = record { name = a.blank.name; parts = a.blank.parts }
