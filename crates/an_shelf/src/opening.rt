@@ -1,4 +1,4 @@
-ghost use Rattle.std.specs.Prelude.{◌≡◌, ◌≤◌, IfErr, IfOk, IfSome, IsTrue, Some, []};
+ghost use Rattle.std.specs.Prelude.{◌≡◌, ◌≤◌, IfErr, IfOk, IfSome, IsTrue, OnOk, Some, []};
 ghost use Rattle.an_keep.specs.Cells.{Ascend, first_of};
 ghost use Rattle.an_base.specs.Faults.{Rises};
 ghost use Rattle.an_keep.specs.Keeper.{Stays, StaysOrBegins};
@@ -113,12 +113,40 @@ fn load_rows<K: Keeper>(alloc: Global, keeper: &mut K, cell: Cell) -> Result<Loa
     ensures faults_kept { K.faults keeper.old ≤ K.faults keeper.new }
 {
     let mut loaded = Loaded::new(alloc);
+    match restore_rows(alloc, keeper, &mut loaded, cell) {
+        Ok(()) => Ok(loaded),
+        Err(error) => Err(error),
+    }
+}
+
+/// Puts the rows of this cell and of those behind it into an empty book, and shows them.
+fn restore_rows<K: Keeper>(
+    alloc: Global,
+    keeper: &mut K,
+    loaded: &mut Loaded,
+    cell: Cell,
+) -> Result<(), OpenError>
+    requires next { IfSome (K.told keeper.old) (ComesNext [] cell) }
+    requires empty { loaded.old.book.state ≡ empty }
+    requires shown { loaded.old.snapshot.state ≡ loaded.old.book.state }
+    ensures state { OnOk result (StandFor (K.told keeper.new) loaded.new.book.state) }
+    ensures cells { OnOk result (IfSome (K.told keeper.new)
+        (λ found. found ≡ cells loaded.new.book.state)) }
+    ensures valid { OnOk result (IsTrue (is_valid loaded.new.book.state)) }
+    ensures sound { OnOk result (IsTrue (is_sound loaded.new.book.state)) }
+    ensures shown { OnOk result (loaded.new.snapshot.state ≡ loaded.new.book.state) }
+    ensures damaged { IfErr result (IsDamagedBy (K.told keeper.new)) }
+    ensures stays { Stays (K.told keeper.old) (K.told keeper.new) }
+    ensures counted { result ≡ Err OpenError.Keeper
+        → Rises (K.faults keeper.old) (K.faults keeper.new) }
+    ensures faults_kept { K.faults keeper.old ≤ K.faults keeper.new }
+{
     let mut cell = cell;
     for _ in 0..MOST_ROWS {
-        restore(alloc, &mut loaded, &cell)?;
+        restore(alloc, loaded, &cell)?;
         match keeper.next_after(cell.tab, cell.key)? {
             Some(next) => cell = next,
-            None => return Ok(loaded),
+            None => return Ok(()),
         }
     }
     Err(OpenError::Memory)

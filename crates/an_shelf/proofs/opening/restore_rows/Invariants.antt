@@ -2,7 +2,7 @@ use Rattle.std.proofs.Common.{◌≡◌, ◌≤◌}
 use Rattle.an_keep.specs.Keeper.{Stays}
 use Rattle.an_shelf.proofs.ReadingLemmas.{IsReading}
 use Rattle.an_shelf.specs.Restoring.{row_count}
-use Rattle.an_shelf.proofs.opening.load_rows.Given as goal
+use Rattle.an_shelf.proofs.opening.restore_rows.Given as goal
 
 -- the rows are those of the cells before this one, and are shown, and no cell was changed
 abbrev pub invariant-loop : goal.invariant-loop

@@ -4,7 +4,7 @@ use Rattle.an_shelf.proofs.FitLemmas.{reading-fits}
 use Rattle.an_shelf.proofs.ReadingLemmas.{IsReading}
 use Rattle.an_shelf.specs.Restoring.{row_count}
 use Rattle.an_shelf.proofs.ReadingLemmas.{reading-begins, reading-on, reading-ends, reading-cells, reading-valid, reading-sound, exit-damaged, exit-uncounted, failed-counted, stays-same, stays-on}
-use Rattle.an_shelf.proofs.opening.load_rows.Goals as goal
+use Rattle.an_shelf.proofs.opening.restore_rows.Goals as goal
 
 pub restore-requires : goal.restore-requires
 restore-requires g c = record {
@@ -15,11 +15,11 @@ restore-requires g c = record {
 
 pub loop-init : goal.loop-init
 loop-init g c =
-    let none = ap row_count c.new-loaded.ensures.empty in
+    let none = ap row_count c.requires.empty in
     record {
-      reading = subst (λ s. IsReading (g.K.Keeper.told c.args.keeper.now) s c.args.cell) (sym c.new-loaded.ensures.empty) (reading-begins (g.K.Keeper.told c.args.keeper.now) c.args.cell c.requires.next);
+      reading = subst (λ s. IsReading (g.K.Keeper.told c.args.keeper.now) s c.args.cell) (sym c.requires.empty) (reading-begins (g.K.Keeper.told c.args.keeper.now) c.args.cell c.requires.next);
       few = omega (arith, none);
-      shown = c.new-loaded.ensures.shown;
+      shown = c.requires.shown;
       stays = stays-same (g.K.Keeper.told c.args.keeper.now);
       faults_kept = omega arith;
     }
