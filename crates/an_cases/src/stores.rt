@@ -4,30 +4,25 @@ use an_base::Bytes;
 use an_calls::{Answers, RowError, cell_shown, look_at, number, two_parts, two_words};
 use an_keep::{Cell, Change, KeepError, Keeper, MemKeeper};
 use an_search::read_settings;
-use an_shelf::Desk;
+use an_shelf::{Desk, OpenError};
 use an_world::{MemLink, SetClock};
 use std::alloc::{AllocError, Global};
 use std::str::from_utf8;
 
-/// A store in memory, closed or open.
-#[derive(Drop)]
-pub enum Store {
-    Closed(MemKeeper),
-    Open(Desk<MemKeeper>),
-    /// A store that isn't opened is gone.
-    Gone,
-}
-
-/// Answers rows on a store, one after the other.
+/// Answers rows on a store in memory, one after the other. The store is closed where there is a
+/// keeper, open where there is a desk, and gone where there is neither.
 #[derive(Drop)]
 pub struct Stores {
-    store: Store,
+    keeper: Option<MemKeeper>,
+    desk: Option<Box<Desk<MemKeeper>>>,
 }
 
 impl Stores {
+    /// A closed store.
     pub fn new(keeper: MemKeeper) -> Stores {
         Stores {
-            store: Store::Closed(keeper),
+            keeper: Some(keeper),
+            desk: None,
         }
     }
 }
@@ -49,51 +44,50 @@ impl Answers for Stores {
 }
 
 impl Stores {
-    fn take(&mut self) -> Store {
-        std::mem::replace(&mut self.store, Store::Gone)
-    }
-
     /// An empty store takes the place of one that is gone.
     fn begin(&mut self, alloc: Global) -> Result<String, RowError> {
-        match self.take() {
-            Store::Gone => {
-                let keeper = MemKeeper::new(Vec::new(alloc), Vec::new(alloc));
-                self.store = Store::Closed(keeper);
-                shown(alloc, "new")
-            }
-            _ => Err(RowError::Form),
+        if self.keeper.is_some() || self.desk.is_some() {
+            return Err(RowError::Form);
         }
+        self.keeper = Some(MemKeeper::new(Vec::new(alloc), Vec::new(alloc)));
+        shown(alloc, "new")
     }
 
+    /// Opens a closed store. One that isn't opened is gone.
     fn open(&mut self, alloc: Global) -> Result<String, RowError> {
-        match self.take() {
-            Store::Closed(keeper) => match Desk::open(alloc, keeper) {
-                Ok(desk) => {
-                    self.store = Store::Open(desk);
-                    shown(alloc, "opened")
-                }
-                Err(error) => Ok(format!(in alloc; "{error:?}")?),
-            },
-            _ => Err(RowError::Form),
+        let keeper = self.keeper.take().ok_or(RowError::Form)?;
+        match open_desk(alloc, keeper)? {
+            Ok(desk) => {
+                self.desk = Some(desk);
+                shown(alloc, "opened")
+            }
+            Err(error) => Ok(format!(in alloc; "{error:?}")?),
         }
     }
 
     fn close(&mut self, alloc: Global) -> Result<String, RowError> {
-        match self.take() {
-            Store::Open(desk) => {
-                self.store = Store::Closed(desk.into_keeper());
-                shown(alloc, "closed")
-            }
-            _ => Err(RowError::Form),
-        }
+        let desk = self.desk.take().ok_or(RowError::Form)?;
+        self.keeper = Some(Box::into_inner(desk).into_keeper());
+        shown(alloc, "closed")
     }
 
     fn call(&mut self, alloc: Global, argument: &str) -> Result<String, RowError> {
-        match &mut self.store {
-            Store::Closed(keeper) => call_of_keeper(alloc, keeper, argument),
-            Store::Open(desk) => call_of_desk(alloc, desk, argument),
-            Store::Gone => Err(RowError::Form),
+        if let Some(keeper) = &mut self.keeper {
+            return call_of_keeper(alloc, keeper, argument);
         }
+        let desk = self.desk.as_mut().ok_or(RowError::Form)?;
+        call_of_desk(alloc, desk, argument)
+    }
+}
+
+/// A desk in a box of its own, so that it is moved as a pointer.
+fn open_desk(
+    alloc: Global,
+    keeper: MemKeeper,
+) -> Result<Result<Box<Desk<MemKeeper>>, OpenError>, AllocError> {
+    match Desk::open(alloc, keeper) {
+        Ok(desk) => Ok(Ok(Box::new(alloc, desk)?)),
+        Err(error) => Ok(Err(error)),
     }
 }
 
