@@ -13,12 +13,12 @@ use Rattle.an_http.specs.declared.reply.Extra.TheVariants as extra
 use Rattle.an_http.specs.declared.reply.Reply.{Reply}
 use Rattle.an_http.specs.declared.status.Status.{Status}
 use Rattle.an_http.specs.declared.status.Status.TheVariants as status
-use Rattle.an_manifest.specs.Dress.{manifest_iri}
+use Rattle.an_iri.specs.Iris.{manifest_iri, note_iri, reader_iri}
 use Rattle.an_state.specs.View.{View}
 use Rattle.an_state.specs.declared.command.Object.{Object}
 use Rattle.an_state.specs.declared.command.Object.TheVariants as object
 use Rattle.an_machine.specs.declared.command.Refused.{Refused}
-use Rattle.an_machine.specs.declared.command.Refused.TheVariants as refused
+use Rattle.an_machine.specs.Told.{write_refusal}
 use Rattle.an_machine.specs.declared.command.WriteReply.{WriteReply}
 use Rattle.an_base.specs.declared.span.Prefer.{Prefer}
 use Rattle.an_pages.specs.Bodies.{manifest_of_view, annotation_of_view}
@@ -29,7 +29,6 @@ use Rattle.an_stream.specs.declared.stream.StreamError.{StreamError}
 use Rattle.an_stream.specs.declared.stream.StreamError.TheVariants as stream
 use Rattle.an_pages.specs.declared.error.PageError.{PageError}
 use Rattle.an_pages.specs.declared.error.PageError.TheVariants as page
-use Rattle.an_search.specs.Listed.{note_iri}
 use Rattle.an_search.specs.Search.{search_of}
 use Rattle.an_search.specs.Site.{Site}
 use Rattle.an_search.specs.declared.searching.AskError.{AskError}
@@ -140,7 +139,7 @@ query_answer view methods refusal = unless_nobody view methods (refusal_reply me
 
 -- the IRI of what was written
 abbrev pub object_iri : List ℕ → Object → List ℕ
-object_iri base (object.Reader name) = base ++ (codes "/readers/" ++ name)
+object_iri base (object.Reader name) = reader_iri base name
 object_iri base (object.Manifest name) = manifest_iri base name
 object_iri base (object.Note owner name) = note_iri base owner name
 
@@ -161,19 +160,6 @@ write_body base reply = write_text (object_iri base reply.object) reply.repeat r
 abbrev pub write_status : Bool → Status
 write_status true = status.Created
 write_status false = status.Ok
-
--- the refusal of a write that the machine refuses; want of memory is told otherwise
-abbrev pub write_refusal : Refused → Code
-write_refusal (refused.Shape shape) = shape
-write_refusal refused.NotSigned = code.NotSigned
-write_refusal refused.NotWriter = code.NotWriter
-write_refusal refused.NotOwn = code.NotOwn
-write_refusal refused.NoManifest = code.Absent
-write_refusal refused.NotMember = code.NotMember
-write_refusal refused.GroupFixed = code.GroupFixed
-write_refusal refused.TokenTaken = code.TokenTaken
-write_refusal (refused.Version current) = code.Version current
-write_refusal refused.Memory = absent
 
 -- the answer to a write that the machine decided
 abbrev pub write_answer : Site → Allow → Result WriteReply Refused → Reply

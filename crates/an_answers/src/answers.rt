@@ -1,4 +1,4 @@
-ghost use Rattle.std.specs.Prelude.{◌≡◌, ◌+◌, ◌≤◌, ◌<◌, ◌++◌, Ok, Err, IfOk, OnOk, codes};
+ghost use Rattle.std.specs.Prelude.{◌≡◌, ◌+◌, ◌≤◌, ◌<◌, Ok, Err, IfOk, OnOk};
 ghost use Rattle.std.specs.Prelude.{string_bytes};
 ghost use Rattle.an_stream.specs.Stream.{changes_of};
 ghost use Rattle.an_policy.specs.Audience.{identity};
@@ -7,7 +7,7 @@ ghost use Rattle.an_http.specs.Errors.{refusal_reply};
 ghost use Rattle.an_answers.specs.Answer.{page_refusal, search_refusal, complete_refusal};
 ghost use Rattle.an_answers.specs.Answer.{stream_refusal, with_iris, shown, shown_of, shown_reply};
 ghost use Rattle.an_answers.specs.Answer.{answer_of, query_answer, object_iri, bool_text};
-ghost use Rattle.an_answers.specs.Answer.{write_text, write_body, write_status, write_refusal};
+ghost use Rattle.an_answers.specs.Answer.{write_text, write_body, write_status};
 ghost use Rattle.an_answers.specs.Answer.{write_answer};
 ghost use Rattle.an_answers.specs.Cost.{cost_of, shown_cost};
 
@@ -15,12 +15,12 @@ use an_base::{Bytes, Name, Prefer, Steps};
 use an_code::Code;
 use an_complete::{Ask, CompleteError, complete};
 use an_http::{Allow, Extra, Media, Reply, Status, refusal_reply};
-use an_machine::{Refused, WriteReply};
-use an_manifest::manifest_iri;
+use an_iri::{manifest_iri, note_iri, reader_iri};
+use an_machine::{Refused, WriteReply, write_refusal};
 use an_pages::{PageError, annotation, canvas_page, container, container_page, manifest_answer};
 use an_policy::{Caller, Who};
 use an_routes::Read;
-use an_search::{AskError, Query, Settings, note_iri, search};
+use an_search::{AskError, Query, Settings, search};
 use an_state::{Look, Object};
 use an_stream::{StreamError, changes, changes_page};
 use std::alloc::{AllocError, Global};
@@ -340,29 +340,5 @@ fn object_iri(alloc: Global, base: &str, object: &Object) -> Result<String, Allo
         Object::Reader(name) => reader_iri(alloc, base, name.as_str()),
         Object::Manifest(name) => manifest_iri(alloc, base, name.as_str()),
         Object::Note { owner, name } => note_iri(alloc, base, owner, name),
-    }
-}
-
-fn reader_iri(alloc: Global, base: &str, name: &str) -> Result<String, AllocError>
-    ensures { IfOk result (λ iri. string_bytes iri ≡ base.now ++ (codes "/readers/" ++ name.now)) }
-{
-    format!(in alloc; "{base}/readers/{name}")
-}
-
-/// Why the machine refuses a write.
-pub fn write_refusal(refused: Refused) -> Code
-    ensures refusal { result ≡ write_refusal refused }
-{
-    match refused {
-        Refused::Shape(code) => code,
-        Refused::NotSigned => Code::NotSigned,
-        Refused::NotWriter => Code::NotWriter,
-        Refused::NotOwn => Code::NotOwn,
-        Refused::NoManifest => Code::Absent,
-        Refused::NotMember => Code::NotMember,
-        Refused::GroupFixed => Code::GroupFixed,
-        Refused::TokenTaken => Code::TokenTaken,
-        Refused::Version { current } => Code::Version { current },
-        Refused::Memory => Code::Absent,
     }
 }

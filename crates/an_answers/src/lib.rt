@@ -2,7 +2,7 @@
 #![tactic(auto)]
 
 pub use an_http::refusal_reply;
-pub use answers::{answer, query_answer, write_answer, write_refusal};
+pub use answers::{answer, query_answer, write_answer};
 pub use uncounted::answer_uncounted;
 
 mod answers;

@@ -7,6 +7,7 @@ use Rattle.serde_json.specs.Data.{no_members}
 use Rattle.serde_json.specs.View.{items_of}
 use Rattle.serde_json.specs.Written.{compact_text}
 use Rattle.an_base.specs.Object.{with_member_if}
+use Rattle.an_iri.specs.Iris.{complete_iri}
 use Rattle.an_terms.specs.Terms.{term_of}
 use Rattle.an_state.specs.State.{NoteState}
 use Rattle.an_state.specs.Terms.{totals_in}
@@ -73,8 +74,7 @@ ask_form ask =
 
 -- the page's IRI: BASE/autocomplete/MANIFEST?PARAMETERS
 abbrev pub ask_iri : List ℕ → List ℕ → AskRecord → List ℕ
-ask_iri base manifest ask =
-    base ++ (codes "/autocomplete/" ++ (manifest ++ (codes "?" ++ ask_form ask)))
+ask_iri base manifest ask = complete_iri base manifest ++ (codes "?" ++ ask_form ask)
 
 -- the answer, as text
 abbrev pub complete_of : Site → View → List ℕ → AskRecord → Result (List ℕ) CompleteError

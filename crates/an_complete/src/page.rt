@@ -14,6 +14,7 @@ use an_base::{
     push_text_member,
 };
 use an_code::Parameter;
+use an_iri::complete_iri;
 use an_search::{SEARCH_CONTEXT, append_filters, append_given, push_ignored};
 use form_urlencoded::Serializer;
 use std::alloc::{AllocError, Global};
@@ -27,9 +28,9 @@ pub(crate) fn ask_iri(
 ) -> Result<String, AllocError>
     ensures iri { IfOk result (λ iri. string_bytes iri ≡ ask_iri base.now manifest.now ask.now) }
 {
+    let service = complete_iri(alloc, base, manifest.as_str())?;
     let form = ask_form(alloc, ask)?;
-    let manifest = manifest.as_str();
-    format!(in alloc; "{base}/autocomplete/{manifest}?{form}")
+    format!(in alloc; "{service}?{form}")
 }
 
 /// The parameters that were given, as a form writes them.

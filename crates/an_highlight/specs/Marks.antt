@@ -1,9 +1,10 @@
 -- The annotations that mark the words by which a search found an annotation (match annotations of
 -- the IIIF Content Search API 2.0).
-use Rattle.std.specs.Prelude.{ℕ, ◌+◌, List, [], ◌∷◌, ◌++◌, filter, take, codes, decimal}
+use Rattle.std.specs.Prelude.{ℕ, ◌+◌, List, [], ◌∷◌, filter, take, codes}
 use Rattle.std.specs.Prelude.{slice_index_or}
 use Rattle.serde_json.specs.Data.{Data, string, array, object, item, no_items, member, no_members}
 use Rattle.an_base.specs.TextSet.{has_text}
+use Rattle.an_iri.specs.Iris.{mark_iri}
 use Rattle.an_selectors.specs.Places.{quote_of_span}
 use Rattle.an_selectors.specs.declared.quote.Quote.{Quote}
 use Rattle.an_model.specs.Bodies.{texts_of, note_occurrences}
@@ -35,10 +36,6 @@ target_tree source quote =
     object (member (codes "selector") (array (item (quote_tree quote) no_items))
     (member (codes "source") (string source)
     (member (codes "type") (string (codes "SpecificResource")) no_members)))
-
--- the IRI of the mark of this number on a page
-abbrev pub mark_iri : List ℕ → ℕ → List ℕ
-mark_iri page number = page ++ (codes "#match-" ++ decimal number)
 
 -- the annotation that marks a word of these texts
 abbrev pub mark_tree : List (List ℕ) → List ℕ → List ℕ → ℕ → NoteOccurrence → Data

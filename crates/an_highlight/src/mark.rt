@@ -1,9 +1,10 @@
-ghost use Rattle.std.specs.Prelude.{◌≡◌, IfOk, string_bytes};
+ghost use Rattle.std.specs.Prelude.{◌≡◌, IfOk};
 ghost use Rattle.serde_json.specs.View.{view};
-ghost use Rattle.an_highlight.specs.Marks.{quoted, mark_iri, quote_tree, target_tree, mark_tree};
+ghost use Rattle.an_highlight.specs.Marks.{quoted, quote_tree, target_tree, mark_tree};
 ghost use Rattle.an_highlight.specs.Placed.{IsPlacedIn};
 
 use an_base::Text;
+use an_iri::mark_iri;
 use an_model::NoteOccurrence;
 use an_selectors::{Quote, quote_at};
 use serde_json::{Value, json};
@@ -34,12 +35,6 @@ pub(crate) fn mark(
         "target": target,
         "type": "Annotation"
     })
-}
-
-fn mark_iri(alloc: Global, page: &str, number: usize) -> Result<String, AllocError>
-    ensures { IfOk result (λ iri. string_bytes iri ≡ mark_iri page.now number) }
-{
-    format!(in alloc; "{page}#match-{number}")
 }
 
 /// The word in the annotation.

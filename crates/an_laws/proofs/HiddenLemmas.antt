@@ -9,7 +9,7 @@ use Rattle.an_keyed.specs.Rows.{row_of, put_row}
 use Rattle.an_keyed.proofs.PutLemmas.{put_at-position, row_of-find, row_of-put_row, set_or_push}
 use Rattle.an_state.specs.State.{keys_are_distinct}
 use Rattle.an_laws.proofs.BurialLemmas.{put_all}
-use Rattle.an_laws.proofs.FoundLemmas.{all-weaker, all-from_found, found-passes}
+use Rattle.an_keyed.proofs.FoundLemmas.{all-weaker, all-from_found, found-passes}
 
 -- ---- what passes of some of a list
 

@@ -4,7 +4,6 @@ pub mod BurialLemmas
 pub mod CallerLemmas
 pub mod CoherentLemmas
 pub mod DropLemmas
-pub mod FoundLemmas
 pub mod HiddenLemmas
 pub mod LeadLemmas
 pub mod LeftLemmas

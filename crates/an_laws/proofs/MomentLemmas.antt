@@ -9,7 +9,7 @@ use Rattle.an_machine.specs.Accepted.{later}
 use Rattle.an_state.specs.View.{last_moment}
 use Rattle.an_state.specs.declared.activity.Activity.{Activity}
 use Rattle.an_state.specs.Sound.{moments_never_fall}
-use Rattle.an_laws.proofs.FoundLemmas.{all-weaker}
+use Rattle.an_keyed.proofs.FoundLemmas.{all-weaker}
 
 -- ---- moments
 

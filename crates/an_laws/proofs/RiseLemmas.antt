@@ -24,7 +24,7 @@ use Rattle.an_state.specs.declared.entry.Row.TheVariants as kept
 use Rattle.an_machine.specs.Legal.{Write, Accepts}
 use Rattle.an_laws.proofs.BurialLemmas.{as_left, left_state, note_row-left}
 use Rattle.an_laws.proofs.DropLemmas.{with_rows-tombstone}
-use Rattle.an_laws.proofs.FoundLemmas.{passes-some}
+use Rattle.an_keyed.proofs.FoundLemmas.{passes-some}
 use Rattle.an_laws.proofs.RefusalLemmas.{asked-agrees}
 use Rattle.an_laws.proofs.StepLemmas.{accepted-is}
 

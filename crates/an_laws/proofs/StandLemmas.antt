@@ -14,7 +14,7 @@ use Rattle.an_state.specs.View.{is_on}
 use Rattle.an_state.specs.Sound.{is_live_manifest, stands_on_live}
 use Rattle.an_laws.proofs.BurialLemmas.{as_left, row_of-left}
 use Rattle.an_laws.proofs.DropLemmas.{put_found, dropped}
-use Rattle.an_laws.proofs.FoundLemmas.{all-weaker, found-passes, all-from_found}
+use Rattle.an_keyed.proofs.FoundLemmas.{all-weaker, found-passes, all-from_found}
 use Rattle.an_laws.proofs.LeadLemmas.{key_at}
 
 abbrev has_live : Option ManifestState → Bool

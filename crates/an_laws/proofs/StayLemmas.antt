@@ -10,7 +10,7 @@ use Rattle.an_state.specs.View.{audience_of_note}
 use Rattle.an_state.specs.State.{State, ManifestState, NoteState, LiveNote, manifest_key, note_key, manifest_row, note_row}
 use Rattle.an_state.specs.View.{note_audience}
 use Rattle.an_state.specs.Sound.{is_live_manifest, stands_on_live}
-use Rattle.an_laws.proofs.FoundLemmas.{found-passes, passes-some}
+use Rattle.an_keyed.proofs.FoundLemmas.{found-passes, passes-some}
 use Rattle.an_laws.proofs.LeadLemmas.{key_at, with_manifest, manifest_found, NotesStay}
 
 -- ---- the audience of an annotation goes by its manifest's group

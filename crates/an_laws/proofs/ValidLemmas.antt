@@ -29,7 +29,7 @@ use Rattle.an_state.specs.State.{State, ReaderState, ManifestState, LiveManifest
 use Rattle.an_state.specs.declared.activity.Activity.{Activity}
 use Rattle.an_state.specs.declared.entry.Row.{Row}
 use Rattle.an_state.specs.declared.entry.Row.TheVariants as kept
-use Rattle.an_laws.proofs.FoundLemmas.{found-passes}
+use Rattle.an_keyed.proofs.FoundLemmas.{found-passes}
 use Rattle.an_rows.specs.Valid.{if_any, is_iri, is_valid_reader, is_valid_reader_row, is_manifest_group, is_valid_manifest_row, is_valid_live_note, is_valid_note_row, is_valid_audience, is_valid_activity, is_valid_row}
 use Rattle.an_rows.proofs.OpenedLemmas.{AllValid}
 

@@ -20,7 +20,6 @@ use Rattle.an_slots.proofs.GatheredLemmas.{gathered-shown, has-kept, kept-shown,
 use Rattle.an_state.specs.State.{LiveNote}
 use Rattle.an_state.specs.Terms.{has_term, terms_of_row, totals_in}
 use Rattle.an_state.specs.View.{is_on}
-use Rattle.an_state.specs.View as view
 use Rattle.an_listed.specs.Filed.{as_whole, by_words}
 use Rattle.an_listed.specs.Stands.{Stands}
 use Rattle.an_listed.specs.declared.filed.Filed.{Filed}
@@ -55,8 +54,8 @@ module _ (m : List ℕ) (passes : ℕ → Bool) where
 
 -- ---- places
 
--- the places of an_state are those of the lists
-places-viewed : {A : Type 0} (p q : A → Bool) (place : ℕ) (rows : List A) → ((row : A) → p row ≡ q row) → places_from p place rows ≡ view.places_from q place rows
+-- where rows pass one test, they pass another that comes to the same
+places-viewed : {A : Type 0} (p q : A → Bool) (place : ℕ) (rows : List A) → ((row : A) → p row ≡ q row) → places_from p place rows ≡ places_from q place rows
 places-viewed p q place [] same = refl
 places-viewed p q place (row ∷ rows) same =
     ap (λ (b : Bool). cond b (place ∷ places_from p (place + 1) rows) (places_from p (place + 1) rows)) (same row)
@@ -85,7 +84,7 @@ module _ (r : Register) (rows : List Filed) (stands : Stands r rows) (m : List �
   -- the places of a term in the classes that pass
   pub words-read : (t : List ℕ) (passes : ℕ → Bool) (own read : List ℕ) → read ≡ filter passes own
       → ((c : ℕ) → has c own ≡ false → places_in r.words (slot_of m t c) ≡ [])
-      → ascending (flat_map (λ c. places_in r.words (slot_of m t c)) read) ≡ view.places_from (λ row. (is_on m row.note && passes row.class) && has_term t row.note) 0 rows
+      → ascending (flat_map (λ c. places_in r.words (slot_of m t c)) read) ≡ places_from (λ row. (is_on m row.note && passes row.class) && has_term t row.note) 0 rows
   words-read t passes own read is others =
       ap (λ (cs : List ℕ). ascending (flat_map (λ c. places_in r.words (slot_of m t c)) cs)) is
       ∙ gathered-shown by_words (places_in r.words) rows stands.words m t passes (filter passes own) (kept-pass (places_in r.words) m t passes own others) (kept-others (places_in r.words) m t passes own others)
@@ -93,14 +92,14 @@ module _ (r : Register) (rows : List Filed) (stands : Stands r rows) (m : List �
 
   -- the places of all rows in whatever class
   pub whole-all : (own : List ℕ) → ((c : ℕ) → has c own ≡ false → places_in r.whole (slot_of m [] c) ≡ [])
-      → ascending (flat_map (λ c. places_in r.whole (slot_of m [] c)) own) ≡ view.places_from (λ row. is_on m row.note) 0 rows
+      → ascending (flat_map (λ c. places_in r.whole (slot_of m [] c)) own) ≡ places_from (λ row. is_on m row.note) 0 rows
   whole-all own others =
       gathered-shown as_whole (places_in r.whole) rows stands.whole m [] (λ c. true) own (λ c there. refl) (λ c pass out. others c out)
       ∙ places-viewed (λ row. is_in m [] (λ c. true) (as_whole row)) (λ row. is_on m row.note) 0 rows (λ row. whole-in m (λ c. true) row ∙ always (is_on m row.note))
 
   module _ (passes : ℕ → Bool) (own read : List ℕ) (is : read ≡ filter passes own) (others : (c : ℕ) → has c own ≡ false → places_in r.whole (slot_of m [] c) ≡ []) where
     -- the places of all rows in the classes that pass
-    pub whole-read : ascending (flat_map (λ c. places_in r.whole (slot_of m [] c)) read) ≡ view.places_from (λ row. is_on m row.note && passes row.class) 0 rows
+    pub whole-read : ascending (flat_map (λ c. places_in r.whole (slot_of m [] c)) read) ≡ places_from (λ row. is_on m row.note && passes row.class) 0 rows
     whole-read =
         ap (λ (cs : List ℕ). ascending (flat_map (λ c. places_in r.whole (slot_of m [] c)) cs)) is
         ∙ gathered-shown as_whole (places_in r.whole) rows stands.whole m [] passes (filter passes own) (kept-pass (places_in r.whole) m [] passes own others) (kept-others (places_in r.whole) m [] passes own others)

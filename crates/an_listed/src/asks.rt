@@ -2,7 +2,8 @@ ghost use Rattle.std.specs.Prelude.{◌≡◌, ◌++◌, ◌∷◌, ◌&&◌, []
 ghost use Rattle.std.specs.Prelude.{if◌then◌else◌};
 ghost use Rattle.an_policy.specs.Audience.{identity};
 ghost use Rattle.an_state.specs.Terms.{has_term, totals_in};
-ghost use Rattle.an_state.specs.View.{is_on, places_from};
+ghost use Rattle.an_slots.specs.Places.{places_from};
+ghost use Rattle.an_state.specs.View.{is_on};
 ghost use Rattle.an_listed.specs.Filed.{reads, reads_on};
 ghost use Rattle.an_listed.specs.Stands.{Stands};
 

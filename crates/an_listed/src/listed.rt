@@ -1,7 +1,8 @@
 ghost use Rattle.std.specs.Prelude.{◌≡◌, ◌∷◌, ◌&&◌, ◌≤◌, [], IfOk, List, OnOk, filter, length, map};
 ghost use Rattle.an_policy.specs.Audience.{identity};
 ghost use Rattle.an_state.specs.Terms.{has_term, totals_in};
-ghost use Rattle.an_state.specs.View.{is_on, places_from};
+ghost use Rattle.an_slots.specs.Places.{places_from};
+ghost use Rattle.an_state.specs.View.{is_on};
 ghost use Rattle.an_listed.specs.Filed.{put_at, reads_on};
 ghost use Rattle.an_listed.specs.Room.{HasRoom};
 

@@ -4,3 +4,4 @@ pub mod Refusals
 pub mod Accepted
 pub mod Step
 pub mod Legal
+pub mod Told

@@ -1,4 +1,5 @@
 ghost use Rattle.std.specs.Prelude.{◌≡◌};
+ghost use Rattle.an_machine.specs.Told.{write_refusal};
 
 use an_code::Code;
 use an_state::{Entry, Object};
@@ -56,5 +57,23 @@ impl From<AllocError> for Refused {
 
     fn from(_error: AllocError) -> Refused {
         Refused::Memory
+    }
+}
+
+/// The code by which it is told why a write is refused. Want of memory is told otherwise.
+pub fn write_refusal(refused: Refused) -> Code
+    ensures refusal { result ≡ write_refusal refused }
+{
+    match refused {
+        Refused::Shape(code) => code,
+        Refused::NotSigned => Code::NotSigned,
+        Refused::NotWriter => Code::NotWriter,
+        Refused::NotOwn => Code::NotOwn,
+        Refused::NoManifest => Code::Absent,
+        Refused::NotMember => Code::NotMember,
+        Refused::GroupFixed => Code::GroupFixed,
+        Refused::TokenTaken => Code::TokenTaken,
+        Refused::Version { current } => Code::Version { current },
+        Refused::Memory => Code::Absent,
     }
 }

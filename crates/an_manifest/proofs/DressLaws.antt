@@ -9,7 +9,8 @@ use Rattle.an_base.specs.Items.{trees_in}
 use Rattle.an_base.specs.Object.{with_member}
 use Rattle.an_manifest.specs.Shape.{canvas_ids}
 use Rattle.an_manifest.specs.Manifest.{array_in, canvases_in, canvases_of}
-use Rattle.an_manifest.specs.Dress.{with_last, with_one_more, canvas_page, dressed_canvases, with_canvas_pages, manifest_iri, search_service, contexts, dressed, is_dressed}
+use Rattle.an_iri.specs.Iris.{manifest_iri}
+use Rattle.an_manifest.specs.Dress.{with_last, with_one_more, canvas_page, dressed_canvases, with_canvas_pages, search_service, contexts, dressed, is_dressed}
 
 pub apart : (name other : List ℕ) → bytes_eq name other ≡ false → name ≡ other → ⊥
 apart name other e same = true≢false (sym ((bytes_eq-Decides name other).1 same) ∙ e)

@@ -13,7 +13,8 @@ use Rattle.an_base.specs.Items.{many_if}
 use Rattle.an_base.specs.Object.{with_member}
 use Rattle.an_base.proofs.ObjectLemmas.{has_float-with_member}
 use Rattle.an_manifest.specs.Manifest.{array_in, canvases_in}
-use Rattle.an_manifest.specs.Dress.{with_last, with_one_more, with_canvas_pages, manifest_iri, search_service, contexts, canvas_page, dressed_canvases, dressed}
+use Rattle.an_iri.specs.Iris.{manifest_iri}
+use Rattle.an_manifest.specs.Dress.{with_last, with_one_more, with_canvas_pages, search_service, contexts, canvas_page, dressed_canvases, dressed}
 
 -- an item that is pushed is the last
 pub items_view-push : (values : List Value) (value : Value) → items_view (values ++ value ∷ []) ≡ with_last (view value) (items_view values)

@@ -10,7 +10,8 @@ use Rattle.an_base.specs.Items.{many_if, trees_in}
 use Rattle.an_base.specs.Tree.{ascend, names}
 use Rattle.an_base.specs.Write.{member_text, commas}
 use Rattle.an_manifest.specs.Cuts.{beyond, heading_text, ending_text}
-use Rattle.an_manifest.specs.Dress.{with_last, manifest_iri, search_service, dressed_canvases, contexts, dressed}
+use Rattle.an_iri.specs.Iris.{manifest_iri}
+use Rattle.an_manifest.specs.Dress.{with_last, search_service, dressed_canvases, contexts, dressed}
 use Rattle.an_manifest.specs.Manifest.{canvases_in}
 use Rattle.an_manifest.proofs.DressLaws.{apart}
 use Rattle.an_manifest.proofs.SplitLemmas.{joined, commas-joined, put-split, are_before-below, are_before-trans, is_below-beyond, put-past, put-front, is_below-put, ascend-below, ascend-beyond}

@@ -9,7 +9,8 @@ use Rattle.an_base.specs.Items.{many_if, trees_in}
 use Rattle.an_base.specs.Tree.{is_tree}
 use Rattle.an_base.specs.Write.{item_text, item_commas, member_text, commas}
 use Rattle.an_manifest.specs.Cuts.{led, piece, cuts_at, sheet_cuts, IsCutAt, heading_text, ending_text}
-use Rattle.an_manifest.specs.Dress.{with_last, manifest_iri, search_service, dressed_canvases, contexts, dressed}
+use Rattle.an_iri.specs.Iris.{manifest_iri}
+use Rattle.an_manifest.specs.Dress.{with_last, search_service, dressed_canvases, contexts, dressed}
 use Rattle.an_manifest.specs.Manifest.{canvases_in, is_kept}
 use Rattle.an_manifest.proofs.CutLemmas.{holds}
 use Rattle.an_manifest.proofs.ReadyLemmas.{IsSheet, is_sheet}

@@ -2,12 +2,13 @@
 -- annotations on it (IIIF Content
 -- Search API 2.0, section 3.1) and, in each canvas, the page of the annotations on it (IIIF
 -- Presentation API 3.0, section 5.3).
-use Rattle.std.specs.Prelude.{ℕ, ◌+◌, List, [], ◌∷◌, ◌++◌, Bool, bytes_eq, codes, decimal}
+use Rattle.std.specs.Prelude.{ℕ, ◌+◌, List, [], ◌∷◌, Bool, bytes_eq, codes}
 use Rattle.std.specs.List.{list_any}
 use Rattle.serde_json.specs.Data.{Data, string, array, object, Items, no_items, item, member}
 use Rattle.serde_json.specs.Data.{no_members}
 use Rattle.an_base.specs.Items.{trees_in}
 use Rattle.an_base.specs.Object.{with_member}
+use Rattle.an_iri.specs.Iris.{canvas_page_iri, complete_iri, manifest_iri, search_iri}
 use Rattle.an_manifest.specs.Manifest.{canvases_in}
 
 -- the items, and one behind them
@@ -18,23 +19,6 @@ with_last value (item first items) = item first (with_last value items)
 -- the object with one value more behind those of its member
 abbrev pub with_one_more : List ℕ → Data → Data → Data
 with_one_more name value tree = with_member name (array (with_last value (trees_in name tree))) tree
-
--- the IRI of a manifest
-abbrev pub manifest_iri : List ℕ → List ℕ → List ℕ
-manifest_iri base name = base ++ (codes "/manifests/" ++ name)
-
--- the IRIs of the services that complete words and search, and of the first page of the annotations
--- on the canvas of a number
-abbrev pub complete_iri : List ℕ → List ℕ → List ℕ
-complete_iri base name = base ++ (codes "/autocomplete/" ++ name)
-
-abbrev pub search_iri : List ℕ → List ℕ → List ℕ
-search_iri base name = base ++ (codes "/search/" ++ name)
-
-abbrev pub canvas_page_iri : List ℕ → List ℕ → ℕ → List ℕ
-canvas_page_iri base name number =
-    base ++ (codes "/manifests/" ++ (name ++ (codes "/canvases/" ++ (decimal number
-    ++ codes "?page=1"))))
 
 -- the service that completes words
 abbrev pub complete_service : List ℕ → List ℕ → Data

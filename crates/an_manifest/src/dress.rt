@@ -6,14 +6,15 @@ ghost use Rattle.an_base.specs.Items.{many_if};
 ghost use Rattle.an_base.specs.Object.{with_member};
 ghost use Rattle.an_base.specs.Tree.{one_or_many};
 ghost use Rattle.an_manifest.specs.Manifest.{array_in};
-ghost use Rattle.an_manifest.specs.Dress.{with_last, with_one_more, manifest_iri, complete_iri};
-ghost use Rattle.an_manifest.specs.Dress.{search_iri, canvas_page_iri, complete_service};
+ghost use Rattle.an_iri.specs.Iris.{manifest_iri};
+ghost use Rattle.an_manifest.specs.Dress.{with_last, with_one_more, complete_service};
 ghost use Rattle.an_manifest.specs.Dress.{search_service, canvas_page, dressed_canvases};
 ghost use Rattle.an_manifest.specs.Dress.{with_canvas_pages, contexts, dressed};
 
 use crate::sheet::Sheet;
 use crate::take::take_member;
 use an_base::{Name, with_member};
+use an_iri::{canvas_page_iri, complete_iri, manifest_iri, search_iri};
 use serde_json::{Value, json};
 use std::alloc::{AllocError, Global};
 
@@ -65,13 +66,6 @@ fn contexts(alloc: Global) -> Result<Value, AllocError>
     ])
 }
 
-/// The IRI at which a manifest is served.
-pub fn manifest_iri(alloc: Global, base: &str, name: &str) -> Result<String, AllocError>
-    ensures iri { IfOk result (λ iri. string_bytes iri ≡ manifest_iri base.now name.now) }
-{
-    format!(in alloc; "{base}/manifests/{name}")
-}
-
 /// The service that searches the annotations on the manifest.
 pub(crate) fn search_service(alloc: Global, base: &str, name: &str) -> Result<Value, AllocError>
     ensures { IfOk result (λ v. view v ≡ search_service base.now name.now) }
@@ -87,18 +81,6 @@ fn complete_service(alloc: Global, base: &str, name: &str) -> Result<Value, Allo
 {
     let id = complete_iri(alloc, base, name)?;
     json!(in alloc; {"id": id, "type": "AutoCompleteService2"})
-}
-
-fn search_iri(alloc: Global, base: &str, name: &str) -> Result<String, AllocError>
-    ensures { IfOk result (λ iri. string_bytes iri ≡ search_iri base.now name.now) }
-{
-    format!(in alloc; "{base}/search/{name}")
-}
-
-fn complete_iri(alloc: Global, base: &str, name: &str) -> Result<String, AllocError>
-    ensures { IfOk result (λ iri. string_bytes iri ≡ complete_iri base.now name.now) }
-{
-    format!(in alloc; "{base}/autocomplete/{name}")
 }
 
 /// The manifest's tree with a page of annotations in each canvas.
@@ -163,17 +145,6 @@ fn canvas_page(alloc: Global, base: &str, name: &str, number: usize) -> Result<V
 {
     let id = canvas_page_iri(alloc, base, name, number)?;
     json!(in alloc; {"id": id, "type": "AnnotationPage"})
-}
-
-pub(crate) fn canvas_page_iri(
-    alloc: Global,
-    base: &str,
-    name: &str,
-    number: usize,
-) -> Result<String, AllocError>
-    ensures { IfOk result (λ iri. string_bytes iri ≡ canvas_page_iri base.now name.now number) }
-{
-    format!(in alloc; "{base}/manifests/{name}/canvases/{number}?page=1")
 }
 
 /// The object with one value more behind those of its member, which may be absent, one or many.

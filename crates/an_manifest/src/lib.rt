@@ -2,7 +2,7 @@
 //! served.
 #![tactic(auto)]
 
-pub use dress::{dress_manifest, manifest_iri};
+pub use dress::dress_manifest;
 pub use kept::KeptSheet;
 pub use laws::{canvas_ids_stay, other_members_stay};
 pub use served::push_manifest;

@@ -7,14 +7,16 @@ ghost use Rattle.an_base.specs.Items.{trees_in};
 ghost use Rattle.an_base.specs.Tree.{ascend, names};
 ghost use Rattle.an_base.specs.Write.{member_text, item_commas};
 ghost use Rattle.an_manifest.specs.Cuts.{piece, IsCutAt, heading_text, ending_text};
-ghost use Rattle.an_manifest.specs.Dress.{with_last, with_one_more, manifest_iri, search_service};
+ghost use Rattle.an_iri.specs.Iris.{manifest_iri};
+ghost use Rattle.an_manifest.specs.Dress.{with_last, with_one_more, search_service};
 ghost use Rattle.an_manifest.specs.Dress.{canvas_page, dressed_canvases, contexts, dressed};
 ghost use Rattle.an_manifest.specs.Manifest.{canvases_in};
 
 use crate::cut::Cut;
-use crate::dress::{canvas_page_iri, manifest_iri, search_service};
+use crate::dress::search_service;
 use crate::kept::KeptSheet;
 use an_base::{Name, close_items, close_members, push_array_member, push_name, push_text_member};
+use an_iri::{canvas_page_iri, manifest_iri};
 use std::alloc::{AllocError, Global};
 
 /// The contexts of a served manifest, each behind a comma.

@@ -9,7 +9,8 @@ use Rattle.an_base.specs.Object.{with_member, with_member_if}
 use Rattle.an_base.specs.Write.{member_text, commas, item_commas}
 use Rattle.an_policy.specs.Audience.{Identity}
 use Rattle.an_state.specs.State.{State, NoteState}
-use Rattle.an_state.specs.View.{view_of, is_on, shows_note, places_from, readable_places}
+use Rattle.an_state.specs.Places.{places_from}
+use Rattle.an_state.specs.View.{view_of, is_on, shows_note, readable_places}
 use Rattle.an_base.specs.declared.span.Prefer.{Prefer}
 use Rattle.an_search.proofs.FoundLemmas.{stand-found}
 use Rattle.an_search.proofs.ViewLemmas.{filter_both}

@@ -8,6 +8,7 @@ use Rattle.serde_json.specs.Data.{Data, no_items}
 use Rattle.serde_json.specs.View.{items_of}
 use Rattle.serde_json.specs.Written.{compact_text}
 use Rattle.an_base.specs.Outcome.{or_refuse, passes}
+use Rattle.an_iri.specs.Iris.{canvas_iri}
 use Rattle.an_selectors.specs.declared.region.Xywh.{Xywh}
 use Rattle.an_model.specs.Targets.{targets_of}
 use Rattle.an_model.specs.declared.kept.KeptTarget.{KeptTarget}
@@ -88,7 +89,7 @@ region_form (Some region) =
 -- all annotations on the canvas, or on the region
 abbrev pub canvas_whole : List ℕ → List ℕ → ℕ → Option Xywh → Whole
 canvas_whole base name canvas region = record {
-  path = base ++ (codes "/manifests/" ++ (name ++ (codes "/canvases/" ++ decimal canvas)));
+  path = canvas_iri base name canvas;
   parameters = region_form region;
 }
 

@@ -1,6 +1,6 @@
 -- The container of the annotations on a manifest, and its pages (Web Annotation Protocol, section
 -- 4; Web Annotation Data Model, section 5).
-use Rattle.std.specs.Prelude.{ℕ, List, [], ◌++◌, length, map, filter, codes, Bool}
+use Rattle.std.specs.Prelude.{ℕ, List, [], length, map, filter, codes, Bool}
 use Rattle.std.specs.Prelude.{if◌then◌else◌, is_some, Result, Ok, Err}
 use Rattle.std.specs.List.{filter_map}
 use Rattle.serde_json.specs.Data.{Data, number, unsigned, string, array, object, Items, no_items}
@@ -9,9 +9,10 @@ use Rattle.serde_json.specs.View.{items_of}
 use Rattle.serde_json.specs.Written.{compact_text}
 use Rattle.an_base.specs.Object.{with_member, with_member_if}
 use Rattle.an_base.specs.declared.span.Prefer.{Prefer}
+use Rattle.an_iri.specs.Iris.{container_iri, note_iri}
 use Rattle.an_state.specs.State.{NoteState}
 use Rattle.an_state.specs.View.{View, is_on, manifest_in}
-use Rattle.an_search.specs.Listed.{listed_note, note_iri}
+use Rattle.an_search.specs.Listed.{listed_note}
 use Rattle.an_search.specs.Page.{page_count, page_iri, page_of, start_of, lacks_page}
 use Rattle.an_search.specs.Page.{link_after, link_before}
 use Rattle.an_search.specs.Site.{Site}
@@ -22,10 +23,6 @@ use Rattle.an_pages.specs.declared.error.PageError.{PageError}
 use Rattle.an_pages.specs.declared.error.PageError.TheVariants.{Absent, NoPage}
 
 -- ---- the list that is served in pages
-
--- the container's IRI
-abbrev pub container_iri : List ℕ → List ℕ → List ℕ
-container_iri base name = base ++ (codes "/manifests/" ++ (name ++ codes "/annotations/"))
 
 -- its pages have whole annotations, or their IRIs alone, and say so in their own IRIs
 abbrev pub iris_form : Bool → List ℕ

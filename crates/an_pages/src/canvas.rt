@@ -1,4 +1,4 @@
-ghost use Rattle.std.specs.Prelude.{◌≡◌, ◌+◌, ◌≤◌, List, [], ◌++◌, codes, decimal, length};
+ghost use Rattle.std.specs.Prelude.{◌≡◌, ◌+◌, ◌≤◌, List, [], length};
 ghost use Rattle.std.specs.Prelude.{string_bytes, IfOk, OnOk, Some, option_map};
 ghost use Rattle.std.specs.List.{filter_map};
 ghost use Rattle.serde_json.specs.Data.{no_items};
@@ -21,6 +21,7 @@ ghost use Rattle.an_pages.specs.Cost.{about_cost, canvas_page_cost};
 use crate::about::places_about;
 use crate::error::PageError;
 use an_base::{Bytes, Name, Steps, Text};
+use an_iri::canvas_iri;
 use an_manifest::KeptSheet;
 use an_policy::Who;
 use an_search::{Paging, Settings, Whole, list_items, page_of, page_text};
@@ -212,19 +213,12 @@ fn canvas_whole(
 ) -> Result<Whole, AllocError>
     ensures { IfOk result (λ whole. whole ≡ canvas_whole base.now name.now canvas region) }
 {
-    let path = canvas_path(alloc, base, name.as_str(), canvas)?;
+    let path = canvas_iri(alloc, base, name.as_str(), canvas)?;
     let parameters = region_form(alloc, region)?;
     Ok(Whole {
         path: Text::from_string(path),
         parameters: Text::from_string(parameters),
     })
-}
-
-fn canvas_path(alloc: Global, base: &str, name: &str, canvas: u32) -> Result<String, AllocError>
-    ensures { IfOk result (λ path. string_bytes path ≡ base.now
-        ++ (codes "/manifests/" ++ (name.now ++ (codes "/canvases/" ++ decimal canvas)))) }
-{
-    format!(in alloc; "{base}/manifests/{name}/canvases/{canvas}")
 }
 
 /// The region as a form.

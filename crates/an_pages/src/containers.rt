@@ -1,4 +1,4 @@
-ghost use Rattle.std.specs.Prelude.{◌≡◌, ◌+◌, ◌≤◌, List, length, string_bytes, IfOk, OnOk};
+ghost use Rattle.std.specs.Prelude.{◌≡◌, ◌+◌, ◌≤◌, List, length, IfOk, OnOk};
 ghost use Rattle.std.specs.Prelude.{if◌then◌else◌};
 ghost use Rattle.serde_json.specs.Data.{string};
 ghost use Rattle.serde_json.specs.Written.{compact_text};
@@ -9,7 +9,7 @@ ghost use Rattle.an_state.specs.View.{view_of};
 ghost use Rattle.an_search.specs.Cost.{Takes, page_cost};
 ghost use Rattle.an_search.specs.Found.{StandAt};
 ghost use Rattle.an_search.specs.Page.{page_iri, page_of};
-ghost use Rattle.an_pages.specs.Container.{container_body, container_iri, container_of};
+ghost use Rattle.an_pages.specs.Container.{container_body, container_of};
 ghost use Rattle.an_pages.specs.Container.{container_page_of, container_whole, first_page};
 ghost use Rattle.an_pages.specs.Container.{iris_form, items_on, notes_on, own_page, own_text};
 ghost use Rattle.an_pages.specs.Cost.{container_cost, container_page_cost, first_cost};
@@ -18,6 +18,7 @@ use crate::error::PageError;
 use crate::items::items_at;
 use crate::written::{container_text, held_text, own_text};
 use an_base::{Bytes, Name, Prefer, Steps, Text, push_text};
+use an_iri::container_iri;
 use an_policy::Who;
 use an_search::{Paging, Settings, Whole, page_iri, page_of};
 use an_state::{Look, shown_manifest};
@@ -302,12 +303,6 @@ fn container_whole(alloc: Global, base: &str, name: &Name, iris: bool) -> Result
         path: Text::from_string(path),
         parameters,
     })
-}
-
-fn container_iri(alloc: Global, base: &str, name: &str) -> Result<String, AllocError>
-    ensures { IfOk result (λ iri. string_bytes iri ≡ container_iri base.now name.now) }
-{
-    format!(in alloc; "{base}/manifests/{name}/annotations/")
 }
 
 fn iris_form(iris: bool) -> &'static str

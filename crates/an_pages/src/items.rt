@@ -8,8 +8,9 @@ ghost use Rattle.an_search.specs.Found.{StandAt};
 ghost use Rattle.an_pages.specs.Container.{iri_item, items_on};
 
 use an_base::Steps;
+use an_iri::note_iri;
 use an_keyed::Keyed;
-use an_search::{Listed, list_items, note_iri, push_text_item};
+use an_search::{Listed, list_items, push_text_item};
 use an_state::{Look, NoteRow};
 use std::alloc::{AllocError, Global};
 use std::sync::ledger::Ledger;

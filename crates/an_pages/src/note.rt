@@ -8,10 +8,11 @@ ghost use Rattle.an_pages.specs.Bodies.{shown_live, note_body, missing_note, ann
 
 use crate::error::PageError;
 use an_base::{Bytes, Name};
+use an_iri::note_iri;
 use an_keyed::Keyed;
 use an_model::push_shown;
 use an_policy::{Kind, Who};
-use an_search::{Settings, note_iri};
+use an_search::Settings;
 use an_state::{LiveNote, Look, NoteRow, shown_note};
 use std::alloc::{AllocError, Global};
 

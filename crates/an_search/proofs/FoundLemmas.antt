@@ -17,7 +17,8 @@ use Rattle.an_state.specs.State.{NoteState, LiveNote}
 use Rattle.an_model.specs.Bodies.{note_occurrences}
 use Rattle.an_model.specs.declared.occurrence.NoteOccurrence.{NoteOccurrence}
 use Rattle.an_search.specs.Found.{HasListed, StandAt, is_wanted_at}
-use Rattle.an_search.specs.Listed.{listed_note, note_iri}
+use Rattle.an_iri.specs.Iris.{note_iri}
+use Rattle.an_search.specs.Listed.{listed_note}
 use Rattle.an_search.specs.Page.{list_page, page_count, lacks_page, page_iri, page_of, start_of}
 use Rattle.an_search.specs.Query.{QueryRecord}
 use Rattle.an_search.specs.Search.{found_text, marks_of, row_marks, search_context, whole_of}

@@ -9,7 +9,8 @@ use Rattle.an_model.specs.Bodies.{note_terms}
 use Rattle.an_policy.specs.Audience.{Identity}
 use Rattle.an_state.specs.State.{State, NoteState, LiveNote}
 use Rattle.an_state.specs.Terms.{has_term}
-use Rattle.an_state.specs.View.{view_of, is_on, shows_note, places_from, readable_places}
+use Rattle.an_state.specs.Places.{places_from}
+use Rattle.an_state.specs.View.{view_of, is_on, shows_note, readable_places}
 use Rattle.an_search.specs.Cost.{Takes, candidates, page_cost}
 use Rattle.an_search.specs.Found.{candidate_places, is_suited_at, is_wanted_at, suits, with_terms}
 use Rattle.an_search.specs.Page.{lacks_page, page_count, page_of, start_of}

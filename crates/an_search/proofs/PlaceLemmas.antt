@@ -9,7 +9,7 @@ use Rattle.std.specs.Ordering.{nat_cmp}
 use Rattle.std.specs.Prelude.{filter, slice_get, is_ok}
 use Rattle.an_search.specs.Found.{is_among, Rise}
 use Rattle.an_base.specs.Outcome.{passes}
-use Rattle.an_state.specs.View.{places_from}
+use Rattle.an_state.specs.Places.{places_from}
 
 pub slice_get-append : {A : Type 0} (before : List A) (row : A) (rows : List A) → slice_get (before ++ row ∷ rows) (length before) ≡ Some row
 slice_get-append [] row rows = refl

@@ -4,7 +4,8 @@ use Rattle.std.specs.Prelude.{filter, slice_get}
 use Rattle.std.specs.List.{filter_map}
 use Rattle.an_policy.specs.Audience.{Identity}
 use Rattle.an_state.specs.State.{State}
-use Rattle.an_state.specs.View.{view_of, is_on, shows_note, places_from, readable_places}
+use Rattle.an_state.specs.Places.{places_from}
+use Rattle.an_state.specs.View.{view_of, is_on, shows_note, readable_places}
 use Rattle.an_search.specs.Found.{StandAt, is_wanted_at}
 use Rattle.an_search.specs.Search.{hits}
 use Rattle.an_search.specs.Wanted.{matches}

@@ -1,12 +1,9 @@
 -- An annotation as lists give it.
-use Rattle.std.specs.Prelude.{ℕ, List, ◌++◌, codes, Option, option_map}
+use Rattle.std.specs.Prelude.{ℕ, List, Option, option_map}
 use Rattle.serde_json.specs.Data.{Data}
+use Rattle.an_iri.specs.Iris.{note_iri}
 use Rattle.an_model.specs.Dress.{dressed}
 use Rattle.an_state.specs.State.{NoteState, LiveNote}
-
--- the IRI of an annotation
-abbrev pub note_iri : List ℕ → List ℕ → List ℕ → List ℕ
-note_iri base owner name = base ++ (codes "/annotations/" ++ (owner ++ (codes "/" ++ name)))
 
 -- the tree that is kept, as it is served
 abbrev pub listed_live : List ℕ → NoteState → LiveNote → Data

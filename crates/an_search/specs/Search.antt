@@ -11,7 +11,8 @@ use Rattle.an_state.specs.State.{NoteState}
 use Rattle.an_state.specs.View.{View, is_on, manifest_in}
 use Rattle.an_search.specs.Filters.{filter_parameters}
 use Rattle.an_search.specs.Form.{form_of}
-use Rattle.an_search.specs.Listed.{listed_note, note_iri}
+use Rattle.an_iri.specs.Iris.{note_iri, search_iri}
+use Rattle.an_search.specs.Listed.{listed_note}
 use Rattle.an_search.specs.Page.{list_page, page_count, lacks_page, page_iri, page_of}
 use Rattle.an_search.specs.Query.{QueryRecord}
 use Rattle.an_search.specs.Site.{Site}
@@ -57,7 +58,7 @@ search_context = codes "http://iiif.io/api/search/2/context.json"
 -- all that a search finds
 abbrev pub whole_of : List ℕ → List ℕ → QueryRecord → Whole
 whole_of base manifest query = record {
-  path = base ++ (codes "/search/" ++ manifest);
+  path = search_iri base manifest;
   parameters = query_form query;
 }
 

@@ -3,15 +3,16 @@ ghost use Rattle.std.specs.Prelude.{length, map, vec_len, IfOk, OnOk, All, false
 ghost use Rattle.serde_json.specs.View.{items_of, view};
 ghost use Rattle.serde_json.specs.Written.{has_float};
 ghost use Rattle.an_base.specs.Write.{item_commas};
+ghost use Rattle.an_iri.specs.Iris.{note_iri};
 ghost use Rattle.an_state.specs.State.{NoteState};
 ghost use Rattle.an_highlight.specs.Marks.{highlights_of};
 ghost use Rattle.an_search.specs.Found.{HasListed, StandAt};
-ghost use Rattle.an_search.specs.Listed.{note_iri};
 ghost use Rattle.an_search.specs.Search.{row_marks};
 
-use crate::listed::{note_iri, push_listed};
+use crate::listed::push_listed;
 use an_base::{Steps, Text, push_comma, push_value};
 use an_highlight::highlight;
+use an_iri::note_iri;
 use an_keyed::Keyed;
 use an_state::{LiveNote, Look, NoteRow};
 use serde_json::Value;

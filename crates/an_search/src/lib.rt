@@ -6,7 +6,6 @@ pub use filters::{Filters, append_filters, filters_in};
 pub use form::append_given;
 pub use given::{is_bad_number, number_in, others_in, twice_in, value_in};
 pub use items::{Listed, Marks, list_items};
-pub use listed::note_iri;
 pub use page::{
     PageForm, Paging, Whole, page_iri, page_text, push_ignored, push_link_member, push_next,
     push_prev, push_text_item, push_thing_member,

@@ -1,12 +1,13 @@
-ghost use Rattle.std.specs.Prelude.{◌≡◌, ◌∷◌, ◌++◌, [], IfOk, string_bytes};
+ghost use Rattle.std.specs.Prelude.{◌≡◌, ◌∷◌, ◌++◌, [], IfOk};
 ghost use Rattle.std.specs.List.{filter_map};
 ghost use Rattle.serde_json.specs.View.{items_of};
 ghost use Rattle.serde_json.specs.Written.{compact_text};
 ghost use Rattle.an_base.specs.Write.{item_commas};
 ghost use Rattle.an_state.specs.Live.{lent_note};
-ghost use Rattle.an_search.specs.Listed.{note_iri, listed_live, listed_note};
+ghost use Rattle.an_search.specs.Listed.{listed_live, listed_note};
 
-use an_base::{Name, push_comma};
+use an_base::push_comma;
+use an_iri::note_iri;
 use an_keyed::Keyed;
 use an_model::push_dressed;
 use an_state::{LiveNote, NoteRow};
@@ -54,13 +55,4 @@ fn push_live(
         live.modified,
     )?;
     Ok(out)
-}
-
-/// The IRI of an annotation.
-pub fn note_iri(alloc: Global, base: &str, owner: &Name, name: &Name) -> Result<String, AllocError>
-    ensures iri { IfOk result (λ iri. string_bytes iri ≡ note_iri base.now owner.now name.now) }
-{
-    let owner = owner.as_str();
-    let name = name.as_str();
-    format!(in alloc; "{base}/annotations/{owner}/{name}")
 }

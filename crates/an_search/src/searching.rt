@@ -1,4 +1,4 @@
-ghost use Rattle.std.specs.Prelude.{◌≡◌, ◌+◌, ◌≤◌, List, ◌++◌, codes, length, string_bytes};
+ghost use Rattle.std.specs.Prelude.{◌≡◌, ◌+◌, ◌≤◌, List, length, string_bytes};
 ghost use Rattle.std.specs.Prelude.{IfOk, OnOk};
 ghost use Rattle.std.specs.List.{filter_map};
 ghost use Rattle.serde_json.specs.View.{items_of};
@@ -26,6 +26,7 @@ use crate::settings::Settings;
 use crate::wanted::wanted_of;
 use an_base::{Bytes, Name, Steps, Text};
 use an_code::Parameter;
+use an_iri::search_iri;
 use an_policy::Who;
 use an_state::{Look, shown_manifest};
 use form_urlencoded::Serializer;
@@ -223,19 +224,12 @@ pub fn page_of<T>(listed: &[T], paging: Paging) -> &[T]
 fn whole_of(alloc: Global, base: &str, manifest: &Name, query: &Query) -> Result<Whole, AllocError>
     ensures { IfOk result (λ whole. whole ≡ whole_of base.now manifest.now query.now) }
 {
-    let path = search_path(alloc, base, manifest.as_str())?;
+    let path = search_iri(alloc, base, manifest.as_str())?;
     let parameters = query_form(alloc, query)?;
     Ok(Whole {
         path: Text::from_string(path),
         parameters: Text::from_string(parameters),
     })
-}
-
-fn search_path(alloc: Global, base: &str, manifest: &str) -> Result<String, AllocError>
-    ensures { IfOk result (λ path. string_bytes path
-        ≡ base.now ++ (codes "/search/" ++ manifest.now)) }
-{
-    format!(in alloc; "{base}/search/{manifest}")
 }
 
 /// The parameters of a query that choose what is found, as a form.

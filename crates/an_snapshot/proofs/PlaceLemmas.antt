@@ -4,7 +4,8 @@ use Rattle.std.specs.Prelude.{filter}
 use Rattle.std.specs.List.{list_all}
 use Rattle.std.proofs.lemmas.Bool.{cases_Bool}
 use Rattle.an_state.specs.State.{State, NoteState}
-use Rattle.an_state.specs.View.{is_on, places_from}
+use Rattle.an_state.specs.Places.{places_from}
+use Rattle.an_state.specs.View.{is_on}
 use Rattle.an_listed.specs.declared.filed.Filed.{Filed}
 use Rattle.an_snapshot.specs.Over.{has_note, has_place}
 

@@ -12,7 +12,8 @@ use Rattle.an_policy.specs.declared.group.Audience.{Audience}
 use Rattle.an_state.specs.Sound.{stands_on_live, is_live_manifest}
 use Rattle.an_state.specs.State.{State, ManifestState, NoteState, LiveNote, manifest_row}
 use Rattle.an_state.specs.Terms.{has_term, totals_in, terms_with_prefix, places_with_term}
-use Rattle.an_state.specs.View.{is_on, note_audience, places_from, readable_places, shows_note}
+use Rattle.an_state.specs.Places.{places_from}
+use Rattle.an_state.specs.View.{is_on, note_audience, readable_places, shows_note}
 use Rattle.an_policy.specs.Classes.{class_of, same_audience}
 use Rattle.an_listed.specs.Filed.{reads, reads_on}
 use Rattle.an_listed.specs.declared.filed.Filed.{Filed}

@@ -19,7 +19,7 @@ use Rattle.an_snapshot.specs.Over.{latest, manifest_over, is_based, has_note, is
 use Rattle.an_snapshot.proofs.OverLemmas.{manifest-over, note-over}
 use Rattle.an_keyed.proofs.KeyLemmas.{same_key-true}
 use Rattle.an_keyed.proofs.PutLemmas.{row_of-find}
-use Rattle.an_laws.proofs.FoundLemmas.{found-passes, all-from_found}
+use Rattle.an_keyed.proofs.FoundLemmas.{found-passes, all-from_found}
 
 -- ---- tests
 

@@ -7,7 +7,8 @@ use Rattle.an_base.specs.Outcome.{passes}
 use Rattle.an_policy.specs.Audience.{Identity, is_in, is_owner, may}
 use Rattle.an_policy.specs.declared.group.Group.TheVariants.{Public}
 use Rattle.an_state.specs.State.{State, ManifestState, NoteState, LiveNote, manifest_row}
-use Rattle.an_state.specs.View.{is_on, is_open_on, manifest_audience, opens, places_from, shows_note}
+use Rattle.an_slots.specs.Places.{places_from}
+use Rattle.an_state.specs.View.{is_on, is_open_on, manifest_audience, opens, shows_note}
 
 and-false : (b : Bool) → (b && false) ≡ false
 and-false true = refl

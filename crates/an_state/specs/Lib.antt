@@ -1,3 +1,4 @@
+pub use Rattle.an_slots.specs.Places
 pub mod State
 pub mod Rows
 pub mod View

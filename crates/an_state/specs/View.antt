@@ -1,5 +1,5 @@
 -- What a caller may read.
-use Rattle.std.specs.Prelude.{ℕ, ◌+◌, List, [], ◌∷◌, Bool, ◌&&◌, if◌then◌else◌, bytes_eq, filter}
+use Rattle.std.specs.Prelude.{ℕ, List, Bool, ◌&&◌, if◌then◌else◌, bytes_eq, filter}
 use Rattle.std.specs.Prelude.{◌-◌, ℤ, find, is_some, length, slice_get, Option, Some, None}
 use Rattle.std.specs.Prelude.{option_and_then, option_map, unwrap_or}
 use Rattle.std.specs.List.{filter_map, last_or}
@@ -12,6 +12,7 @@ use Rattle.an_state.specs.State.{State, ManifestState, NoteState, LiveNote, mani
 use Rattle.an_base.specs.Outcome.{passes}
 use Rattle.an_policy.specs.Seen.{as_seen}
 use Rattle.an_policy.specs.declared.kind.Kind.{Kind}
+use Rattle.an_slots.specs.Places.{places_from}
 use Rattle.an_state.specs.declared.activity.Activity.{Activity}
 use Rattle.an_state.specs.declared.activity.Seen.{Seen}
 use Rattle.an_state.specs.declared.command.Object.{Object}
@@ -131,13 +132,6 @@ note_in view owner name =
 -- the annotation is live, and on this manifest
 abbrev pub is_on : List ℕ → NoteState → Bool
 is_on manifest row = passes (λ live. bytes_eq live.manifest manifest) row.live
-
--- where the rows stand that pass a test, when the first of them stands at `place`
-abbrev pub places_from : {A : Type 0} → (A → Bool) → ℕ → List A → List ℕ
-places_from test place [] = []
-places_from test place (row ∷ rows) =
-    if test row then place ∷ places_from test (place + 1) rows else places_from test
-    (place + 1) rows
 
 -- where the annotations on a manifest stand that the caller may read
 abbrev pub readable_places : State → Identity → List ℕ → List ℕ

@@ -1,7 +1,8 @@
 ghost use Rattle.std.specs.Prelude.{◌≡◌, ◌&&◌, IfOk, filter};
 ghost use Rattle.an_policy.specs.Audience.{identity};
 ghost use Rattle.an_state.specs.Terms.{has_term, places_with_term, terms_with_prefix, totals_in};
-ghost use Rattle.an_state.specs.View.{is_on, is_open_on, opens, places_from, readable_places};
+ghost use Rattle.an_slots.specs.Places.{places_from};
+ghost use Rattle.an_state.specs.View.{is_on, is_open_on, opens, readable_places};
 ghost use Rattle.an_state.specs.View.{shows_inside};
 
 use crate::book::Book;

@@ -5,11 +5,10 @@ use Rattle.an_base.specs.Moment.{moment_text}
 use Rattle.an_base.specs.Object.{with_member_if}
 use Rattle.an_policy.specs.declared.kind.Kind.{Kind}
 use Rattle.an_policy.specs.declared.kind.Kind.TheVariants as kind
-use Rattle.an_manifest.specs.Dress.{manifest_iri}
+use Rattle.an_iri.specs.Iris.{manifest_iri, note_iri}
 use Rattle.an_state.specs.declared.activity.Seen.{Seen}
 use Rattle.an_state.specs.declared.command.Object.{Object}
 use Rattle.an_state.specs.declared.command.Object.TheVariants as object
-use Rattle.an_search.specs.Listed.{note_iri}
 use Rattle.an_search.specs.Page.{thing}
 
 -- the type of an activity

@@ -1,12 +1,13 @@
 -- The stream of the changes that a caller sees, the earliest first, and its pages (IIIF Change
 -- Discovery API 1.0, level 2).
-use Rattle.std.specs.Prelude.{ℕ, List, [], ◌++◌, length, map, codes, if◌then◌else◌}
+use Rattle.std.specs.Prelude.{ℕ, List, [], length, map, codes, if◌then◌else◌}
 use Rattle.std.specs.Prelude.{Result, Ok, Err}
 use Rattle.serde_json.specs.Data.{Data, number, unsigned, string, array, object, Items, member}
 use Rattle.serde_json.specs.Data.{no_members}
 use Rattle.serde_json.specs.View.{items_of}
 use Rattle.serde_json.specs.Written.{compact_text}
 use Rattle.an_base.specs.Object.{with_member_if}
+use Rattle.an_iri.specs.Iris.{changes_iri}
 use Rattle.an_state.specs.View.{View}
 use Rattle.an_state.specs.declared.activity.Seen.{Seen}
 use Rattle.an_search.specs.Page.{page_count, page_of, start_of, lacks_page, page_iri, thing}
@@ -24,7 +25,7 @@ changes_context = codes "http://iiif.io/api/discovery/1/context.json"
 
 -- the stream as a list that is served in pages
 abbrev pub changes_whole : List ℕ → Whole
-changes_whole base = record { path = base ++ codes "/changes"; parameters = [] }
+changes_whole base = record { path = changes_iri base; parameters = [] }
 
 -- ---- the stream
 

@@ -12,6 +12,7 @@ use crate::activity::push_activities;
 use an_base::{
     Bytes, Text, close_members, push_array_member, push_number_member, push_text_member,
 };
+use an_iri::changes_iri;
 use an_search::{
     PageForm, Paging, Whole, push_link_member, push_next, push_prev, push_thing_member,
 };
@@ -25,7 +26,7 @@ const CHANGES_CONTEXT: &str = "http://iiif.io/api/discovery/1/context.json";
 pub(crate) fn changes_whole(alloc: Global, base: &str) -> Result<Whole, AllocError>
     ensures whole { IfOk result (λ whole. whole ≡ changes_whole base.now) }
 {
-    let path = format!(in alloc; "{base}/changes")?;
+    let path = changes_iri(alloc, base)?;
     Ok(Whole {
         path: Text::from_string(path),
         parameters: Text::from_string(String::new(alloc)),

@@ -2,7 +2,8 @@ use Rattle.std.proofs.Common.{◌++◌, ap₂, ◌∙◌}
 use Rattle.serde_json.specs.Data.{array, string}
 use Rattle.an_manifest.specs.declared.cut.SheetCuts.{SheetCuts}
 use Rattle.an_manifest.specs.Cuts.{piece}
-use Rattle.an_manifest.specs.Dress.{manifest_iri, contexts}
+use Rattle.an_iri.specs.Iris.{manifest_iri}
+use Rattle.an_manifest.specs.Dress.{contexts}
 use Rattle.an_manifest.proofs.ReadyLemmas.{is_sheet}
 use Rattle.an_manifest.proofs.WrittenLemmas.{contexts_text, heading_of}
 use Rattle.an_manifest.proofs.served.push_heading.Goals as goal

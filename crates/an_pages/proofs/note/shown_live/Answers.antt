@@ -3,7 +3,7 @@ use Rattle.serde_json.specs.Data.{string}
 use Rattle.serde_json.specs.Written.{compact_text}
 use Rattle.an_base.specs.Object.{with_member}
 use Rattle.an_model.specs.Dress.{dressed}
-use Rattle.an_search.specs.Listed.{note_iri}
+use Rattle.an_iri.specs.Iris.{note_iri}
 use Rattle.an_pages.specs.Bodies.{note_context}
 use Rattle.an_pages.proofs.note.shown_live.Goals as goal
 

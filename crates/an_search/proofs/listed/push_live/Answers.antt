@@ -1,7 +1,7 @@
 use Rattle.std.proofs.Common.{rules, ◌≡◌, ◌++◌, ap, ◌∙◌}
 use Rattle.serde_json.specs.Written.{compact_text}
 use Rattle.an_model.specs.Dress.{dressed}
-use Rattle.an_search.specs.Listed.{note_iri}
+use Rattle.an_iri.specs.Iris.{note_iri}
 use Rattle.an_search.proofs.listed.push_live.Goals as goal
 
 pub returns : goal.returns

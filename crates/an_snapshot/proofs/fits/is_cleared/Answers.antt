@@ -2,7 +2,8 @@ use Rattle.std.proofs.Common.{List, ℕ, sym, ap, ◌∙◌}
 use Rattle.std.specs.List.{list_all}
 use Rattle.an_listed.specs.declared.filed.Filed.{Filed}
 use Rattle.an_state.specs.State.{NoteState}
-use Rattle.an_state.specs.View.{is_on, places_from}
+use Rattle.an_state.specs.Places.{places_from}
+use Rattle.an_state.specs.View.{is_on}
 use Rattle.an_snapshot.specs.Over.{has_place}
 use Rattle.an_snapshot.proofs.PlaceLemmas.{cleared-places}
 use Rattle.an_snapshot.proofs.fits.is_cleared.Goals as goal

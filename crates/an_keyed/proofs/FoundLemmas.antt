@@ -6,10 +6,9 @@ use Rattle.std.proofs.lemmas.Bool.{cases_Bool, and_parts, and_from, or_left, or_
 use Rattle.std.proofs.lemmas.Option.{same_Some}
 use Rattle.an_base.specs.Outcome.{passes}
 use Rattle.an_keyed.specs.Key.{Key, same_key}
-use Rattle.an_keyed.specs.Rows.{row_of}
+use Rattle.an_keyed.specs.Rows.{keys_are_distinct, row_of}
 use Rattle.an_keyed.proofs.KeyLemmas.{same_key-refl, same_key-true}
 use Rattle.an_keyed.proofs.PutLemmas.{row_of-find}
-use Rattle.an_state.specs.State.{keys_are_distinct}
 
 -- what all pass, all pass by a weaker test
 pub all-weaker : {R : Type 0} (p q : R → Bool) → ((row : R) → p row ≡ true → q row ≡ true) → (rows : List R) → list_all p rows ≡ true → list_all q rows ≡ true

@@ -1,0 +1,88 @@
+//! The IRIs of what the server gives. Each begins with the server's base, as `http://a.example`.
+#![tactic(auto)]
+
+ghost use Rattle.std.specs.Prelude.{◌≡◌, IfOk, string_bytes};
+ghost use Rattle.an_iri.specs.Iris.{canvas_iri, canvas_page_iri, changes_iri, complete_iri};
+ghost use Rattle.an_iri.specs.Iris.{container_iri, manifest_iri, mark_iri, note_iri, reader_iri};
+ghost use Rattle.an_iri.specs.Iris.{search_iri};
+
+use an_base::Name;
+use std::alloc::{AllocError, Global};
+
+/// The IRI of a reader.
+pub fn reader_iri(alloc: Global, base: &str, name: &str) -> Result<String, AllocError>
+    ensures iri { IfOk result (λ iri. string_bytes iri ≡ reader_iri base.now name.now) }
+{
+    format!(in alloc; "{base}/readers/{name}")
+}
+
+/// The IRI at which a manifest is served.
+pub fn manifest_iri(alloc: Global, base: &str, name: &str) -> Result<String, AllocError>
+    ensures iri { IfOk result (λ iri. string_bytes iri ≡ manifest_iri base.now name.now) }
+{
+    format!(in alloc; "{base}/manifests/{name}")
+}
+
+/// The IRI of an annotation.
+pub fn note_iri(alloc: Global, base: &str, owner: &Name, name: &Name) -> Result<String, AllocError>
+    ensures iri { IfOk result (λ iri. string_bytes iri ≡ note_iri base.now owner.now name.now) }
+{
+    let owner = owner.as_str();
+    let name = name.as_str();
+    format!(in alloc; "{base}/annotations/{owner}/{name}")
+}
+
+/// The IRI of the container of the annotations on a manifest.
+pub fn container_iri(alloc: Global, base: &str, name: &str) -> Result<String, AllocError>
+    ensures iri { IfOk result (λ iri. string_bytes iri ≡ container_iri base.now name.now) }
+{
+    format!(in alloc; "{base}/manifests/{name}/annotations/")
+}
+
+/// The IRI of the annotations on a canvas, by its number in the manifest, from 1.
+pub fn canvas_iri(alloc: Global, base: &str, name: &str, number: u32) -> Result<String, AllocError>
+    ensures iri { IfOk result (λ iri. string_bytes iri ≡ canvas_iri base.now name.now number) }
+{
+    format!(in alloc; "{base}/manifests/{name}/canvases/{number}")
+}
+
+/// The IRI of the first page of the annotations on a canvas, by its number in the manifest, from 1.
+pub fn canvas_page_iri(
+    alloc: Global,
+    base: &str,
+    name: &str,
+    number: usize,
+) -> Result<String, AllocError>
+    ensures iri { IfOk result
+        (λ iri. string_bytes iri ≡ canvas_page_iri base.now name.now number) }
+{
+    format!(in alloc; "{base}/manifests/{name}/canvases/{number}?page=1")
+}
+
+/// The IRI of the service that searches the annotations on a manifest.
+pub fn search_iri(alloc: Global, base: &str, name: &str) -> Result<String, AllocError>
+    ensures iri { IfOk result (λ iri. string_bytes iri ≡ search_iri base.now name.now) }
+{
+    format!(in alloc; "{base}/search/{name}")
+}
+
+/// The IRI of the service that completes words of the annotations on a manifest.
+pub fn complete_iri(alloc: Global, base: &str, name: &str) -> Result<String, AllocError>
+    ensures iri { IfOk result (λ iri. string_bytes iri ≡ complete_iri base.now name.now) }
+{
+    format!(in alloc; "{base}/autocomplete/{name}")
+}
+
+/// The IRI of the stream of changes.
+pub fn changes_iri(alloc: Global, base: &str) -> Result<String, AllocError>
+    ensures iri { IfOk result (λ iri. string_bytes iri ≡ changes_iri base.now) }
+{
+    format!(in alloc; "{base}/changes")
+}
+
+/// The IRI of a mark, by its number on the page of this IRI.
+pub fn mark_iri(alloc: Global, page: &str, number: usize) -> Result<String, AllocError>
+    ensures iri { IfOk result (λ iri. string_bytes iri ≡ mark_iri page.now number) }
+{
+    format!(in alloc; "{page}#match-{number}")
+}
