@@ -7,9 +7,11 @@ use Rattle.std.specs.List.{list_all}
 use Rattle.an_base.specs.TextSet.{has_text}
 use Rattle.an_model.specs.Bodies.{note_terms}
 use Rattle.an_policy.specs.Audience.{Identity}
+use Rattle.an_slots.proofs.GatheredLemmas.{Rises-kept}
+use Rattle.an_slots.proofs.PlacesFromLemmas.{Rises-places_from}
 use Rattle.an_state.specs.State.{State, NoteState, LiveNote}
 use Rattle.an_state.specs.Terms.{has_term}
-use Rattle.an_state.specs.Places.{places_from}
+use Rattle.an_state.specs.Places.{places_from, Rises}
 use Rattle.an_state.specs.View.{view_of, is_on, shows_note, readable_places}
 use Rattle.an_search.specs.Cost.{Takes, candidates, page_cost}
 use Rattle.an_search.specs.Found.{candidate_places, is_suited_at, is_wanted_at, suits, with_terms}
@@ -166,3 +168,16 @@ pub takes_both : {A E : Type 0} (memory : E) (result : Result A E) (old middle n
     → Takes memory result old new (first + rest)
 takes_both memory (Ok x) old middle new first more rest second one same = omega (arith, second, one, same)
 takes_both memory (Err e) old middle new first more rest second one same = λ other. let is = second other in omega (arith, is, one, same)
+
+-- ---- places in order
+
+candidates_rise : (s : State) (who : Identity) (manifest : List ℕ) (terms : List (List ℕ)) → Rises 0 (candidate_places s who manifest terms)
+candidates_rise s who manifest [] = Rises-places_from (λ row. is_on manifest row && shows_note s who row) 0 s.notes
+candidates_rise s who manifest (term ∷ terms) =
+    Rises-places_from (λ row. (is_on manifest row && shows_note s who row) && has_term term row) 0 s.notes
+
+-- those of the candidates that suit stand one behind another
+pub suited_rise : (s : State) (who : Identity) (manifest : List ℕ) (wanted : Wanted)
+    → Rises 0 (filter (is_suited_at s.notes wanted) (candidate_places s who manifest wanted.terms))
+suited_rise s who manifest wanted =
+    Rises-kept (is_suited_at s.notes wanted) 0 (candidate_places s who manifest wanted.terms) (candidates_rise s who manifest wanted.terms)

@@ -1,15 +1,11 @@
 -- The places at which tests pass.
-use Rattle.std.proofs.Common.{◌≡◌, ℕ, zero, suc, ◌+◌, ◌<◌, ◌≤◌, List, [], ◌∷◌, ◌++◌, length, get_or, Bool, true, false, cond, ◌&&◌, ◌==◌, Some, Result, Ok, Err, nat_lt, refl, sym, ap, subst, ◌∙◌, arith, append_assoc, length-append}
+use Rattle.std.proofs.Common.{◌≡◌, ℕ, suc, ◌+◌, ◌<◌, ◌≤◌, List, [], ◌∷◌, ◌++◌, length, get_or, drop, Bool, true, false, cond, ◌&&◌, ◌==◌, Some, nat_lt, refl, sym, ap, subst, ◌∙◌, arith, append_assoc, length-append, drop-cons, add-one}
 use Rattle.std.proofs.lemmas.Bool.Decides.{nat_tests}
-use Rattle.std.proofs.lemmas.List.{get_or_default}
-use Rattle.std.proofs.lemmas.List.Folds.{list_any_at, list_any_none}
-use Rattle.std.proofs.lemmas.List.Sorted.{searched}
-use Rattle.std.specs.List.Sorted.{IsBinarySearchResult}
-use Rattle.std.specs.Ordering.{nat_cmp}
-use Rattle.std.specs.Prelude.{filter, slice_get, is_ok}
-use Rattle.an_search.specs.Found.{is_among, Rise}
+use Rattle.std.specs.Prelude.{filter, slice_get}
+use Rattle.an_search.specs.Found.{is_among, is_first, not_below}
 use Rattle.an_base.specs.Outcome.{passes}
-use Rattle.an_state.specs.Places.{places_from}
+use Rattle.an_slots.proofs.PlacesLemmas.{Rises-weaken}
+use Rattle.an_state.specs.Places.{places_from, Rises}
 
 pub slice_get-append : {A : Type 0} (before : List A) (row : A) (rows : List A) → slice_get (before ++ row ∷ rows) (length before) ≡ Some row
 slice_get-append [] row rows = refl
@@ -75,29 +71,6 @@ module _ {A : Type 0} (test : A → Bool) where
         | false ↦ next
       ]
 
-  starts : (place : ℕ) (rows : List A) (j : ℕ) → j < length (places_from test place rows) → place ≤ get_or (places_from test place rows) j 0
-  starts place [] j within = absurd (omega arith)
-  starts place (row ∷ rows) j within = first (test row) (places_from test (place + 1) rows) (starts (place + 1) rows) j within
-    where
-      first : (b : Bool) (later : List ℕ) → ((j : ℕ) → j < length later → place + 1 ≤ get_or later j 0)
-          → (j : ℕ) → j < length (cond b (place ∷ later) later) → place ≤ get_or (cond b (place ∷ later) later) j 0
-      first true later starts zero within = omega arith
-      first true later starts (suc j) within = let next = starts j (omega arith) in omega arith
-      first false later starts j within = let next = starts j within in omega arith
-
-  pub places_rise : (place : ℕ) (rows : List A) → Rise (places_from test place rows)
-  places_rise place [] i j order within = absurd (omega arith)
-  places_rise place (row ∷ rows) i j order within =
-      first (test row) (places_from test (place + 1) rows) (starts (place + 1) rows) (places_rise (place + 1) rows) i j order within
-    where
-      first : (b : Bool) (later : List ℕ) → ((j : ℕ) → j < length later → place + 1 ≤ get_or later j 0) → Rise later
-          → (i j : ℕ) → i ≤ j → j < length (cond b (place ∷ later) later) → get_or (cond b (place ∷ later) later) i 0 ≤ get_or (cond b (place ∷ later) later) j 0
-      first true later starts rise zero zero order within = omega arith
-      first true later starts rise zero (suc j) order within = let next = starts j (omega arith) in omega arith
-      first true later starts rise (suc i) zero order within = absurd (omega arith)
-      first true later starts rise (suc i) (suc j) order within = rise i j (omega arith) (omega arith)
-      first false later starts rise i j order within = rise i j order within
-
 -- the places where one test passes that are among those where the other does
 pub common_places : {A : Type 0} (p q : A → Bool) (place : ℕ) (rows : List A)
     → filter (λ k. is_among k (places_from q place rows)) (places_from p place rows) ≡ places_from (λ row. p row && q row) place rows
@@ -121,21 +94,82 @@ common_places {A = A} p q place (row ∷ rows) =
       ]
     ]
 
--- ---- a search that halves
+-- ---- two lists that are walked along
 
-pub among_searched : (places : List ℕ) (place : ℕ) (found : Result ℕ ℕ) → IsBinarySearchResult (λ other. nat_cmp other place) places found → Rise places → is_ok found ≡ is_among place places
-among_searched places place (Ok at) is rise =
-    let found = searched places place (Ok at) is rise in
-    let same : (get_or places at 0 == place) ≡ true = grind (arith, nat_tests, found.1) in
-    sym (list_any_at (λ other. other == place) places at 0 found.0 same)
-among_searched places place (Err gap) is rise =
-    let found = searched places place (Err gap) is rise in
-    sym (list_any_none (λ other. other == place) places (λ k d within. apart k d within (nat_lt k gap) refl found.1 found.2))
+-- what isn't below is left
+among-not_below : (least place : ℕ) (others : List ℕ) → least ≤ place → is_among place (not_below least others) ≡ is_among place others
+among-not_below least place [] order = refl
+among-not_below least place (other ∷ others) order = by (nat_lt other least) refl (among-not_below least place others order)
   where
-    differ : (k d : ℕ) → k < length places → ¬ (get_or places k 0 ≡ place) → (get_or places k d == place) ≡ false
-    differ k d within other = rw (get_or_default places k d 0 within) (grind (arith, nat_tests, other))
+    by : (b : Bool) → nat_lt other least ≡ b → is_among place (not_below least others) ≡ is_among place others
+        → is_among place (cond b (not_below least others) (other ∷ others)) ≡ is_among place (other ∷ others)
+    by false is next = refl
+    by true is next =
+        let below : (other == place) ≡ false = grind (arith, nat_tests) in
+        next ∙ rw below refl
 
-    apart : (k d : ℕ) → k < length places → (b : Bool) → nat_lt k gap ≡ b → ((k : ℕ) → k < gap → get_or places k 0 < place) → ((k : ℕ) → gap ≤ k → k < length places → place < get_or places k 0)
-        → (get_or places k d == place) ≡ false
-    apart k d within true is below above = let before : k < gap = grind (arith, nat_tests) in let lower = below k before in differ k d within (λ same. omega (arith, lower, same))
-    apart k d within false is below above = let behind : gap ≤ k = grind (arith, nat_tests) in let higher = above k behind within in differ k d within (λ same. omega (arith, higher, same))
+-- so what rises from there on is found in what is left as in all
+pub all_left : (least from : ℕ) (places others : List ℕ) → least ≤ from → Rises from places
+    → filter (λ place. is_among place (not_below least others)) places ≡ filter (λ place. is_among place others) places
+all_left least from [] others order rise = refl
+all_left least from (place ∷ places) others order rise =
+    rw (among-not_below least place others (omega (arith, rise.0)), all_left least (place + 1) places others (omega (arith, rise.0)) rise.1) refl
+
+-- no place is among those that rise from a later one
+none_later : (place from : ℕ) (others : List ℕ) → place < from → Rises from others → is_among place others ≡ false
+none_later place from [] order rise = refl
+none_later place from (other ∷ others) order rise =
+    let apart : (other == place) ≡ false = grind (arith, nat_tests, rise.0) in
+    rw apart (none_later place (other + 1) others (omega (arith, rise.0)) rise.1)
+
+-- what is left rises
+pub Rises-not_below : (from least : ℕ) (others : List ℕ) → Rises from others → Rises from (not_below least others)
+Rises-not_below from least [] rise = tt
+Rises-not_below from least (other ∷ others) rise = by (nat_lt other least) (Rises-not_below (other + 1) least others rise.1)
+  where
+    by : (b : Bool) → Rises (other + 1) (not_below least others) → Rises from (cond b (not_below least others) (other ∷ others))
+    by true next = Rises-weaken (other + 1) from (not_below least others) (omega (arith, rise.0)) next
+    by false next = rise
+
+-- the first of the others that isn't below a place is that place, or the place isn't among them
+pub among-first : (place from : ℕ) (others : List ℕ) → Rises from others → is_among place others ≡ is_first place (not_below place others)
+among-first place from [] rise = refl
+among-first place from (other ∷ others) rise =
+    by (nat_lt other place) refl (among-first place (other + 1) others rise.1)
+  where
+    at : (b : Bool) → (other == place) ≡ b → place ≤ other → is_among place (other ∷ others) ≡ (other == place)
+    at true same order = rw same refl
+    at false apart order = rw apart (none_later place (other + 1) others (grind (arith, nat_tests)) rise.1)
+
+    by : (b : Bool) → nat_lt other place ≡ b → is_among place others ≡ is_first place (not_below place others)
+        → is_among place (other ∷ others) ≡ is_first place (cond b (not_below place others) (other ∷ others))
+    by true is next =
+        let below : (other == place) ≡ false = grind (arith, nat_tests) in
+        rw below next
+    by false is next = at (other == place) refl (grind (arith, nat_tests))
+
+-- one place further along both lists
+pub walked_on : (so_far places rest found : List ℕ) (at : ℕ) → at < length places → Rises 0 (drop at places) → Rises 0 rest
+    → so_far ++ filter (λ place. is_among place rest) (drop at places) ≡ found
+    → (is : Bool) → is ≡ is_first (get_or places at 0) (not_below (get_or places at 0) rest)
+    → cond is (so_far ++ get_or places at 0 ∷ []) so_far ++ filter (λ place. is_among place (not_below (get_or places at 0) rest)) (drop (at + 1) places) ≡ found
+walked_on so_far places rest found at within rise rest_rises gathered is same =
+    let place = get_or places at 0 in
+    let behind = drop (at + 1) places in
+    let cons : drop at places ≡ place ∷ behind = drop-cons places at 0 within ∙ ap (λ n. place ∷ drop n places) (sym (add-one at)) in
+    let left = all_left place (place + 1) behind rest (omega arith) (subst (Rises 0) cons rise).1 in
+    let first : is ≡ is_among place rest = same ∙ sym (among-first place 0 rest rest_rises) in
+    by is first ∙ ap (λ more. so_far ++ cond (is_among place rest) (place ∷ more) more) left
+    ∙ ap (λ all. so_far ++ filter (λ place. is_among place rest) all) (sym cons) ∙ gathered
+  where
+    by : (is : Bool) → is ≡ is_among (get_or places at 0) rest
+        → cond is (so_far ++ get_or places at 0 ∷ []) so_far ++ filter (λ place. is_among place (not_below (get_or places at 0) rest)) (drop (at + 1) places)
+        ≡ so_far ++ cond (is_among (get_or places at 0) rest) (get_or places at 0 ∷ filter (λ place. is_among place (not_below (get_or places at 0) rest)) (drop (at + 1) places)) (filter (λ place. is_among place (not_below (get_or places at 0) rest)) (drop (at + 1) places))
+    by true same = rw (sym same) (append_assoc so_far (get_or places at 0 ∷ []) _)
+    by false same = rw (sym same) refl
+
+-- what is left behind a place rises
+pub Rises-behind : (places : List ℕ) (at : ℕ) → at < length places → Rises 0 (drop at places) → Rises 0 (drop (at + 1) places)
+Rises-behind places at within rise =
+    let cons = drop-cons places at 0 within ∙ ap (λ n. get_or places at 0 ∷ drop n places) (sym (add-one at)) in
+    Rises-weaken (get_or places at 0 + 1) 0 (drop (at + 1) places) (omega arith) (subst (Rises 0) cons rise).1

@@ -1,6 +1,6 @@
 -- For private clauses: what was found, and what of it was written so far.
-use Rattle.std.specs.Prelude.{◌≡◌, ℕ, ◌≤◌, ◌<◌, ◌==◌, List, [], ◌∷◌, map, length, get_or, Bool}
-use Rattle.std.specs.Prelude.{true, Some, filter, fold, slice_get}
+use Rattle.std.specs.Prelude.{◌≡◌, ℕ, ◌==◌, List, [], ◌∷◌, map, length, Bool, true, false, Some}
+use Rattle.std.specs.Prelude.{filter, fold, if◌then◌else◌, nat_lt, slice_get}
 use Rattle.std.specs.List.{filter_map, list_any}
 use Rattle.std.specs.Option.{option_map_or}
 use Rattle.serde_json.specs.View.{items_of}
@@ -26,9 +26,16 @@ is_wanted_at notes wanted place = passes (matches wanted) (slice_get notes place
 abbrev pub is_among : ℕ → List ℕ → Bool
 is_among place places = list_any (λ other. other == place) places
 
--- no place stands behind a greater one
-abbrev pub Rise : List ℕ → Type 0
-Rise places = (i j : ℕ) → i ≤ j → j < length places → get_or places i 0 ≤ get_or places j 0
+-- the place is the first of these
+abbrev pub is_first : ℕ → List ℕ → Bool
+is_first place [] = false
+is_first place (first ∷ places) = first == place
+
+-- the places from the first on that isn't below this one
+abbrev pub not_below : ℕ → List ℕ → List ℕ
+not_below least [] = []
+not_below least (place ∷ places) =
+    if nat_lt place least then not_below least places else place ∷ places
 
 -- where the annotations stand that the caller may read and that have the first of the terms, or all
 -- that it may read where there is no term

@@ -1,9 +1,10 @@
 ghost use Rattle.std.specs.Prelude.{◌≡◌, ◌+◌, ◌≤◌, drop, filter, length, IfOk, OnOk};
 ghost use Rattle.an_policy.specs.Audience.{identity};
+ghost use Rattle.an_state.specs.Places.{Rises};
 ghost use Rattle.an_state.specs.View.{readable_places, view_of};
 ghost use Rattle.an_search.specs.Cost.{candidates};
-ghost use Rattle.an_search.specs.Found.{Rise, candidate_places, is_among, is_suited_at, is_wanted_at};
-ghost use Rattle.an_search.specs.Found.{suits, with_term, with_terms};
+ghost use Rattle.an_search.specs.Found.{candidate_places, is_among, is_first, is_suited_at};
+ghost use Rattle.an_search.specs.Found.{is_wanted_at, not_below, suits, with_term, with_terms};
 
 use crate::wanted::{Wanted, fits_but_terms, wants_terms_alone};
 use an_base::{Name, Steps, Text};
@@ -81,7 +82,7 @@ fn suited_among<T: Look, L: Ledger>(
     ensures steps_most { steps.new ≤ steps.old + length places.now }
     ensures steps_least { steps.old ≤ steps.new }
 {
-    let mut suited = Vec::new(alloc);
+    let mut suited = Vec::with_capacity(alloc, places.len())?;
     for place in places {
         if is_suited_at(look, *place, wanted, steps) {
             suited.push(*place)?;
@@ -121,7 +122,7 @@ fn suits(row: &NoteRow, wanted: &Wanted) -> bool
     }
 }
 
-/// Those of the places where the annotations have each of the terms.
+/// Those of the places, which rise, where the annotations have each of the terms.
 fn with_terms<T: Look>(
     alloc: Global,
     look: &T,
@@ -130,6 +131,7 @@ fn with_terms<T: Look>(
     places: Vec<usize>,
     terms: &[Text],
 ) -> Result<Vec<usize>, AllocError>
+    requires rise { Rises 0 places.items }
     ensures { IfOk result (λ having. having.items ≡ with_terms
         (T.state look.now) (identity who.now) manifest.now places.items terms.now) }
 {
@@ -140,7 +142,7 @@ fn with_terms<T: Look>(
     Ok(having)
 }
 
-/// Those of the places where the annotations have one more term.
+/// Those of the places, which rise, where the annotations have one more term.
 fn with_term<T: Look>(
     alloc: Global,
     look: &T,
@@ -149,6 +151,7 @@ fn with_term<T: Look>(
     places: &[usize],
     term: &str,
 ) -> Result<Vec<usize>, AllocError>
+    requires rise { Rises 0 places.now }
     ensures { IfOk result (λ having. having.items ≡ with_term
         (T.state look.now) (identity who.now) manifest.now places.now term.now) }
 {
@@ -157,26 +160,42 @@ fn with_term<T: Look>(
     Ok(common)
 }
 
-/// Those of the places that are among others, which rise.
-#[tactic(auto, using(crate::proofs::PieceLemmas::pieces_left))]
+/// Those of the places that are among others. Both rise, and are walked along once.
 fn common(alloc: Global, places: &[usize], others: &[usize]) -> Result<Vec<usize>, AllocError>
-    requires rise { Rise others.now }
+    requires places { Rises 0 places.now }
+    requires others { Rises 0 others.now }
     ensures { IfOk result (λ common. common.items
         ≡ filter (λ place. is_among place others.now) places.now) }
 {
     let mut common = Vec::new(alloc);
+    let mut rest = others;
     for place in places {
-        if is_among(*place, others) {
+        rest = not_below(rest, *place);
+        if is_first(rest, *place) {
             common.push(*place)?;
         }
     }
     Ok(common)
 }
 
-/// Whether the place is one of these, which rise.
-fn is_among(place: usize, places: &[usize]) -> bool
-    requires rise { Rise places.now }
-    ensures { result ≡ is_among place places.now }
+/// The places from the first on that isn't below this one.
+fn not_below(places: &[usize], least: usize) -> &[usize]
+    ensures { result.now ≡ not_below least places.now }
 {
-    places.binary_search(&place).is_ok()
+    for (at, place) in places.iter().enumerate() {
+        if *place >= least {
+            return &places[at..];
+        }
+    }
+    &[]
+}
+
+/// Whether the place is the first of these.
+fn is_first(places: &[usize], place: usize) -> bool
+    ensures { result ≡ is_first place places.now }
+{
+    match places.first() {
+        Some(first) => *first == place,
+        None => false,
+    }
 }
