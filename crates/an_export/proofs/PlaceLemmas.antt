@@ -1,5 +1,5 @@
 -- The lines that are left from a place of a list on: that of the row there, and those behind it.
-use Rattle.std.proofs.Common.{◌≡◌, ℕ, zero, suc, ◌+◌, List, [], ◌∷◌, ◌++◌, drop, Bool, true, false, cond, None, Some, refl, sym, ap, ◌∙◌, add-one, append-nil, append_assoc}
+use Rattle.std.proofs.Common.{◌≡◌, ℕ, zero, suc, ◌+◌, ◌≤◌, List, [], ◌∷◌, ◌++◌, drop, length, Bool, true, false, cond, None, Some, refl, sym, ap, ◌∙◌, add-one, arith, append-nil, append_assoc}
 use Rattle.std.specs.Prelude.{filter, slice_get}
 use Rattle.std.specs.List.{flat_map}
 
@@ -40,3 +40,9 @@ pub all_written : {A : Type 0} (shown : A → Bool) (line : A → List ℕ) (row
     → None ≡ slice_get rows place → written ++ flat_map line (filter shown (drop place rows)) ≡ all → written ≡ all
 all_written shown line rows place written all none so_far =
     sym (append-nil written) ∙ rw none_left at so_far
+
+-- no row stands behind the last
+pub past_all : {A : Type 0} (rows : List A) (place : ℕ) → None ≡ slice_get rows place → length rows ≤ place
+past_all [] place none = omega arith
+past_all (row ∷ rows) zero none = cc
+past_all (row ∷ rows) (suc place) none = let behind = past_all rows place none in omega arith

@@ -1,4 +1,4 @@
-ghost use Rattle.std.specs.Prelude.{◌≡◌, ◌++◌, [], if◌then◌else◌, filter, IfOk};
+ghost use Rattle.std.specs.Prelude.{◌≡◌, ◌+◌, ◌++◌, [], if◌then◌else◌, filter, length, IfOk, OnOk};
 ghost use Rattle.std.specs.List.{flat_map};
 ghost use Rattle.an_policy.specs.Audience.{identity};
 ghost use Rattle.an_state.specs.View.{shows_manifest, shows_note};
@@ -48,6 +48,7 @@ fn push_shown_manifest(
 }
 
 /// Writes the lines of the live annotations that the caller may read, in the order of their rows.
+/// Each row is fetched, and there is one step more, which finds no row.
 pub(crate) fn push_notes<T: Look, L: Ledger>(
     out: Vec<u8>,
     look: &T,
@@ -56,6 +57,7 @@ pub(crate) fn push_notes<T: Look, L: Ledger>(
 ) -> Result<Vec<u8>, AllocError>
     ensures text { IfOk result (λ v. v.items ≡ out.items ++ flat_map note_line
         (filter (shows_note (T.state look.now) (identity who.now)) (T.state look.now).notes)) }
+    ensures steps { OnOk result (steps.new ≡ steps.old + length (T.state look.now).notes + 1) }
 {
     let mut out = out;
     for place in 0..usize::MAX {
