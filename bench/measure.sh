@@ -56,3 +56,12 @@ measure_used() {
   spent=$({ time "$program" "${words[@]}" <"$work/input" >"$work/output"; } 2>&1)
   used=$(awk '{ printf "%d", ($1 + $2) * 1e6 }' <<<"$spent")
 }
+
+# Runs the program on the input three times, and sets `least`, the fewest microseconds that it used.
+measure_least() {
+  least=
+  for _ in 1 2 3; do
+    measure_used
+    if [ -z "$least" ] || ((used < least)); then least=$used; fi
+  done
+}

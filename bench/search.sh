@@ -4,7 +4,8 @@
 # words. The program that plays cases fills the store and then asks it over connections by HEAD, so that
 # a reply is made whole and little of it is copied. Each reply is compared: its length is that of the
 # body with which `anno - find`, which keeps no lists, answers the same. For each kind it prints the
-# microseconds of a processor a request, which is what the connections add to the time of the lines alone.
+# microseconds of a processor a request, which is what the connections add to the time of the lines alone,
+# each the least of three runs.
 set -eu
 tool=anno
 . "$(dirname "$0")/measure.sh"
@@ -13,7 +14,7 @@ finder=$program
 program=$top/crates/an_cases/out/an_cases
 
 # So many annotations. Each has a frequent word, every second another one, 1,000 of them a word of
-# their own, and ten a rare one. So many owners have a private annotation with all of these.
+# their own, and one a rare one. So many owners have a private annotation with all of these.
 writes() {
   beginning
   awk -v n="$1" -v owners="$2" 'BEGIN {
@@ -22,7 +23,7 @@ writes() {
     for (i = 1; i <= n; i++) {
       text = i % 2 == 0 ? "heron tern" : "heron gull"
       if (i % (n / 1000) == 0) text = text " stork"
-      if (i % (n / 10) == 1) text = text " bittern"
+      if (i == n / 2) text = text " bittern"
       print front "mara PUT /annotations/mara/n" i "?version=1&manifest=m1&group=public {\"bodyValue\":\"" text behind
     }
     for (i = 1; i <= owners; i++) {
@@ -65,23 +66,24 @@ for owners in 0 1000; do
     writes "$notes" "$owners" >"$work/writes"
     store >"$work/store"
     cp "$work/store" "$work/input"
-    measure_used
-    alone=$used
+    measure_least
+    alone=$least
     while read -r path type count requests what; do
       path=${path//LAST/$(((notes + 10) / 10))}
+      count=${count//FEW/$((200000 / notes))}
       { cat "$work/store"; connections "$path" "$type" "$(length_of "$path")" "$count" "$requests"; } >"$work/input"
-      measure_used
-      awk -v what="$notes annotations, $owners other owners, $what" -v t="$((used - alone))" \
+      measure_least
+      awk -v what="$notes annotations, $owners other owners, $what" -v t="$((least - alone))" \
         -v n="$((count * requests))" -v said="$(tail -n 1 "$work/output")" \
         'BEGIN { printf "%s: %.1f microseconds a request; %s\n", what, t / n, said }'
     done <<'KINDS'
-/search/m1?q=nothing search/2 20 900 a word without a hit
-/search/m1?q=bittern search/2 10 900 a rare word
-/search/m1?q=stork search/2 10 900 a word with 1,000 hits
-/search/m1?q=heron search/2 1 200 a frequent word
-/search/m1?q=heron+tern search/2 1 200 two words
-/autocomplete/m1?q=her search/2 10 900 a completion of three letters
-/changes?page=LAST discovery/1 1 200 the last page of the stream
+/search/m1?q=nothing search/2 80 900 a word without a hit
+/search/m1?q=bittern search/2 40 900 a rare word
+/search/m1?q=stork search/2 20 900 a word with 1,000 hits
+/search/m1?q=heron search/2 FEW 900 a frequent word
+/search/m1?q=heron+tern search/2 FEW 900 two words
+/autocomplete/m1?q=her search/2 80 900 a completion of three letters
+/changes?page=LAST discovery/1 FEW 100 the last page of the stream
 KINDS
   done
 done

@@ -1,6 +1,6 @@
 #!/usr/bin/env bash
 # Times the writes of `anno - import`, which plays at a store: 1,000, 10,000 and 100,000 mixed writes on
-# annotations, then as many writes on readers. Last, 10,000 updates of one annotation of 32 words, all of
+# annotations, then as many writes on readers. Last, 20,000 updates of one annotation of 32 words, all of
 # them in each of 100,000 others: by a text of the same words, as a usual update has most of them, and by
 # turns by one of none of them, which takes its place out of 32 long lists and puts it in again.
 set -eu
@@ -37,13 +37,13 @@ updated() {
 
 # What an update adds to the time of the annotations alone.
 updates() {
-  local notes=100000 count=10000 alone
+  local notes=100000 count=20000 alone
   updated "$notes" 0 32 >"$work/input"
-  measure_used
-  alone=$used
+  measure_least
+  alone=$least
   updated "$notes" "$count" "$1" >"$work/input"
-  measure_used
-  awk -v what="$2" -v t="$((used - alone))" -v n="$count" -v said="$(tail -n 1 "$work/output")" \
+  measure_least
+  awk -v what="$2" -v t="$((least - alone))" -v n="$count" -v said="$(tail -n 1 "$work/output")" \
     'BEGIN { printf "an update by %s: %.1f microseconds; %s\n", what, t / n, said }'
 }
 
