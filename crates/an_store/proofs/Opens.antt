@@ -1,0 +1,62 @@
+-- A store that is opened.
+use Rattle.std.proofs.Common.{◌≡◌, ℕ, List, [], ◌∷◌, refl, sym, ap, subst, ◌∙◌, inl}
+use Rattle.logbook.specs.Pages.{Book, Named}
+use Rattle.an_keep.specs.Keeper.{Told}
+use Rattle.an_state.specs.State.{State}
+use Rattle.an_shelf.specs.Store as shelf
+use Rattle.an_store.specs.Events.{Event, Opened, IsLegal, Keeps, state_at, told_at}
+use Rattle.an_store.specs.History.{head_of}
+use Rattle.an_store.specs.Known.{Known, newcomer}
+use Rattle.an_store.specs.Opening.{Begun}
+use Rattle.an_store.specs.Rule.{IsOneList, Ready, Shows, accepted, notice}
+use Rattle.an_store.specs.Side.{Sided, stock_of}
+use Rattle.an_store.specs.declared.published.Published.{Published}
+use Rattle.an_store.specs.declared.published.Addition.{Addition}
+use Rattle.an_store.proofs.Sides.{keeps-itself}
+use Rattle.an_store.proofs.Steps.{begins}
+
+-- an opening alone is legal, where the cells told are those of the state
+pub legal-opened : (list : List Event) (s : State) (told : Told) → list ≡ Opened s told ∷ [] → shelf.Stands told s → IsLegal list
+legal-opened list s told is stands = subst IsLegal (sym is) (stands.cells_are, tt)
+
+state-opened : (list : List Event) (s : State) (told : Told) → list ≡ Opened s told ∷ [] → state_at list ≡ s
+state-opened list s told is = ap state_at is
+
+module _ (x : Published) (s : State) (told : Told) (list : x.mark.list ≡ Opened s told ∷ []) (state : x.snapshot.state ≡ s) (stands : shelf.Stands told s) where
+  leads : x.snapshot.state ≡ state_at x.mark.list
+  leads = state ∙ sym (state-opened x.mark.list s told list)
+
+  -- the rule holds of it, and it may be published
+  pub one-list : IsOneList x (newcomer ∷ [])
+  one-list = begins x (legal-opened x.mark.list s told list stands) leads
+
+  pub ready-opened : (pending : List Addition) → pending ≡ [] → Ready x pending
+  ready-opened pending none = subst (Ready x) (sym none) (record { come = tt; legal = legal-opened x.mark.list s told list stands; state = leads })
+
+  pub begun-shown : (y : Published) (v : Known) (head : Named) (pending left : List Addition) → pending ≡ [] → head ≡ head_of x.mark.book → Shows x pending y → left ≡ [] → v ≡ notice y → Begun v head left y s told
+  begun-shown y v head pending left none is_head shows empty knows =
+      let now : y.mark.list ≡ Opened s told ∷ [] = shows.list ∙ (ap (accepted x) none ∙ list) in record {
+        none = empty;
+        knows = knows;
+        is_head = is_head ∙ ap head_of (sym shows.book);
+        list = now;
+        state = shows.state ∙ state-opened y.mark.list s told now;
+      }
+
+-- what was opened, under its name
+pub sided-opened : (v : Known) (head : Named) (pending : List Addition) (x : Published) (s : State) (told : Told) (faults : ℕ) (name : Book) → Begun v head pending x s told → shelf.Stands told s → x.mark.book ≡ name
+    → Sided (stock_of x pending s told faults) name head x pending
+sided-opened v head pending x s told faults name k stands here =
+    subst (λ (l : List Addition). Sided (stock_of x l s told faults) name head x l) (sym k.none) (record {
+      stocked = record {
+        legal = legal-opened x.mark.list s told k.list stands;
+        state = sym (state-opened x.mark.list s told k.list);
+        stands = stands;
+        keeps = subst (λ (b : Told). Keeps b s told) (sym (ap told_at k.list)) (keeps-itself s told stands.cells_are);
+        lacks = inl refl;
+      };
+      book = here;
+      is_head = k.is_head ∙ ap head_of here;
+      come = tt;
+      state = k.state ∙ sym (state-opened x.mark.list s told k.list);
+    })

@@ -1,0 +1,9 @@
+use Rattle.std.proofs.Common.{ap, ◌∙◌}
+use Rattle.an_store.specs.declared.published.Published.{Published}
+use Rattle.an_store.proofs.Opens.{one-list}
+use Rattle.an_store.proofs.opened.begin_writer.Goals as goal
+
+pub new-requires-clause-rule : goal.new-requires-clause-rule
+new-requires-clause-rule g c =
+    let x : Published = record { snapshot = c.args.snapshot; mark = c.again.result } in
+    one-list x _ _ (ap (λ m. m.list) c.again.ensures ∙ c.begin-head.ensures.list) c.requires.shown c.requires.stands

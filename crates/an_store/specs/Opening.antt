@@ -1,0 +1,50 @@
+-- A store that was opened, and one that is closed.
+use Rattle.std.specs.Prelude.{◌≡◌, ℕ, List, [], ◌∷◌, All, IfSome}
+use mathlib.Core.List.{IsPrefix}
+use Rattle.logbook.specs.Pages.{Book, Named}
+use Rattle.an_keep.specs.Keeper.{Told}
+use Rattle.an_rows.specs.Cells.{cells}
+use Rattle.an_state.specs.State.{State}
+use Rattle.an_shelf.specs.Opening.{StandFor}
+use Rattle.an_shelf.specs.Store.{Stands}
+use Rattle.an_store.specs.Events.{Event, Opened, IsLegal, state_at}
+use Rattle.an_store.specs.History.{head_of}
+use Rattle.an_store.specs.Known.{Known}
+use Rattle.an_store.specs.Lists.{Seated, newly_seated}
+use Rattle.an_store.specs.Rule.{notice}
+use Rattle.an_store.specs.declared.published.Published.{Published}
+use Rattle.an_store.specs.declared.published.Addition.{Addition}
+
+-- the history that names the store, the list that is published, its seats, the state, the cells
+-- where the keeper tells them, and how often the keeper failed
+pub record Start : Type 0 where
+  pub book : Book
+  pub list : List Event
+  pub seats : List Seated
+  pub state : State
+  pub told : Told
+  pub faults : ℕ
+
+-- There is a legal list, which goes on from the one that was seen, and whose state the cells are
+-- those of, and stand for, where the keeper tells them.
+pub record Closes (seen : List Event) (told : Told) : Type 0 where
+  pub list : List Event
+  pub later : IsPrefix seen list
+  pub legal : IsLegal list
+  pub cells : IfSome told (λ found. found ≡ cells (state_at list))
+  pub stand : StandFor told (state_at list)
+
+-- For private clauses: what holds of the parts of a store that was opened with this state. Nothing
+-- pends, the writer knows what is shown, and the list has the opening alone.
+pub record Begun (v : Known) (head : Named) (pending : List Addition) (shown : Published)
+    (s : State) (told : Told) : Type 0 where
+  pub none : pending ≡ []
+  pub knows : v ≡ notice shown
+  pub is_head : head ≡ head_of shown.mark.book
+  pub list : shown.mark.list ≡ Opened s told ∷ []
+  pub state : shown.snapshot.state ≡ s
+
+-- For private clauses: the state is valid, sound and kept, and all seats are new ones.
+pub record IsStart (start : Start) : Type 0 where
+  pub stands : Stands start.told start.state
+  pub seats : All (λ seat. seat ≡ newly_seated start.book start.list) start.seats

@@ -1,0 +1,221 @@
+//! Opening a store.
+ghost use Rattle.std.specs.Prelude.{◌≡◌, ◌≤◌, ◌∷◌, [], All, Err, IfErr, IfOk, IfSome, IsTrue};
+ghost use Rattle.std.specs.Prelude.{drop, length};
+ghost use Rattle.left_right.specs.Sides.{view};
+ghost use Rattle.an_keep.specs.Keeper.{StaysOrBegins};
+ghost use Rattle.an_rows.specs.Cells.{cells};
+ghost use Rattle.an_rows.specs.Valid.{is_valid};
+ghost use Rattle.an_shelf.specs.Opening.{StandFor, WasDamagedBy};
+ghost use Rattle.an_shelf.specs.Store.{Stands};
+ghost use Rattle.an_state.specs.Sound.{is_sound};
+ghost use Rattle.an_store.specs.Events.{Opened as Begins, IsLegal};
+ghost use Rattle.an_store.specs.Lists.{newly_seated};
+ghost use Rattle.an_store.specs.Opening.{Begun, IsStart};
+ghost use Rattle.an_store.specs.Rule.{notice};
+
+use crate::copy::look_at;
+use crate::history::{Head, begin};
+use crate::lock::{StoreWriter, publish};
+use crate::published::Published;
+use crate::seat::Seat;
+use crate::side::Side;
+use crate::store::Store;
+use crate::view::Naming;
+use an_keep::Keeper;
+use an_shelf::{Loaded, OpenError, load};
+use an_snapshot::Snapshot;
+use an_state::Book;
+use std::alloc::{AllocError, Global};
+use std::marker::Model;
+use std::sync::Wait;
+
+/// A store that was opened, which has no name yet, and its seats. It isn't `Drop`.
+pub struct Opened<K: Keeper> {
+    book: Book,
+    keeper: K,
+    head: Head,
+    writer: StoreWriter,
+    seats: Vec<Seat>,
+}
+
+impl<K: Keeper> Model for Opened<K> {
+    ghost use Rattle.std.specs.Prelude.{drop};
+    ghost use Rattle.std.specs.Coded.{codes};
+    ghost use Rattle.an_base.specs.TreeCode.{tree_code};
+    ghost use Rattle.left_right.specs.Sides.{view as known};
+    ghost use Rattle.an_store.specs.Opening.{Begun, IsStart, Start};
+
+    ghost Value = { Start };
+
+    ghost coded = { Prim.hlevel (codes, tree_code) };
+
+    ghost view = { λ o. record {
+      book = o.writer.desk.shown.value.mark.book;
+      list = o.writer.desk.shown.value.mark.list;
+      seats = o.seats.items;
+      state = o.book.state;
+      told = K.told o.keeper;
+      faults = K.faults o.keeper;
+    } };
+
+    ghost invariant = { λ o. Begun (known o.writer.desk.place) o.head
+        (drop o.writer.behind o.writer.log.items) o.writer.desk.shown.value
+        o.book.state (K.told o.keeper)
+        × IsStart (record {
+          book = o.writer.desk.shown.value.mark.book;
+          list = o.writer.desk.shown.value.mark.list;
+          seats = o.seats.items;
+          state = o.book.state;
+          told = K.told o.keeper;
+          faults = K.faults o.keeper;
+        }) };
+}
+
+/// Opens a keeper for so many seats: the state is the one that its cells stand for. Where it is
+/// refused, the keeper is gone, and no cell of it was changed.
+pub fn open_store<K: Keeper, R: Wait>(
+    rt: &R,
+    alloc: Global,
+    mut keeper: K,
+    seats: u32,
+) -> Result<Opened<K>, OpenError>
+    requires some { 1 ≤ seats }
+    requires few { seats ≤ 64 }
+    ensures state { IfOk result (λ store. StandFor store.told store.state) }
+    ensures stays { IfOk result (λ store. StaysOrBegins (K.told keeper) store.told) }
+    ensures cells { IfOk result (λ store. IfSome store.told (λ found. found
+        ≡ cells store.state)) }
+    ensures damaged { IfErr result (WasDamagedBy K.told (K.told keeper)) }
+    ensures sure { IsTrue K.is_sure → ¬ (result ≡ Err OpenError.Keeper) }
+
+    // Whether the cells are told or not.
+    ensures valid { IfOk result (λ store. IsTrue (is_valid store.state)) }
+    ensures sound { IfOk result (λ store. IsTrue (is_sound store.state)) }
+
+    // Each seat has seen the opening, and has nothing of its own.
+    ensures list { IfOk result (λ store. store.list ≡ Begins store.state store.told ∷ []) }
+    ensures number { IfOk result (λ store. length store.seats ≡ seats) }
+    ensures seats { IfOk result (λ store. All
+        (λ seat. seat ≡ newly_seated store.book store.list) store.seats) }
+{
+    let loaded = load(alloc, &mut keeper)?;
+    match begin_store(rt, alloc, keeper, loaded, seats) {
+        Ok(store) => Ok(store),
+        Err(_) => Err(OpenError::Memory),
+    }
+}
+
+/// The store of what was loaded.
+fn begin_store<K: Keeper, R: Wait>(
+    rt: &R,
+    alloc: Global,
+    keeper: K,
+    loaded: Loaded,
+    seats: u32,
+) -> Result<Opened<K>, AllocError>
+    requires some { 1 ≤ seats }
+    requires few { seats ≤ 64 }
+    requires stands { Stands (K.told keeper) loaded.book.state }
+    requires shown { loaded.snapshot.state ≡ loaded.book.state }
+    ensures state { IfOk result (λ store. store.state ≡ loaded.book.state) }
+    ensures told { IfOk result (λ store. store.told ≡ K.told keeper) }
+    ensures faults { IfOk result (λ store. store.faults ≡ K.faults keeper) }
+    ensures list { IfOk result (λ store. store.list ≡ Begins store.state store.told ∷ []) }
+    ensures number { IfOk result (λ store. length store.seats ≡ seats) }
+    ensures seats { IfOk result (λ store. All
+        (λ seat. seat ≡ newly_seated store.book store.list) store.seats) }
+{
+    let Loaded { book, snapshot } = loaded;
+    let (head, mut writer) = begin_writer(rt, alloc, &keeper, &book, snapshot, seats)?;
+    match make_seats(alloc, &mut writer, seats) {
+        Ok(seats) => Ok(Opened {
+            book,
+            keeper,
+            head,
+            writer,
+            seats,
+        }),
+        Err(error) => {
+            drop(writer.take(rt));
+            Err(error)
+        }
+    }
+}
+
+/// A history that begins here, and a writer that shows this state and knows it.
+fn begin_writer<K: Keeper, R: Wait>(
+    rt: &R,
+    alloc: Global,
+    keeper: &K,
+    book: &Book,
+    snapshot: Snapshot,
+    seats: u32,
+) -> Result<(Head, StoreWriter), AllocError>
+    requires some { 1 ≤ seats }
+    requires few { seats ≤ 64 }
+    requires stands { Stands (K.told keeper.now) book.now.state }
+    requires shown { snapshot.state ≡ book.now.state }
+    ensures begun { IfOk result (λ made. Begun (view made.1.desk.place) made.0
+        (drop made.1.behind made.1.log.items) made.1.desk.shown.value
+        book.now.state (K.told keeper.now)) }
+{
+    let other = look_at(alloc, book)?;
+    let (head, mark) = begin(book, keeper);
+    let first = Published {
+        snapshot,
+        mark: mark.again(),
+    };
+    let second = Published {
+        snapshot: other,
+        mark,
+    };
+    let writer = StoreWriter::new(alloc, first, second, seats as usize)?;
+    let (writer, published) = publish(writer, rt);
+    match published {
+        Ok(()) => Ok((head, writer)),
+        Err(error) => {
+            drop(writer.take(rt));
+            Err(error)
+        }
+    }
+}
+
+/// So many seats, which have seen what is published.
+fn make_seats(alloc: Global, writer: &mut StoreWriter, seats: u32) -> Result<Vec<Seat>, AllocError>
+    requires knows { view writer.old.desk.place ≡ notice writer.old.desk.shown.value }
+    requires legal { IsLegal writer.old.desk.shown.value.mark.list }
+    ensures seats { IfOk result (λ seats. All (λ seat. seat
+        ≡ newly_seated writer.old.desk.shown.value.mark.book
+        writer.old.desk.shown.value.mark.list) seats.items) }
+    ensures number { IfOk result (λ made. length made.items ≡ seats) }
+    ensures knows { view writer.new.desk.place ≡ view writer.old.desk.place }
+    ensures shown { writer.new.desk.shown ≡ writer.old.desk.shown }
+    ensures log { writer.new.log ≡ writer.old.log }
+    ensures behind { writer.new.behind ≡ writer.old.behind }
+{
+    let mut all = Vec::new(alloc);
+    for _ in 0..seats {
+        all.reserve(1)?;
+        let seat = Seat::new(writer)?;
+        all.push_reserved(seat);
+    }
+    Ok(all)
+}
+
+impl<K: Keeper> Opened<K> {
+    /// The store under a name, and its seats. It takes no memory.
+    pub fn named<J: Naming>(self) -> (Store<K, J>, Vec<Seat>)
+        requires book { self.book ≡ J.book }
+        ensures seats { result.1.items ≡ self.seats }
+        ensures seated { All (λ seat. seat ≡ newly_seated J.book self.list) result.1.items }
+    {
+        let Opened {
+            book,
+            keeper,
+            head,
+            writer,
+            seats,
+        } = self;
+        (Store::over(Side::new(book, keeper, head, writer)), seats)
+    }
+}
