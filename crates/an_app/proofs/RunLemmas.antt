@@ -22,7 +22,7 @@ use Rattle.an_lines.specs.Export.{export_report, export_told, view_named}
 use Rattle.an_app.specs.SessionEnds.{ended_status}
 use Rattle.an_lines.specs.Status.{Exchanges, Finds, IsUnfailing, Misunderstands, PrintsFront, ReadsLittle, misunderstood}
 use Rattle.an_lines.specs.Told.{IsTold, Tells}
-use Rattle.an_serve.specs.Events.{Keeps}
+use Rattle.an_laws.specs.Events.{Keeps}
 use Rattle.an_app.specs.Outside.{Outside, WasLeft, outside_of}
 use Rattle.an_app.specs.Runs.{ReadsInput, Runs}
 use Rattle.an_app.specs.declared.form.Form.{Form}
@@ -82,6 +82,7 @@ module _ (Cause : OpenError → Type 0) (Failed : Type 0) where
   unopened_unfailing old new status.Memory written run = tt
   unopened_unfailing old new (status.Damaged tab key) written run = tt
   unopened_unfailing old new status.NoReader written run = absurd run
+  unopened_unfailing old new status.DoorFailed written run = absurd run
 
   unopened_kept : (old new : Option Traffic) → ¬ (Cause error.Keeper) → Unopened Cause Failed old new status.KeeperFailed → ⊥
   unfolding Unopened
@@ -100,6 +101,7 @@ Unopened-for Cause Other Failed old new status.Refused other run = absurd run
 Unopened-for Cause Other Failed old new status.ReadFault other run = absurd run
 Unopened-for Cause Other Failed old new status.Misunderstood other run = absurd run
 Unopened-for Cause Other Failed old new status.NoReader other run = absurd run
+Unopened-for Cause Other Failed old new status.DoorFailed other run = absurd run
 
 -- why a keeper wasn't opened; the link isn't asked
 pub open_cause : {K : Type 0} (told_by : K → Told) (can_fail : Type 0) (keeper : K) (failed : OpenError) → (failed ≡ error.Keeper → can_fail) → WasDamagedBy told_by (told_by keeper) failed
@@ -175,6 +177,7 @@ module _ (outside : Outside) (clock : ℤ → Bool) (old new : Line) where
   find_unfailing site status.Memory read written run = tt
   find_unfailing site (status.Damaged tab key) read written run = tt
   find_unfailing site status.NoReader read written run = tt
+  find_unfailing site status.DoorFailed read written run = tt
 
   import_unfailing : (s t : State) (end : Status) → ¬ outside.read_failed → ¬ outside.write_failed → Imports outside.read_failed outside.write_failed outside.keeper_can_fail old.traffic new.traffic s t end → IsUnfailing end
   unfolding Imports
@@ -187,6 +190,7 @@ module _ (outside : Outside) (clock : ℤ → Bool) (old new : Line) where
   import_unfailing s t status.Memory read written run = tt
   import_unfailing s t (status.Damaged tab key) read written run = tt
   import_unfailing s t status.NoReader read written run = tt
+  import_unfailing s t status.DoorFailed read written run = tt
 
   export_told-is : (view : Option View) → IsTold (export_told view).status
   export_told-is None = tt

@@ -3,7 +3,7 @@ use Rattle.an_keep.specs.Keeper.{Told}
 use Rattle.an_state.specs.State.{State}
 use Rattle.an_shelf.specs.Opening.{WasDamagedBy, WasOpened}
 use Rattle.an_shelf.specs.declared.error.OpenError.{OpenError}
-use Rattle.an_serve.specs.Events.{Keeps}
+use Rattle.an_laws.specs.Events.{Keeps}
 
 pub record Outside : Type 1 where
   -- a read of the link failed: its count of them rose

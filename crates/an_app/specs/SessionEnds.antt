@@ -8,7 +8,8 @@ use Rattle.an_session.specs.Trail.{Known}
 use Rattle.an_session.specs.declared.ended.Ended.{Ended}
 use Rattle.an_session.specs.declared.ended.Ended.TheVariants as ended
 use Rattle.an_serve.specs.AtDesk.{Connection}
-use Rattle.an_serve.specs.Events.{Event, IsLegal, opened, state_at, told_at}
+use Rattle.an_laws.specs.Events.{Event, IsLegal, state_at, told_at}
+use Rattle.an_serve.specs.Events.{opened}
 use Rattle.an_app.specs.Outside.{Outside}
 use Rattle.an_app.specs.Unopened.{IsCause, Unopened}
 use Rattle.an_lines.specs.declared.status.Status.{Status}

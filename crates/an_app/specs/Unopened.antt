@@ -9,7 +9,7 @@ use Rattle.an_lines.specs.Status.{Exchanges, PrintsFront}
 use Rattle.an_lines.specs.declared.status.Status.{Status}
 use Rattle.an_lines.specs.declared.status.Status.TheVariants.{Done, WriteFault, Misunderstood}
 use Rattle.an_lines.specs.declared.status.Status.TheVariants.{Refused, KeeperFailed, ReadFault}
-use Rattle.an_lines.specs.declared.status.Status.TheVariants.{Memory, Damaged, NoReader}
+use Rattle.an_lines.specs.declared.status.Status.TheVariants.{DoorFailed, Memory, Damaged, NoReader}
 
 -- what is printed where the cells stand for no state, and this one is the first damaged one
 abbrev pub damage_text : ℕ → ℕ → List ℕ
@@ -38,6 +38,7 @@ Unopened Cause Failed old new Refused = ⊥
 Unopened Cause Failed old new ReadFault = ⊥
 Unopened Cause Failed old new Misunderstood = ⊥
 Unopened Cause Failed old new NoReader = ⊥
+Unopened Cause Failed old new DoorFailed = ⊥
 
 -- what may keep a store from being opened
 abbrev pub IsCause : Outside → OpenError → Type 0

@@ -23,3 +23,4 @@ pub mod UnseenLemmas
 pub mod ValidLemmas
 pub mod ValidStepLemmas
 pub mod AcceptedLemmas
+pub mod KeptLemmas

@@ -1,3 +1,4 @@
 pub mod Numbers
 pub mod Coherent
 pub mod Isolation
+pub mod Events

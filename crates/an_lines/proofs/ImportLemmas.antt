@@ -182,6 +182,7 @@ module _ (Unread Unkept : Type 0) (s t : State) (new : Option Traffic) (input te
   comes_as status.Memory either whole all = absurd (⊎_elim (λ e. cc) (λ e. cc) either)
   comes_as (status.Damaged tab key) either whole all = absurd (⊎_elim (λ e. cc) (λ e. cc) either)
   comes_as status.NoReader either whole all = absurd (⊎_elim (λ e. cc) (λ e. cc) either)
+  comes_as status.DoorFailed either whole all = absurd (⊎_elim (λ e. cc) (λ e. cc) either)
 
   pub comes_all : (end : Status) → IsReadWhole input new → LeavesAll s input end text t → Comes Unread Unkept s t new input end text
   comes_all end whole all =
@@ -202,6 +203,7 @@ module _ (Unread Failed Unkept : Type 0) (s t : State) where
   told_whole old new status.Memory told = absurd told.comes
   told_whole old new (status.Damaged tab key) told = absurd told.comes
   told_whole old new status.NoReader told = absurd told.comes
+  told_whole old new status.DoorFailed told = absurd told.comes
 
   told_front : (old new : Option Traffic) → Failed → TellsFront (Comes Unread Unkept s t new) old new → Imports Unread Failed Unkept old new s t status.WriteFault
   unfolding Imports
@@ -234,6 +236,7 @@ comes_kept Unread Unkept Unkept' s t new input text status.Misunderstood f comes
 comes_kept Unread Unkept Unkept' s t new input text status.Memory f comes = comes
 comes_kept Unread Unkept Unkept' s t new input text (status.Damaged tab key) f comes = comes
 comes_kept Unread Unkept Unkept' s t new input text status.NoReader f comes = comes
+comes_kept Unread Unkept Unkept' s t new input text status.DoorFailed f comes = comes
 
 module _ (Unread Failed Unkept Unkept' : Type 0) (old new : Option Traffic) (s t : State) (f : Unkept → Unkept') where
   whole_kept : (end : Status) → TellsWhole (Comes Unread Unkept s t new) old new end → TellsWhole (Comes Unread Unkept' s t new) old new end
@@ -264,3 +267,4 @@ module _ (Unread Failed Unkept Unkept' : Type 0) (old new : Option Traffic) (s t
   Imports-kept status.Misunderstood i = i
   Imports-kept (status.Damaged tab key) i = i
   Imports-kept status.NoReader i = i
+  Imports-kept status.DoorFailed i = i

@@ -124,6 +124,7 @@ module _ (site : Site) (Unread Failed : Type 0) where
   reported old new status.Memory either reports = absurd (⊎_elim (λ e. cc) (λ e. cc) either)
   reported old new (status.Damaged tab key) either reports = absurd (⊎_elim (λ e. cc) (λ e. cc) either)
   reported old new status.NoReader either reports = absurd (⊎_elim (λ e. cc) (λ e. cc) either)
+  reported old new status.DoorFailed either reports = absurd (⊎_elim (λ e. cc) (λ e. cc) either)
 
   pub Finds-reported : (input : List ℕ) (report : Report) (old mid new : Option Traffic) → report ≡ report_of site input → Reads input old mid
       → IsReadWhole input mid → Writes report.text mid new → Finds site Unread Failed old new report.status
@@ -175,6 +176,7 @@ told_whole Failed status.WriteFault text old new is told = absurd is
 told_whole Failed status.Refused text old new is told = absurd is
 told_whole Failed status.KeeperFailed text old new is told = absurd is
 told_whole Failed status.ReadFault text old new is told = absurd is
+told_whole Failed status.DoorFailed text old new is told = absurd is
 told_whole Failed status.Memory text old new is told = absurd is
 told_whole Failed (status.Damaged tab key) text old new is told = absurd is
 
@@ -209,9 +211,14 @@ TellsReport-unfailing report Failed old new status.KeeperFailed is written run =
 TellsReport-unfailing report Failed old new status.Memory is written run = tt
 TellsReport-unfailing report Failed old new (status.Damaged tab key) is written run = tt
 TellsReport-unfailing report Failed old new status.NoReader is written run = tt
+TellsReport-unfailing report Failed old new status.DoorFailed is written run = tt
 
 pub TellsReport-kept : (report : Report) (Failed : Type 0) (old new : Option Traffic) → IsTold report.status → TellsReport report Failed old new status.KeeperFailed → ⊥
 unfolding TellsReport
 TellsReport-kept report Failed old new is run = subst IsTold run.0 is
+
+pub TellsReport-shut : (report : Report) (Failed : Type 0) (old new : Option Traffic) → IsTold report.status → TellsReport report Failed old new status.DoorFailed → ⊥
+unfolding TellsReport
+TellsReport-shut report Failed old new is run = subst IsTold run.0 is
 
 pub ruleset ends_of_find = (Finds-no_memory, reads_little-only)

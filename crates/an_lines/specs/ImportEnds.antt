@@ -10,7 +10,7 @@ use Rattle.an_lines.specs.Status.{Exchanges, PrintsFront, read_fault_text}
 use Rattle.an_lines.specs.declared.status.Status.{Status}
 use Rattle.an_lines.specs.declared.status.Status.TheVariants.{Done, WriteFault, Misunderstood}
 use Rattle.an_lines.specs.declared.status.Status.TheVariants.{Refused, KeeperFailed, ReadFault}
-use Rattle.an_lines.specs.declared.status.Status.TheVariants.{Memory, Damaged, NoReader}
+use Rattle.an_lines.specs.declared.status.Status.TheVariants.{DoorFailed, Memory, Damaged, NoReader}
 
 -- what is printed where the keeper failed
 abbrev pub keeper_fault_text : List ℕ
@@ -69,6 +69,7 @@ Comes Unread Unkept s t new input Misunderstood text = ⊥
 Comes Unread Unkept s t new input Memory text = ⊥
 Comes Unread Unkept s t new input (Damaged tab key) text = ⊥
 Comes Unread Unkept s t new input NoReader text = ⊥
+Comes Unread Unkept s t new input DoorFailed text = ⊥
 
 -- memory ran out behind some of the lines, and nothing was printed
 pub record RunsOut (s t : State) (old new : Option Traffic) : Type 0 where
@@ -93,3 +94,4 @@ Imports Unread Failed Unkept old new s t Memory = RunsOut s t old new
 Imports Unread Failed Unkept old new s t Misunderstood = ⊥
 Imports Unread Failed Unkept old new s t (Damaged tab key) = ⊥
 Imports Unread Failed Unkept old new s t NoReader = ⊥
+Imports Unread Failed Unkept old new s t DoorFailed = ⊥

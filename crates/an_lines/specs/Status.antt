@@ -7,7 +7,7 @@ use Rattle.an_lines.specs.Input.{input_limit, IsReadWhole}
 use Rattle.an_lines.specs.declared.status.Status.{Status}
 use Rattle.an_lines.specs.declared.status.Status.TheVariants.{Done, WriteFault, Misunderstood}
 use Rattle.an_lines.specs.declared.status.Status.TheVariants.{Refused, KeeperFailed, ReadFault}
-use Rattle.an_lines.specs.declared.status.Status.TheVariants.{Memory, Damaged, NoReader}
+use Rattle.an_lines.specs.declared.status.Status.TheVariants.{DoorFailed, Memory, Damaged, NoReader}
 
 -- bytes were read, and others written, and nothing else moved
 pub record Moves (input output : List ℕ) (old new : Traffic) : Type 0 where
@@ -41,6 +41,7 @@ IsUnfailing KeeperFailed = ⊤
 IsUnfailing Memory = ⊤
 IsUnfailing (Damaged tab key) = ⊤
 IsUnfailing NoReader = ⊤
+IsUnfailing DoorFailed = ⊤
 
 -- ---- nothing is read
 
@@ -89,6 +90,7 @@ Finds site Unread Failed old new Misunderstood = ⊥
 Finds site Unread Failed old new KeeperFailed = ⊥
 Finds site Unread Failed old new (Damaged tab key) = ⊥
 Finds site Unread Failed old new NoReader = ⊥
+Finds site Unread Failed old new DoorFailed = ⊥
 
 -- little more is read than an input may have
 pub record ReadsLittle (old new : Option Traffic) : Type 0 where

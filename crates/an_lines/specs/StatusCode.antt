@@ -10,6 +10,7 @@ status_code status.Misunderstood = 2
 status_code status.Refused = 3
 status_code status.KeeperFailed = 4
 status_code status.ReadFault = 5
+status_code status.DoorFailed = 5
 status_code status.Memory = 6
 status_code (status.Damaged tab key) = 7
 status_code status.NoReader = 8

@@ -16,6 +16,8 @@ pub enum Status {
     KeeperFailed,
     /// A read failed.
     ReadFault,
+    /// The door at which links come in failed.
+    DoorFailed,
     /// Memory ran out, and nothing was printed.
     Memory,
     /// The cells of the store stand for no state. This one is the first that is damaged.
@@ -36,6 +38,7 @@ impl Status {
             Status::Refused => 3,
             Status::KeeperFailed => 4,
             Status::ReadFault => 5,
+            Status::DoorFailed => 5,
             Status::Memory => 6,
             Status::Damaged { .. } => 7,
             Status::NoReader => 8,

@@ -1,5 +1,6 @@
 -- The lists of one term, by class.
-use Rattle.std.specs.Prelude.{ℕ, ◌-◌, List, [], ◌∷◌, vec_len, vec_capacity, ⊤}
+use Rattle.std.specs.Prelude.{ℕ, ◌-◌, List, [], ◌∷◌, ⊤}
+use Rattle.std.specs.VecDeque.{deque_len, deque_capacity}
 use Rattle.an_slots.specs.Classed.{Ascends, told_at}
 use Rattle.an_slots.specs.Places.{Rises}
 use Rattle.an_postings.specs.declared.class_lists.ClassPlaces.{ClassPlaces}
@@ -12,7 +13,7 @@ places_of l = l.places.items
 
 -- for how many more places there is memory
 abbrev pub room_of : ClassPlaces → ℕ
-room_of l = vec_capacity l.places - vec_len l.places
+room_of l = deque_capacity l.places - deque_len l.places
 
 -- the places of a class
 abbrev pub places_at : List ClassPlaces → ℕ → List ℕ

@@ -7,13 +7,16 @@ ghost use Rattle.an_postings.specs.Lists.{IsOrdered, class_of, places_at, room_a
 use crate::gather::{classes_of, places_in};
 use crate::places::{add_to, remove_from};
 use std::alloc::{AllocError, Global};
+use std::collections::VecDeque;
 use std::marker::Model;
 
-/// The places of one term in the rows of one class, ascending.
+/// The places of one term in the rows of one class, ascending. They stand in a deque, where a place
+/// goes out of either end at the cost of the shorter side: so the deletion of a whole manifest,
+/// whose places go one after the other, is linear.
 #[derive(Drop)]
 pub struct ClassPlaces {
     pub class: usize,
-    pub places: Vec<u32>,
+    pub places: VecDeque<u32>,
 }
 
 /// The lists of one term, ascending by class. Contracts see these lists.
@@ -122,7 +125,7 @@ fn begin_at(
     ensures places { (c : ℕ) → places_at lists.new.items c ≡ places_at lists.old.items c }
     ensures kept { (c : ℕ) → room_at lists.old.items c ≤ room_at lists.new.items c }
 {
-    let mut places = Vec::new(*lists.allocator());
+    let mut places = VecDeque::new(*lists.allocator());
     places.reserve(room)?;
     match lists.insert(at, ClassPlaces { class, places }) {
         Ok(()) => Ok(()),

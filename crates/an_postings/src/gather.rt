@@ -1,4 +1,4 @@
-ghost use Rattle.std.specs.Prelude.{◌≡◌, [], IfOk, map, flat_map, ℕ, false};
+ghost use Rattle.std.specs.Prelude.{◌≡◌, [], ◌++◌, IfOk, OnOk, map, flat_map, ℕ, false};
 ghost use Rattle.an_slots.specs.Places.{Rises, ascending, has};
 ghost use Rattle.an_postings.specs.Gather.{AllRise, picked};
 ghost use Rattle.an_postings.specs.Lists.{IsOrdered, class_of, places_at};
@@ -8,6 +8,7 @@ use crate::merge::{merged, wide};
 use crate::sorted::sorted;
 use an_slots::is_among;
 use std::alloc::{AllocError, Global};
+use std::collections::VecDeque;
 
 /// The places of these classes, ascending, each once.
 pub(crate) fn places_in(
@@ -24,7 +25,7 @@ pub(crate) fn places_in(
     widened(alloc, chosen.as_slice())
 }
 
-/// The lists of these classes.
+/// The lists of these classes, each as the runs in which it stands in memory.
 fn chosen<'a>(
     alloc: Global,
     lists: &'a [ClassPlaces],
@@ -39,10 +40,27 @@ fn chosen<'a>(
     let mut chosen = Vec::new(alloc);
     for list in lists {
         if is_among(classes, list.class) {
-            chosen.push(list.places.as_slice())?;
+            choose(&mut chosen, &list.places)?;
         }
     }
     Ok(chosen)
+}
+
+/// Adds the two runs in which a list stands in memory, the second where it isn't empty.
+fn choose<'a>(chosen: &mut Vec<&'a [u32]>, list: &'a VecDeque<u32>) -> Result<(), AllocError>
+    requires list { Rises 0 list.now.items }
+    requires chosen { AllRise chosen.old.items }
+    ensures added { OnOk result (flat_map (λ l. l.now) chosen.new.items
+        ≡ flat_map (λ l. l.now) chosen.old.items ++ list.now.items) }
+    ensures rise { OnOk result (AllRise chosen.new.items) }
+{
+    let (front, back) = list.as_slices();
+    chosen.push(front)?;
+    if back.is_empty() {
+        return Ok(());
+    }
+    chosen.push(back)?;
+    Ok(())
 }
 
 /// One list is copied, a few are merged, and many, which are mostly short, are sorted.

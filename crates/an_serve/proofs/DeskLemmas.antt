@@ -30,11 +30,13 @@ use Rattle.an_state.specs.declared.command.Command.{Command}
 use Rattle.an_state.specs.declared.entry.Entry.{Entry}
 use Rattle.an_answers.specs.Answer.{refusal_reply, write_answer}
 use Rattle.an_serve.specs.AtDesk.{Connection, IsAnswer, IsCounted, IsWritten, StandsFor, added_by, desk_rules}
-use Rattle.an_serve.specs.Events.{AreKept, Event, IsLegal, Keeps, Opened, Wrote, opened, state_at, state_behind, told_at, told_behind}
+use Rattle.an_laws.specs.Events.{AreKept, Event, IsLegal, Keeps, Opened, Wrote, state_at, state_behind, told_at, told_behind}
+use Rattle.an_serve.specs.Events.{opened}
 use Rattle.an_serve.specs.Respond.{response_of}
-use Rattle.an_serve.specs.Setting.{DeskComes, DeskRests, told_reply}
-use Rattle.an_serve.specs.declared.respond.Response.{Response}
-use Rattle.an_serve.specs.declared.respond.Response.TheVariants as response
+use Rattle.an_serve.specs.Setting.{DeskComes, DeskRests}
+use Rattle.an_serve.specs.Told.{told_reply}
+use Rattle.an_serve.specs.declared.responding.Response.{Response}
+use Rattle.an_serve.specs.declared.responding.Response.TheVariants as response
 
 -- ---- counts
 
@@ -88,7 +90,7 @@ state-added : (s : State) (moment : ℤ) (caller : Caller) (command : Command) (
 state-added s moment caller command None = refl
 state-added s moment caller command (Some entry) = refl
 
-not-kept : (Unsure : Type 0) (site : Site) (methods : Allow) (moment : ℤ) (caller : Caller) (command : Command) (decided : Result Decided Refused) → IsToKeep decided → Unsure
+pub not-kept : (Unsure : Type 0) (site : Site) (methods : Allow) (moment : ℤ) (caller : Caller) (command : Command) (decided : Result Decided Refused) → IsToKeep decided → Unsure
     → IsWritten Unsure site methods moment caller command decided (refusal_reply methods code.Keeper) [] 1
 not-kept Unsure site methods moment caller command (Ok decided) entry unsure = inr (unsure, entry, refl, refl, refl)
 not-kept Unsure site methods moment caller command (Err why) entry unsure = absurd entry

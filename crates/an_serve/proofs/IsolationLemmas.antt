@@ -17,7 +17,7 @@ use Rattle.an_routes.specs.declared.kinds.Route.{Route}
 use Rattle.an_routes.specs.declared.kinds.Route.TheVariants as route
 use Rattle.an_routes.specs.declared.kinds.RouteError.{RouteError}
 use Rattle.an_routes.specs.declared.kinds.RouteError.TheVariants as error
-use Rattle.an_serve.specs.declared.respond.Response.TheVariants as response
+use Rattle.an_serve.specs.declared.responding.Response.TheVariants as response
 
 module _ (site : Site) (s t : State) where
   read_alike : (prefer : Prefer) (read : Read) (who : Option Caller) → IfSome who (SeesAlike s t) → read_response site s who prefer read ≡ read_response site t who prefer read

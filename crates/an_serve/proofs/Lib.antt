@@ -1,5 +1,4 @@
 pub mod DeskLemmas
-pub mod KeptLemmas
 pub mod RespondLemmas
 pub mod SendableLemmas
 pub mod IsolationLemmas

@@ -7,7 +7,7 @@ use Rattle.an_serve.specs.Respond.{response_of, route_response}
 use Rattle.an_routes.specs.Routes.{route_of}
 use Rattle.an_routes.specs.declared.kinds.RouteError.{RouteError}
 use Rattle.an_routes.specs.declared.kinds.RouteError.TheVariants as error
-use Rattle.an_serve.specs.declared.respond.Response.{Response}
+use Rattle.an_serve.specs.declared.responding.Response.{Response}
 
 pub nowhere : {E : Type 0} (site : Site) (s : State) (request : Request) (failed : RouteError) (result : Result Response E)
     → IfOk result (λ response. response ≡ route_response site s request (Err failed)) → IfOk result (λ _. ¬ (failed ≡ error.Memory))

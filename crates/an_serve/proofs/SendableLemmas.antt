@@ -20,7 +20,7 @@ use Rattle.an_routes.specs.declared.kinds.RouteError.TheVariants as error
 use Rattle.an_routes.specs.declared.kinds.WriteRoute.{WriteRoute}
 use Rattle.an_routes.proofs.SendableLemmas.{Routes, commands, routes}
 use Rattle.an_serve.specs.Respond.{caller_of, command_response, is_read, is_sendable_response, query_response, read_response, response_of, route_response, write_response}
-use Rattle.an_serve.specs.declared.respond.Response.{Response}
+use Rattle.an_serve.specs.declared.responding.Response.{Response}
 
 responds-query : (s : State) (caller : Option Caller) (reads : Bool) (methods : Allow) (refusal : Code) → is_sendable_response (query_response s caller reads methods refusal) ≡ true
 responds-query s None reads methods refusal = refl

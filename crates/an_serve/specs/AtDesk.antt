@@ -22,10 +22,10 @@ use Rattle.an_state.specs.State.{State}
 use Rattle.an_state.specs.declared.command.Command.{Command}
 use Rattle.an_state.specs.declared.entry.Entry.{Entry}
 use Rattle.an_answers.specs.Answer.{refusal_reply, write_answer}
-use Rattle.an_serve.specs.Events.{Event, Wrote, IsLegal, Keeps, state_at, told_at}
+use Rattle.an_laws.specs.Events.{Event, Wrote, IsLegal, Keeps, state_at, told_at}
 use Rattle.an_serve.specs.Respond.{response_of}
-use Rattle.an_serve.specs.declared.respond.Response.{Response}
-use Rattle.an_serve.specs.declared.respond.Response.TheVariants as response
+use Rattle.an_serve.specs.declared.responding.Response.{Response}
+use Rattle.an_serve.specs.declared.responding.Response.TheVariants as response
 
 -- ---- one request
 

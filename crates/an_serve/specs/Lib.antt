@@ -1,4 +1,5 @@
 pub mod Respond
+pub mod Told
 pub mod Events
 pub mod AtDesk
 pub mod Setting

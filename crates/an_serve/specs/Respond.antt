@@ -31,8 +31,8 @@ use Rattle.an_routes.specs.declared.kinds.Route.TheVariants as route
 use Rattle.an_routes.specs.declared.kinds.RouteError.{RouteError}
 use Rattle.an_routes.specs.declared.kinds.RouteError.TheVariants as error
 use Rattle.an_routes.specs.declared.kinds.WriteRoute.{WriteRoute}
-use Rattle.an_serve.specs.declared.respond.Response.{Response}
-use Rattle.an_serve.specs.declared.respond.Response.TheVariants as response
+use Rattle.an_serve.specs.declared.responding.Response.{Response}
+use Rattle.an_serve.specs.declared.responding.Response.TheVariants as response
 
 -- who sends a request; there is nobody where its Authorization says something else than a token
 -- (RFC 6750, section 2.1)

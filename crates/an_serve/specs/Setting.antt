@@ -1,30 +1,17 @@
--- For private clauses: by what a desk answers, and what it answers to a write.
-use Rattle.std.specs.Prelude.{◌≡◌, ◌≤◌, ◌+◌, ℕ, ℤ, List, Bool, IsSome, Result, Ok, Err}
-use Rattle.an_code.specs.declared.code.Code.TheVariants as code
-use Rattle.an_http.specs.declared.reply.Allow.{Allow}
+-- For private clauses: by what a desk answers, and what it comes to.
+use Rattle.std.specs.Prelude.{◌≡◌, ◌≤◌, ◌+◌, ℕ, ℤ, List, Bool, IsSome}
 use Rattle.an_http.specs.declared.reply.Reply.{Reply}
 use Rattle.an_machine.specs.Legal.{Write, state_of}
-use Rattle.an_machine.specs.declared.command.WriteReply.{WriteReply}
 use Rattle.an_search.specs.Site.{Site}
 use Rattle.an_shelf.specs.Store.{Store}
-use Rattle.an_shelf.specs.declared.error.WriteError.{WriteError}
-use Rattle.an_shelf.specs.declared.error.WriteError.TheVariants as error
-use Rattle.an_answers.specs.Answer.{refusal_reply, write_answer}
 use Rattle.an_serve.specs.AtDesk.{IsAnswer, IsCounted}
-use Rattle.an_serve.specs.Events.{Keeps}
-use Rattle.an_serve.specs.declared.respond.Response.{Response}
+use Rattle.an_laws.specs.Events.{Keeps}
+use Rattle.an_serve.specs.declared.responding.Response.{Response}
 
 -- the settings, and the clock
 pub record Setting (C : Type 0) : Type 0 where
   pub site : Site
   pub clock : C
-
--- the reply to a write; want of memory is told otherwise
-abbrev pub told_reply : Site → Allow → Result WriteReply WriteError → Reply
-told_reply site methods (Ok reply) = write_answer site methods (Ok reply)
-told_reply site methods (Err (error.Refused refused)) = write_answer site methods (Err refused)
-told_reply site methods (Err error.Keeper) = refusal_reply methods code.Keeper
-told_reply site methods (Err error.Memory) = refusal_reply methods code.Keeper
 
 -- a desk came to this reply, and its state to another, which is kept, and the faults that it met are
 -- counted

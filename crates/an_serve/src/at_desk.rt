@@ -1,24 +1,22 @@
-ghost use Rattle.std.specs.Prelude.{◌≡◌, ◌≤◌, ◌⊎◌, IfOk, IfSome, IsSome, IsTrue, OnErr, Err};
+ghost use Rattle.std.specs.Prelude.{◌≡◌, ◌≤◌, ◌⊎◌, IfOk, IfSome, IsSome, IsTrue, OnErr};
 ghost use Rattle.an_base.specs.Moment.{IsMoment};
 ghost use Rattle.an_http.specs.declared.reply.Reply.{Reply};
 ghost use Rattle.an_rows.specs.Cells.{cells};
 ghost use Rattle.an_session.specs.Session.{ReadsRequests, line};
 ghost use Rattle.an_session.specs.Trail.{Comes, Goes};
 ghost use Rattle.an_serve.specs.AtDesk.{Connection, StandsFor};
-ghost use Rattle.an_serve.specs.Setting.{DeskComes, DeskKeeps, DeskRests, told_reply};
+ghost use Rattle.an_serve.specs.Setting.{DeskComes, DeskKeeps, DeskRests};
 ghost use Rattle.an_state.specs.Commands.{is_sendable};
 
-use crate::respond::{Response, respond};
-use an_answers::{refusal_reply, write_answer};
+use crate::responding::{Response, respond};
+use crate::told::told_reply;
 use an_base::Moment;
-use an_code::Code;
 use an_http::{Allow, Reply, Request};
 use an_keep::Keeper;
-use an_machine::WriteReply;
 use an_policy::Caller;
 use an_search::Settings;
 use an_session::{Ended, Service, serve_link};
-use an_shelf::{Desk, WriteError};
+use an_shelf::Desk;
 use an_state::Command;
 use an_world::{Clock, Link};
 use std::alloc::{AllocError, Global};
@@ -90,7 +88,7 @@ impl<'a, C: Clock> Context<'a, C> {
 impl<'a, K: Keeper, C: Clock> Service<Context<'a, C>> for Desk<K> {
     ghost use Rattle.std.specs.Prelude.{IsTrue};
     ghost use Rattle.an_serve.specs.AtDesk.{StandsFor, desk_rules};
-    ghost use Rattle.an_serve.specs.Events.{Event};
+    ghost use Rattle.an_laws.specs.Events.{Event};
     ghost use Rattle.an_serve.specs.Setting.{DeskKeeps};
     ghost use Rattle.std.proofs.Math.Nat.{le_refl, le_trans};
 
@@ -149,27 +147,5 @@ fn write<K: Keeper, C: Clock>(
 {
     let moment = context.moment();
     let written = desk.write(alloc, moment, &caller, command);
-    told_reply(alloc, context, allow, written)
-}
-
-/// The reply to a write.
-fn told_reply<C: Clock>(
-    alloc: Global,
-    context: &Context<'_, C>,
-    allow: Allow,
-    written: Result<WriteReply, WriteError>,
-) -> Result<Reply, AllocError>
-    ensures reply { IfOk result (λ reply. reply ≡ told_reply context.now.site allow written) }
-    ensures memory { IfOk result (λ _. ¬ (written ≡ Err WriteError.Memory)) }
-{
-    match written {
-        Ok(reply) => write_answer(alloc, context.settings(), allow, &Ok(reply)),
-        Err(error) => match error {
-            WriteError::Refused(refused) => {
-                write_answer(alloc, context.settings(), allow, &Err(refused))
-            }
-            WriteError::Keeper => refusal_reply(alloc, allow, Code::Keeper),
-            WriteError::Memory => Err(AllocError),
-        },
-    }
+    told_reply(alloc, context.settings(), allow, written)
 }

@@ -2,8 +2,9 @@
 #![tactic(auto)]
 
 pub use at_desk::session_at_desk;
-pub use laws::writes_are_kept;
+pub use responding::{Response, respond};
+pub use told::told_reply;
 
 mod at_desk;
-mod laws;
-mod respond;
+mod responding;
+mod told;

@@ -160,13 +160,19 @@ impl<K: Keeper> Desk<K> {
 
     /// Gives the keeper back, whose cells are those of the state, and stand for it. It takes no
     /// memory.
-    #[tactic(auto, using(crate::proofs::ClosingLemmas::closing))]
     pub fn into_keeper(self) -> K
         ensures told { K.told result ≡ self.told }
         ensures faults { K.faults result ≡ self.faults }
         ensures cells { IfSome self.told (λ found. found ≡ cells self.state) }
         ensures stand { StandFor self.told self.state }
     {
-        self.keeper
+        let Desk {
+            keeper,
+            book,
+            front,
+        } = self;
+        drop(book);
+        drop(front);
+        keeper
     }
 }

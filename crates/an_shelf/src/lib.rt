@@ -5,12 +5,14 @@
 pub use closing::reopen;
 pub use desk::Desk;
 pub use error::{OpenError, WriteError};
+pub use keeping::{decide, put};
 pub use opening::{Loaded, load};
 
 mod closing;
 mod desk;
 mod error;
 mod front;
+mod keeping;
 mod opening;
 mod restoring;
 mod writing;

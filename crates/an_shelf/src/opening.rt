@@ -32,10 +32,9 @@ impl Loaded {
         ensures empty { result.book.state ≡ empty }
         ensures shown { result.snapshot.state ≡ result.book.state }
     {
-        Loaded {
-            book: Book::new(alloc),
-            snapshot: Snapshot::new(alloc),
-        }
+        let book = Book::new(alloc);
+        let snapshot = Snapshot::new(alloc);
+        Loaded { book, snapshot }
     }
 }
 

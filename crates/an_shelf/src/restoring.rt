@@ -3,7 +3,7 @@ ghost use Rattle.std.specs.Prelude.{◌≡◌, ◌+◌, ◌<◌, ◌≤◌, ◌^
 ghost use Rattle.std.specs.Prelude.{OnOk, Ok};
 ghost use Rattle.std.specs.List.{list_any};
 ghost use Rattle.an_snapshot.specs.Fits.{fits};
-ghost use Rattle.an_state.specs.Entries.{after};
+ghost use Rattle.an_state.specs.Entries.{after, needs};
 ghost use Rattle.an_state.specs.Sound.{is_live_manifest, stands_on_live};
 ghost use Rattle.an_state.specs.State.{live_readers, manifest_key, note_key, reader_key};
 ghost use Rattle.an_rows.specs.Cells.{has_its_token, has_key, if_next, may_follow, row_behind};
@@ -41,16 +41,26 @@ pub(crate) fn restore(alloc: Global, loaded: &mut Loaded, cell: &Cell) -> Result
 }
 
 /// Puts an entry that fits, and shows it.
-#[tactic(auto, using(crate::proofs::FrontLemmas::showing))]
 fn put(book: &mut Book, snapshot: &mut Snapshot, entry: Entry) -> Result<(), AllocError>
     requires fits { IsTrue (fits book.old.state entry) }
     requires shown { snapshot.old.state ≡ book.old.state }
     ensures put { OnOk result (book.new.state ≡ after book.old.state entry) }
     ensures shown { OnOk result (snapshot.new.state ≡ book.new.state) }
 {
-    book.room(&entry)?;
-    snapshot.apply(&entry)?;
+    show(book, snapshot, &entry)?;
     book.apply(entry);
+    Ok(())
+}
+
+/// Takes the memory to put an entry that fits, and shows it.
+fn show(book: &mut Book, snapshot: &mut Snapshot, entry: &Entry) -> Result<(), AllocError>
+    requires fits { IsTrue (fits snapshot.old.state entry.now) }
+    ensures room { OnOk result (needs entry.now ≤ book.new.room) }
+    ensures still { book.new.state ≡ book.old.state }
+    ensures shown { OnOk result (snapshot.new.state ≡ after snapshot.old.state entry.now) }
+{
+    book.room(entry)?;
+    snapshot.apply(entry)?;
     Ok(())
 }
 

@@ -1,28 +1,26 @@
 //! A write, on the parts of a desk.
-ghost use Rattle.std.specs.Prelude.{◌≡◌, ◌≤◌, Err, IfErr, IfOk, IfSome, IsSome, IsTrue, None, Ok};
-ghost use Rattle.std.specs.Prelude.{OnErr, OnOk};
+ghost use Rattle.std.specs.Prelude.{◌≡◌, ◌≤◌, Err, IfErr, IfOk, IfSome, IsSome, IsTrue, None};
+ghost use Rattle.std.specs.Prelude.{OnOk};
 ghost use Rattle.an_base.specs.Faults.{Rises};
-ghost use Rattle.an_keep.specs.Cells.{put_changes};
 ghost use Rattle.an_keep.specs.Keeper.{Stays, Turns};
 ghost use Rattle.an_state.specs.Commands.{is_sendable, is_write};
-ghost use Rattle.an_state.specs.Entries.{after, needs, state_after};
+ghost use Rattle.an_state.specs.Entries.{state_after};
 ghost use Rattle.an_machine.specs.Step.{step};
 ghost use Rattle.an_rows.specs.Cells.{cells};
-ghost use Rattle.an_rows.specs.Changes.{changes_of, is_settled};
-ghost use Rattle.an_snapshot.specs.Fits.{fits};
+ghost use Rattle.an_rows.specs.Changes.{is_settled};
 ghost use Rattle.an_shelf.specs.Front.{CanShow, Stops, all_shown, behind, desk_of};
 ghost use Rattle.an_shelf.specs.Store.{Stands};
-ghost use Rattle.an_shelf.specs.Writing.{IsRefused, RunsOut, Writes, refusal_error};
+ghost use Rattle.an_shelf.specs.Writing.{IsRefused, RunsOut, Writes};
 
 use crate::error::WriteError;
 use crate::front::Front;
-use an_base::{Moment, TryCopy};
-use an_keep::{KeepError, Keeper};
+use crate::keeping::{decide, put};
+use an_base::Moment;
+use an_keep::Keeper;
 use an_machine::{Decided, Refused, WriteReply};
 use an_policy::Caller;
-use an_rows::cells_of;
-use an_state::{Book, Command, Entry, typed_writes};
-use std::alloc::{AllocError, Global};
+use an_state::{Book, Command, typed_writes};
+use std::alloc::Global;
 
 /// Does a write on a keeper, the book of its cells and the look beside it, which first shows an
 /// entry that waits.
@@ -114,38 +112,6 @@ fn write_settled<K: Keeper>(
     carry_out(alloc, keeper, book, front, decided)
 }
 
-/// Decides a write. Want of memory is no refusal of the machine.
-fn decide(
-    alloc: Global,
-    book: &Book,
-    moment: Moment,
-    caller: &Caller,
-    command: &Command,
-) -> Result<Decided, WriteError>
-    requires sendable { IsTrue (is_sendable command.now) }
-    ensures decided { IfOk result (λ write. step book.now.state moment caller.now command.now
-        ≡ Ok write) }
-    ensures refused { IfErr result
-        (IsRefused (step book.now.state moment caller.now command.now)) }
-    ensures no_memory { ¬ (result ≡ Err (WriteError.Refused Refused.Memory)) }
-    ensures no_keeper { ¬ (result ≡ Err WriteError.Keeper) }
-{
-    match an_machine::decide(alloc, book, moment, caller, command) {
-        Ok(decided) => Ok(decided),
-        Err(refused) => Err(refusal_error(refused)),
-    }
-}
-
-fn refusal_error(refused: Refused) -> WriteError
-    ensures { result ≡ refusal_error refused }
-{
-    if matches!(refused, Refused::Memory) {
-        WriteError::Memory
-    } else {
-        WriteError::Refused(refused)
-    }
-}
-
 /// Does what was decided, where all is shown.
 fn carry_out<K: Keeper>(
     alloc: Global,
@@ -178,71 +144,11 @@ fn carry_out<K: Keeper>(
     let Decided { entry, reply } = decided;
     match entry {
         Some(entry) => {
-            let copy = put(alloc, keeper, book, front, entry)?;
+            front.room(&entry)?;
+            let copy = put(alloc, keeper, book, entry)?;
             front.show(copy)?;
             Ok(reply)
         }
         None => Ok(reply),
     }
-}
-
-/// Keeps what an entry changes, and then applies it. Gives a copy of it, which is to be shown.
-fn put<K: Keeper>(
-    alloc: Global,
-    keeper: &mut K,
-    book: &mut Book,
-    front: &mut Front,
-    entry: Entry,
-) -> Result<Entry, KeepError>
-    requires settled { IsTrue (is_settled book.old.state entry) }
-    requires cells { IfSome (K.told keeper.old) (λ found. found ≡ cells book.old.state) }
-    ensures copy { IfOk result (λ copy. copy ≡ entry) }
-    ensures told { Turns (λ found. cells book.new.state) (K.told keeper.old) (K.told keeper.new) }
-    ensures applied { OnOk result (book.new.state ≡ after book.old.state entry) }
-    ensures stays { OnErr result (Stays (K.told keeper.old) (K.told keeper.new)) }
-    ensures still { OnErr result (book.new.state ≡ book.old.state) }
-    ensures front { front.new ≡ front.old }
-    ensures counted { result ≡ Err KeepError.Failed
-        → Rises (K.faults keeper.old) (K.faults keeper.new) }
-    ensures faults_kept { K.faults keeper.old ≤ K.faults keeper.new }
-{
-    let copy = room(book, front, &entry)?;
-    match keep(alloc, keeper, book, &entry) {
-        Ok(()) => {
-            book.apply(entry);
-            Ok(copy)
-        }
-        Err(error) => Err(error),
-    }
-}
-
-/// Takes the memory to apply an entry, and to show it, of which it gives a copy.
-fn room(book: &mut Book, front: &mut Front, entry: &Entry) -> Result<Entry, AllocError>
-    ensures copy { IfOk result (λ copy. copy ≡ entry.now) }
-    ensures room { OnOk result (needs entry.now ≤ book.new.room) }
-    ensures still { book.new.state ≡ book.old.state }
-    ensures front { front.new ≡ front.old }
-{
-    book.room(entry)?;
-    front.room(entry)?;
-    entry.copy()
-}
-
-/// Keeps what an entry changes.
-fn keep<K: Keeper>(
-    alloc: Global,
-    keeper: &mut K,
-    book: &Book,
-    entry: &Entry,
-) -> Result<(), KeepError>
-    requires settled { IsTrue (is_settled book.now.state entry.now) }
-    ensures kept { OnOk result (Turns (put_changes (changes_of book.now.state entry.now))
-        (K.told keeper.old) (K.told keeper.new)) }
-    ensures stays { OnErr result (Stays (K.told keeper.old) (K.told keeper.new)) }
-    ensures counted { result ≡ Err KeepError.Failed
-        → Rises (K.faults keeper.old) (K.faults keeper.new) }
-    ensures faults_kept { K.faults keeper.old ≤ K.faults keeper.new }
-{
-    let changes = cells_of(alloc, entry, book)?;
-    keeper.commit(changes.as_slice())
 }

@@ -6,7 +6,7 @@ use Rattle.std.proofs.lemmas.Bool.Decides.{nat_tests}
 use mathlib.Core.List.{IsPrefix}
 use prog.Atomic.{either}
 use Rattle.logbook.specs.Pages.{Cell, cell, keeps, no_nib, step, Moves, Goes}
-use Rattle.an_store.specs.Events.{Event}
+use Rattle.an_laws.specs.Events.{Event}
 use Rattle.an_store.specs.History.{IsKept, Adds}
 use Rattle.an_store.proofs.Lists.{prefix_whole}
 

@@ -5,3 +5,4 @@ pub mod Sides
 pub mod Copies
 pub mod Writes
 pub mod Opens
+pub mod Crossings

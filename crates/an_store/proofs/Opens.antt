@@ -4,7 +4,7 @@ use Rattle.logbook.specs.Pages.{Book, Named}
 use Rattle.an_keep.specs.Keeper.{Told}
 use Rattle.an_state.specs.State.{State}
 use Rattle.an_shelf.specs.Store as shelf
-use Rattle.an_store.specs.Events.{Event, Opened, IsLegal, Keeps, state_at, told_at}
+use Rattle.an_laws.specs.Events.{Event, Opened, IsLegal, Keeps, state_at, told_at}
 use Rattle.an_store.specs.History.{head_of}
 use Rattle.an_store.specs.Known.{Known, newcomer}
 use Rattle.an_store.specs.Opening.{Begun}

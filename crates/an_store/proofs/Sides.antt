@@ -27,7 +27,7 @@ use Rattle.an_shelf.specs.declared.error.WriteError.{WriteError}
 use Rattle.an_shelf.specs.declared.error.WriteError.TheVariants as error
 use Rattle.an_shelf.proofs.FitLemmas.{decided-fits}
 use Rattle.an_shelf.proofs.WritingLemmas.{stands-behind}
-use Rattle.an_store.specs.Events.{Event, Opened, Wrote, IsLegal, AreKept, Keeps, state_behind, state_at, told_behind, told_at}
+use Rattle.an_laws.specs.Events.{Event, Opened, Wrote, IsLegal, AreKept, Keeps, state_behind, state_at, told_behind, told_at}
 use Rattle.an_store.specs.Rule.{Comes, ComeBehind, accepted, Ready, Shows}
 use Rattle.an_store.specs.Side.{Sided, stock_of}
 use Rattle.an_store.specs.Stock.{Stock, LacksOne, Settled, Leaves, Fails, added_by}

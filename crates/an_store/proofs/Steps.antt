@@ -12,7 +12,7 @@ use Rattle.an_machine.specs.Legal.{Write}
 use Rattle.an_keep.specs.Keeper.{Told}
 use Rattle.an_state.specs.Entries.{after}
 use Rattle.an_state.specs.State.{State, empty}
-use Rattle.an_store.specs.Events.{Event, Opened, Wrote, IsLegal, state_behind, state_at}
+use Rattle.an_laws.specs.Events.{Event, Opened, Wrote, IsLegal, state_behind, state_at}
 use Rattle.an_store.specs.History.{Led}
 use Rattle.an_store.specs.Known.{Known, newcomer}
 use Rattle.an_store.specs.Lists.{Stands, last_of}

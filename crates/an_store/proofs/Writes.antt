@@ -21,8 +21,8 @@ use Rattle.an_state.specs.declared.entry.Entry.{Entry}
 use Rattle.an_shelf.specs.Store as shelf
 use Rattle.an_shelf.proofs.ClosingLemmas.{stand-for}
 use Rattle.an_shelf.proofs.WritingLemmas.{repeat-none}
-use Rattle.an_store.specs.Events.{Event, IsLegal, state_at}
-use Rattle.an_store.specs.Events as event
+use Rattle.an_laws.specs.Events.{Event, IsLegal, state_at}
+use Rattle.an_laws.specs.Events as event
 use Rattle.an_store.specs.Lists.{Seated, Stands, last_of}
 use Rattle.an_store.specs.Opening.{Closes}
 use Rattle.an_store.specs.Stock.{Stock, Stocked, LacksOne, Settled, Took, added_by}

@@ -3,7 +3,7 @@ use Rattle.std.specs.Prelude.{◌≡◌, ℕ, ◌+◌, ◌==◌, true, List, [],
 use Rattle.std.specs.Prelude.{MatchBool, ⊤}
 use Rattle.logbook.specs.Pages.{Cell, Step, View, Book, Named}
 use Rattle.an_state.specs.State.{State}
-use Rattle.an_store.specs.Events.{Event}
+use Rattle.an_laws.specs.Events.{Event}
 
 -- a beginning of a history that was reached
 pub record Reached : Type 0 where

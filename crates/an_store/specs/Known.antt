@@ -1,7 +1,7 @@
 -- For private clauses: what a seat knows.
 use Rattle.std.specs.Prelude.{◌≡◌, List, [], Option, None, Some}
 use Rattle.logbook.specs.Pages.{Book}
-use Rattle.an_store.specs.Events.{Event, IsLegal}
+use Rattle.an_laws.specs.Events.{Event, IsLegal}
 use Rattle.an_store.specs.History.{Reached}
 use Rattle.an_store.specs.Lists.{Stands}
 

@@ -1,4 +1,3 @@
-pub mod Events
 pub mod History
 pub mod Lists
 pub mod Known

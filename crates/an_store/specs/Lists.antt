@@ -3,7 +3,7 @@ use Rattle.std.specs.Prelude.{◌≡◌, ◌⊎◌, List, [], ◌∷◌, ⊤}
 use mathlib.Core.List.{IsPrefix}
 use Rattle.logbook.specs.Pages.{Book}
 use Rattle.an_state.specs.State.{State}
-use Rattle.an_store.specs.Events.{Event, IsLegal, state_at}
+use Rattle.an_laws.specs.Events.{Event, IsLegal, state_at}
 
 -- the first list's items stand in the second, each once and in this order
 abbrev pub Stands : {A : Type 0} → List A → List A → Type 0

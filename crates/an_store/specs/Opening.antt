@@ -7,7 +7,7 @@ use Rattle.an_rows.specs.Cells.{cells}
 use Rattle.an_state.specs.State.{State}
 use Rattle.an_shelf.specs.Opening.{StandFor}
 use Rattle.an_shelf.specs.Store.{Stands}
-use Rattle.an_store.specs.Events.{Event, Opened, IsLegal, state_at}
+use Rattle.an_laws.specs.Events.{Event, Opened, IsLegal, state_at}
 use Rattle.an_store.specs.History.{head_of}
 use Rattle.an_store.specs.Known.{Known}
 use Rattle.an_store.specs.Lists.{Seated, newly_seated}

@@ -8,7 +8,7 @@ use Rattle.an_keep.specs.Keeper.{Told}
 use Rattle.an_machine.specs.Legal.{Write}
 use Rattle.an_snapshot.specs.Absorbed.{state_with}
 use Rattle.an_snapshot.specs.Fits.{fits}
-use Rattle.an_store.specs.Events.{Event, Wrote, IsLegal, state_at}
+use Rattle.an_laws.specs.Events.{Event, Wrote, IsLegal, state_at}
 use Rattle.an_store.specs.History.{Led}
 use Rattle.an_store.specs.Lists.{Stands, last_of}
 use Rattle.an_store.specs.Known.{Known}

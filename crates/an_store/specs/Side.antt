@@ -3,7 +3,7 @@ use Rattle.std.specs.Prelude.{◌≡◌, ℕ, List}
 use Rattle.logbook.specs.Pages.{Book, Named}
 use Rattle.an_keep.specs.Keeper.{Told}
 use Rattle.an_state.specs.State.{State}
-use Rattle.an_store.specs.Events.{state_at}
+use Rattle.an_laws.specs.Events.{state_at}
 use Rattle.an_store.specs.History.{head_of}
 use Rattle.an_store.specs.Rule.{ComeBehind, accepted}
 use Rattle.an_store.specs.Stock.{Stock, Stocked}

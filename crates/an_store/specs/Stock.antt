@@ -14,7 +14,7 @@ use Rattle.an_shelf.specs.Store.{Stands}
 use Rattle.an_shelf.specs.Writing.{IsToKeep}
 use Rattle.an_shelf.specs.declared.error.WriteError.{WriteError}
 use Rattle.an_shelf.specs.declared.error.WriteError.TheVariants.{Refused, Keeper, Memory}
-use Rattle.an_store.specs.Events.{Event, Wrote, IsLegal, Keeps, state_at, told_at}
+use Rattle.an_laws.specs.Events.{Event, Wrote, IsLegal, Keeps, state_at, told_at}
 
 -- the list that is published; all that was accepted, which may be one event more; the state behind
 -- that; the cells where the keeper tells them; and how often the keeper failed

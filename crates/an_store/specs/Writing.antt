@@ -11,7 +11,7 @@ use Rattle.an_state.specs.declared.command.Command.{Command}
 use Rattle.an_shelf.specs.Writing.{IsToKeep}
 use Rattle.an_shelf.specs.declared.error.WriteError.{WriteError}
 use Rattle.an_shelf.specs.declared.error.WriteError.TheVariants.{Refused, Keeper, Memory}
-use Rattle.an_store.specs.Events.{Event, IsLegal, state_at}
+use Rattle.an_laws.specs.Events.{Event, IsLegal, state_at}
 use Rattle.an_store.specs.Lists.{Seated}
 use Rattle.an_store.specs.Stock.{added_by}
 

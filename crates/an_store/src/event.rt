@@ -1,6 +1,6 @@
 //! What happens to a store. Contracts alone speak of it.
 ghost use Rattle.std.specs.Prelude.{◌≡◌};
-ghost use Rattle.an_store.specs.Events.{Opened, Wrote};
+ghost use Rattle.an_laws.specs.Events.{Opened, Wrote};
 
 use an_base::Moment;
 use an_keep::Keeper;
@@ -19,7 +19,7 @@ impl Model for Event {
     ghost use Rattle.std.specs.Coded.{codes};
     ghost use Rattle.an_base.specs.TreeCode.{tree_code};
     ghost use Rattle.an_state.specs.State.{empty};
-    ghost use Rattle.an_store.specs.Events.{Event, Opened};
+    ghost use Rattle.an_laws.specs.Events.{Event, Opened};
 
     ghost Value = { Event };
 
@@ -38,7 +38,7 @@ pub(crate) struct Found<K: Keeper> {
 impl<K: Keeper> Model for Found<K> {
     ghost use Rattle.std.specs.Coded.{codes};
     ghost use Rattle.an_base.specs.TreeCode.{tree_code};
-    ghost use Rattle.an_store.specs.Events.{Event, Opened};
+    ghost use Rattle.an_laws.specs.Events.{Event, Opened};
 
     ghost Value = { Event };
 
@@ -71,7 +71,7 @@ pub(crate) struct Kept<K: Keeper> {
 impl<K: Keeper> Model for Kept<K> {
     ghost use Rattle.std.specs.Coded.{codes};
     ghost use Rattle.an_base.specs.TreeCode.{tree_code};
-    ghost use Rattle.an_store.specs.Events.{Event, Wrote};
+    ghost use Rattle.an_laws.specs.Events.{Event, Wrote};
 
     ghost Value = { Event };
 

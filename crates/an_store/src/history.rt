@@ -1,7 +1,7 @@
 //! The history of a store, which only grows. Its memory is one word: the events are there for
 //! contracts alone.
 ghost use Rattle.std.specs.Prelude.{◌≡◌, ◌+◌, ◌<◌, ◌^◌, [], ◌∷◌, ◌++◌, length, true, IfSome};
-ghost use Rattle.an_store.specs.Events.{Opened};
+ghost use Rattle.an_laws.specs.Events.{Opened};
 ghost use Rattle.an_store.specs.History.{head_of};
 
 use crate::event::{Event, Found, Kept};

@@ -18,4 +18,3 @@ mod seat;
 mod side;
 mod store;
 mod view;
-mod writing;

@@ -3,7 +3,7 @@ ghost use Rattle.std.specs.Prelude.{◌≡◌, [], ◌∷◌, ◌++◌, true, fa
 ghost use Rattle.std.specs.Prelude.{drop};
 ghost use mathlib.Core.List.{IsPrefix};
 ghost use Rattle.left_right.specs.Sides.{view};
-ghost use Rattle.an_store.specs.Events.{Event};
+ghost use Rattle.an_laws.specs.Events.{Event};
 ghost use Rattle.an_store.specs.Lists.{Stands, last_of};
 ghost use Rattle.an_store.specs.Rule.{Ready, Shows, notice};
 

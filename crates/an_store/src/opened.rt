@@ -8,7 +8,7 @@ ghost use Rattle.an_rows.specs.Valid.{is_valid};
 ghost use Rattle.an_shelf.specs.Opening.{StandFor, WasDamagedBy};
 ghost use Rattle.an_shelf.specs.Store.{Stands};
 ghost use Rattle.an_state.specs.Sound.{is_sound};
-ghost use Rattle.an_store.specs.Events.{Opened as Begins, IsLegal};
+ghost use Rattle.an_laws.specs.Events.{Opened as Begins, IsLegal};
 ghost use Rattle.an_store.specs.Lists.{newly_seated};
 ghost use Rattle.an_store.specs.Opening.{Begun, IsStart};
 ghost use Rattle.an_store.specs.Rule.{notice};

@@ -2,7 +2,7 @@
 ghost use Rattle.std.specs.Prelude.{◌≡◌, true, [], ◌∷◌, ◌++◌, IfErr, IfOk, List};
 ghost use mathlib.Core.List.{IsPrefix};
 ghost use Rattle.left_right.specs.Sides.{view as known};
-ghost use Rattle.an_store.specs.Events.{Event, IsLegal};
+ghost use Rattle.an_laws.specs.Events.{Event, IsLegal};
 ghost use Rattle.an_store.specs.Lists.{Sees, Stands, last_of, newly_seated};
 ghost use Rattle.an_store.specs.Rule.{notice};
 

@@ -4,7 +4,7 @@ use Rattle.an_serve.proofs.at_desk.write.Goals as goal
 pub returns-clause-comes : goal.returns-clause-comes
 returns-clause-comes g c =
     let written = c.write-written in
-    told-or c.told_reply.result _ _ _ c.told_reply.ensures.reply c.told_reply.ensures.memory
+    told-or c.told_reply.result _ _ _ (rw c.settings.ensures at c.told_reply.ensures.reply) c.told_reply.ensures.memory
     (λ memory. comes-written _ _ _ _ _ _ _ _ _ c.moment-moment.ensures.answered c.moment-moment.ensures.moment written.ensures.faults_kept written.ensures.told written.result
     written.ensures.written written.ensures.refused written.ensures.leaves (λ is. ((λ sure. written.ensures.sure sure is), written.ensures.counted is)) memory)
 

@@ -1,5 +1,5 @@
 use Rattle.std.proofs.Common.{◌≡◌, ◌+◌, List, length, sym, ◌∙◌, ap}
-use Rattle.an_store.specs.Events.{Event}
+use Rattle.an_laws.specs.Events.{Event}
 use Rattle.an_store.proofs.Adding.{adds_moves}
 use Rattle.an_store.proofs.history.try_extend.Goals as goal
 

@@ -1,5 +1,5 @@
 use Rattle.std.proofs.Common.{List, ap, subst, sym, ◌∙◌}
-use Rattle.an_store.specs.Events.{Event}
+use Rattle.an_laws.specs.Events.{Event}
 use Rattle.an_store.specs.Lists.{Stands}
 use Rattle.an_store.proofs.Steps.{earns}
 use Rattle.an_store.proofs.seat.Seat.earn.Goals as goal

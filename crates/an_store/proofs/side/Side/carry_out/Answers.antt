@@ -7,7 +7,7 @@ use Rattle.an_rows.specs.Changes.{is_settled}
 use Rattle.an_state.specs.State.{State}
 use Rattle.an_state.specs.declared.entry.Entry.{Entry}
 use Rattle.an_shelf.proofs.WritingLemmas.{entry-settled}
-use Rattle.an_store.specs.Events.{Event, Wrote}
+use Rattle.an_laws.specs.Events.{Event, Wrote}
 use Rattle.an_store.specs.Rule.{accepted}
 use Rattle.an_store.specs.Side.{Sided, stock_of}
 use Rattle.an_store.specs.declared.published.Published.{Published}

@@ -1,0 +1,3 @@
+pub mod SeatLemmas
+pub mod CauseLemmas
+pub mod Crossings

@@ -1,0 +1,14 @@
+use Rattle.an_seats.proofs.CauseLemmas.{sitting-caused}
+use Rattle.an_seats.proofs.server.ServerSessions.session.Goals as goal
+
+pub returns-clause-ran : goal.returns-clause-ran
+returns-clause-ran g c = record {
+  clock = _;
+  site = _;
+  from = _;
+  to = _;
+  sitting = c.session.ensures.session;
+}
+
+pub returns-clause-caused : goal.returns-clause-caused
+returns-clause-caused g c = sitting-caused _ _ _ _ _ _ _ _ c.session.ensures.session
