@@ -162,3 +162,17 @@ module _ {R : Type 0} (key : R → Key) where
       ∙ ap (find (λ r. same_key (key r) wanted)) (put_at-position key (λ other. same_key (key other) (key row)) row rows)
       ∙ find-set_or_push row wanted rows
       ∙ ap (λ found. cond (same_key (key row) wanted) (Some row) found) (sym (row_of-find wanted rows))
+
+-- ---- a row among others
+
+module _ {R : Type 0} (key : R → Key) where
+  -- no row before a row among distinct ones has its key
+  pub distinct-before : (front : List R) (row : R) (rows : List R) → keys_are_distinct key (front ++ row ∷ rows) ≡ true → list_any (λ other. same_key (key other) (key row)) front ≡ false
+  distinct-before [] row rows distinct = refl
+  distinct-before (first ∷ front) row rows distinct =
+      let parts = and_parts (not (list_any (λ other. same_key (key other) (key first)) (front ++ row ∷ rows))) _ distinct in
+      or_from _ _ (other-key (key row) (key first) (none-later front (not-true _ parts.0))) (distinct-before front row rows parts.1)
+    where
+      none-later : (front : List R) → list_any (λ other. same_key (key other) (key first)) (front ++ row ∷ rows) ≡ false → same_key (key row) (key first) ≡ false
+      none-later [] none = (or_parts _ _ none).0
+      none-later (other ∷ front) none = none-later front (or_parts _ _ none).1

@@ -1,15 +1,28 @@
 -- What happened to a store, one event behind another.
-use Rattle.std.specs.Prelude.{◌≡◌, List, [], ◌∷◌, Some, None, IfSome, ⊤}
+use Rattle.std.specs.Prelude.{◌≡◌, ℤ, List, [], ◌∷◌, map, Option, Some, None, IfSome, ⊤}
 use Rattle.an_keep.specs.Keeper.{Told, Turns}
 use Rattle.an_machine.specs.Legal.{Accepts, Write}
+use Rattle.an_policy.specs.declared.who.Caller.{Caller}
 use Rattle.an_rows.specs.Cells.{cells}
 use Rattle.an_state.specs.Entries.{after}
 use Rattle.an_state.specs.State.{State, empty}
+use Rattle.an_state.specs.declared.command.Command.{Command}
+use Rattle.an_state.specs.declared.entry.Entry.{Entry}
 
 -- it was opened with a state, or a write was accepted; and then the keeper told this
 pub data Event : Type 0 where
   Opened : State → Told → Event
   Wrote : Write → Told → Event
+
+-- what was accepted at this moment, as a history has it; a repeat adds nothing
+abbrev pub added_by : ℤ → Caller → Command → Option Entry → List Write
+added_by moment caller command None = []
+added_by moment caller command (Some entry) =
+    record { moment = moment; caller = caller; command = command; entry = entry } ∷ []
+
+-- these writes, behind which the keeper told this
+abbrev pub wrote : Told → List Write → List Event
+wrote told writes = map (λ write. Wrote write told) writes
 
 -- the state that events lead to from a state
 abbrev pub state_behind : State → List Event → State

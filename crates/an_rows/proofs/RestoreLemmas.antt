@@ -8,10 +8,9 @@ use Rattle.std.proofs.lemmas.Option.{same_Some}
 use Rattle.std.proofs.lemmas.Slice.Eq.{bytes_eq-Decides}
 use Rattle.std.proofs.lemmas.Int.{ints}
 use Rattle.an_base.specs.Outcome.{or_refuse, passes}
-use Rattle.an_keyed.specs.Key.{Key, same_key}
+use Rattle.an_keyed.specs.Key.{Key}
 use Rattle.an_keyed.specs.Rows.{keys_are_distinct}
-use Rattle.an_keyed.proofs.KeyLemmas.{other-key}
-use Rattle.an_keyed.proofs.PutLemmas.{put_row-new}
+use Rattle.an_keyed.proofs.PutLemmas.{distinct-before, put_row-new}
 use Rattle.an_keep.specs.declared.cell.Cell.{Cell}
 use Rattle.an_policy.specs.declared.reader.Reader.{Reader}
 use Rattle.an_state.specs.View.{last_moment}
@@ -59,20 +58,6 @@ module _ {R : Type 0} (kind : R → Row) (with : List R → State)
       ∙ ap (λ n. restored (with (front ++ row ∷ [])) (cells_from kind n rows ++ more)) (sym longer)
       ∙ restored-list (front ++ row ∷ []) rows more follow.2
       ∙ ap (λ l. restored (with l) more) (append_assoc front (row ∷ []) rows)
-
--- ---- keys
-
-module _ {R : Type 0} (key : R → Key) where
-  -- no row before a row among distinct ones has its key
-  distinct-before : (front : List R) (row : R) (rows : List R) → keys_are_distinct key (front ++ row ∷ rows) ≡ true → has_key key row front ≡ false
-  distinct-before [] row rows distinct = refl
-  distinct-before (first ∷ front) row rows distinct =
-      let parts = and_parts (not (list_any (λ other. same_key (key other) (key first)) (front ++ row ∷ rows))) _ distinct in
-      or_from _ _ (other-key (key row) (key first) (none-later front (not-true _ parts.0))) (distinct-before front row rows parts.1)
-    where
-      none-later : (front : List R) → list_any (λ other. same_key (key other) (key first)) (front ++ row ∷ rows) ≡ false → same_key (key row) (key first) ≡ false
-      none-later [] none = (or_parts _ _ none).0
-      none-later (other ∷ front) none = none-later front (or_parts _ _ none).1
 
 -- the front of a list, and one row more
 shift : {R : Type 0} (P : List R → Type 0) (front : List R) (row : R) (rows : List R) → P (front ++ row ∷ rows) → P ((front ++ row ∷ []) ++ rows)

@@ -9,7 +9,7 @@ use Rattle.an_http.specs.declared.reply.Allow.{Allow}
 use Rattle.an_http.specs.declared.reply.Reply.{Reply}
 use Rattle.an_http.specs.declared.request.Request.{Request}
 use Rattle.an_keep.specs.Keeper.{Told}
-use Rattle.an_laws.specs.Events.{Event, IsLegal, state_at}
+use Rattle.an_laws.specs.Events.{Event, IsLegal, added_by, state_at, wrote}
 use Rattle.an_machine.specs.Legal.{Write}
 use Rattle.an_machine.specs.Step.{step}
 use Rattle.an_machine.specs.declared.command.Decided.{Decided}
@@ -25,7 +25,7 @@ use Rattle.an_routes.specs.declared.kinds.RouteError.TheVariants as error
 use Rattle.an_search.specs.Site.{Site}
 use Rattle.an_base.specs.declared.span.Prefer.{Prefer}
 use Rattle.an_answers.specs.Answer.{refusal_reply, write_answer}
-use Rattle.an_serve.specs.AtDesk.{IsAnswer, IsWritten, added_by}
+use Rattle.an_serve.specs.AtDesk.{IsAnswer, IsWritten}
 use Rattle.an_serve.specs.Respond.{caller_of, is_read, query_response, read_response, response_of, route_response}
 use Rattle.an_serve.proofs.DeskLemmas.{not-kept}
 use Rattle.an_serve.specs.Told.{told_reply}
@@ -42,10 +42,9 @@ use Rattle.an_state.specs.State.{State}
 use Rattle.an_state.specs.declared.command.Command.{Command}
 use Rattle.an_state.specs.declared.entry.Entry.{Entry}
 use Rattle.an_store.specs.Lists.{Seated}
-use Rattle.an_store.specs.Stock as stock
 use Rattle.an_store.specs.Writing.{Missed, WasRefused, Wrote}
 use Rattle.an_store.proofs.Lists.{prefix_self, prefix_trans}
-use Rattle.an_seats.specs.Coming.{IsKnownAt, Looked, Rested, SeatComes, SeatLoses, wrote}
+use Rattle.an_seats.specs.Coming.{IsKnownAt, Looked, Rested, SeatComes, SeatLoses}
 use Rattle.an_seats.specs.Seats.{Sitting, known_at, store_rules}
 
 -- ---- what is asked to be written is asked at every state
@@ -209,23 +208,18 @@ module _ (Unsure : Type 0) (clock : ℤ → Bool) (site : Site) where
 
 -- ---- a write
 
-same-added : (moment : ℤ) (caller : Caller) (command : Command) (told : Told) (entry : Option Entry) → stock.added_by moment caller command told entry ≡ wrote told (added_by moment caller command entry)
-same-added moment caller command told None = refl
-same-added moment caller command told (Some entry) = refl
-
 module _ (Unsure : Type 0) (clock : ℤ → Bool) (site : Site) (methods : Allow) (moment : ℤ) (caller : Caller) (command : Command) (old new : Seated) (tells : IsTrue (clock moment)) (is_moment : IsMoment moment) where
   -- it was accepted
   comes-accepted : (reply : WriteReply) → Wrote moment caller command old reply new → SeatComes Unsure clock site (response.Write methods caller command) old (write_answer site methods (Ok reply)) new
   comes-accepted reply w =
       let writes : List Write = added_by moment caller command w.write.entry in
-      let same : stock.added_by moment caller command w.told w.write.entry ≡ wrote w.told writes = same-added moment caller command w.told w.write.entry in
       record {
         at = w.at;
         writes = writes;
         told = w.told;
         faults = 0;
         found = w.found;
-        legal = subst (λ added. IsLegal (w.at ++ added)) same w.legal;
+        legal = w.legal;
         answers = (
           moment,
           tells,
@@ -233,8 +227,8 @@ module _ (Unsure : Type 0) (clock : ℤ → Bool) (site : Site) (methods : Allow
           subst (λ decided. IsWritten Unsure site methods moment caller command decided (write_answer site methods (Ok reply)) writes 0) (sym w.is)
               (inl (ap (λ r. write_answer site methods (Ok r)) w.replies, refl, refl)),
         );
-        seen = subst (λ added. IsPrefix (w.at ++ added) new.seen) same w.seen;
-        own = w.own ∙ ap (λ added. old.own ++ added) same;
+        seen = w.seen;
+        own = w.own;
       }
 
   -- nothing was added

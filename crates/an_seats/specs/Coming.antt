@@ -1,9 +1,9 @@
 -- For private clauses: what a seat comes to by one request.
-use Rattle.std.specs.Prelude.{◌≡◌, ◌⊎◌, ℕ, ℤ, List, ◌++◌, map, Bool}
+use Rattle.std.specs.Prelude.{◌≡◌, ◌⊎◌, ℕ, ℤ, List, ◌++◌, Bool}
 use mathlib.Core.List.{IsPrefix}
 use Rattle.an_http.specs.declared.reply.Reply.{Reply}
 use Rattle.an_keep.specs.Keeper.{Told}
-use Rattle.an_laws.specs.Events.{Event, Wrote, IsLegal, state_at}
+use Rattle.an_laws.specs.Events.{Event, IsLegal, state_at, wrote}
 use Rattle.an_machine.specs.Legal.{Write}
 use Rattle.an_search.specs.Site.{Site}
 use Rattle.an_serve.specs.AtDesk.{IsAnswer}
@@ -27,10 +27,6 @@ pub record Looked (old new : Seated) : Type 0 where
 pub record Rested (old new : Seated) : Type 0 where
   pub own : new.own ≡ old.own
   pub later : IsPrefix old.seen new.seen
-
--- these writes, behind which the keeper told this
-abbrev pub wrote : Told → List Write → List Event
-wrote told writes = map (λ write. Wrote write told) writes
 
 -- A seat came to this reply to what a request comes to, at a list that goes on from the one that it
 -- saw. What was added there was kept, as the keeper told then, is the seat's own, and was seen.

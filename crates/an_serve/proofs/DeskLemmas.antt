@@ -29,8 +29,8 @@ use Rattle.an_state.specs.State.{State, empty}
 use Rattle.an_state.specs.declared.command.Command.{Command}
 use Rattle.an_state.specs.declared.entry.Entry.{Entry}
 use Rattle.an_answers.specs.Answer.{refusal_reply, write_answer}
-use Rattle.an_serve.specs.AtDesk.{Connection, IsAnswer, IsCounted, IsWritten, StandsFor, added_by, desk_rules}
-use Rattle.an_laws.specs.Events.{AreKept, Event, IsLegal, Keeps, Opened, Wrote, state_at, state_behind, told_at, told_behind}
+use Rattle.an_serve.specs.AtDesk.{Connection, IsAnswer, IsCounted, IsWritten, StandsFor, desk_rules}
+use Rattle.an_laws.specs.Events.{AreKept, Event, IsLegal, Keeps, Opened, Wrote, added_by, state_at, state_behind, told_at, told_behind, wrote}
 use Rattle.an_serve.specs.Events.{opened}
 use Rattle.an_serve.specs.Respond.{response_of}
 use Rattle.an_serve.specs.Setting.{DeskComes, DeskRests}
@@ -148,10 +148,6 @@ module _ (Unsure : Type 0) (clock : ℤ → Bool) (site : Site) (methods : Allow
   comes-lost (Err error.Memory) writes refused still keeper lost = comes-waits (lost refl)
 
 -- ---- events
-
--- these writes, behind which the keeper told this
-abbrev wrote : Told → List Write → List Event
-wrote told writes = map (λ write. Wrote write told) writes
 
 behind-on : (s : State) (first second : List Event) → state_behind s (first ++ second) ≡ state_behind (state_behind s first) second
 behind-on s [] second = refl

@@ -1,6 +1,6 @@
 -- How a desk answers requests, one after another, and what a connection at it comes to.
-use Rattle.std.specs.Prelude.{◌≡◌, ◌≤◌, ◌<◌, ◌⊎◌, ◌-◌, ◌^◌, ℕ, ℤ, List, [], ◌∷◌, ◌++◌, map, Bool}
-use Rattle.std.specs.Prelude.{IsTrue, IsSome, Option, Some, None, Result, Ok, Err, false}
+use Rattle.std.specs.Prelude.{◌≡◌, ◌≤◌, ◌<◌, ◌⊎◌, ◌-◌, ◌^◌, ℕ, ℤ, List, [], ◌++◌, Bool}
+use Rattle.std.specs.Prelude.{IsTrue, IsSome, Result, Ok, Err, false}
 use Rattle.an_base.specs.Moment.{IsMoment}
 use Rattle.an_code.specs.declared.code.Code.TheVariants as code
 use Rattle.an_http.specs.declared.reply.Allow.{Allow}
@@ -20,20 +20,13 @@ use Rattle.an_session.specs.declared.ended.Ended.{Ended}
 use Rattle.an_shelf.specs.Store.{Store}
 use Rattle.an_state.specs.State.{State}
 use Rattle.an_state.specs.declared.command.Command.{Command}
-use Rattle.an_state.specs.declared.entry.Entry.{Entry}
 use Rattle.an_answers.specs.Answer.{refusal_reply, write_answer}
-use Rattle.an_laws.specs.Events.{Event, Wrote, IsLegal, Keeps, state_at, told_at}
+use Rattle.an_laws.specs.Events.{Event, IsLegal, Keeps, added_by, state_at, told_at, wrote}
 use Rattle.an_serve.specs.Respond.{response_of}
 use Rattle.an_serve.specs.declared.responding.Response.{Response}
 use Rattle.an_serve.specs.declared.responding.Response.TheVariants as response
 
 -- ---- one request
-
--- what was accepted at this moment, as a history has it; a repeat adds nothing
-abbrev pub added_by : ℤ → Caller → Command → Option Entry → List Write
-added_by moment caller command None = []
-added_by moment caller command (Some entry) =
-    record { moment = moment; caller = caller; command = command; entry = entry } ∷ []
 
 -- A write is answered as it was decided, and added where it was accepted. `Unsure` says that the
 -- keeper can fail: then what it should have kept is answered so, isn't added, and is a fault.
@@ -64,7 +57,7 @@ pub record Answered (Unsure : Type 0) (clock : ℤ → Bool) (site : Site) (at :
     (request : Request) (reply : Reply) (added : List Event) (faults : ℕ) : Type 0 where
   pub writes : List Write
   pub told : Told
-  pub are : added ≡ map (λ write. Wrote write told) writes
+  pub are : added ≡ wrote told writes
   pub legal : IsLegal (at ++ added)
   pub answers : IsAnswer Unsure clock site (state_at at) (response_of site (state_at at) request)
       reply writes faults

@@ -53,19 +53,25 @@ decided-repeat who at command (Some effect) d is again = absurd (false≢true (a
 same_Ok : (d e : Decided) → ◌≡◌ {A = Result Decided Refused} (Ok d) (Ok e) → d ≡ e
 same_Ok d e is = cc
 
--- it has no entry
-pub repeat-none : (s : State) (moment : ℤ) (caller : Caller) (command : Command) (d : Decided) → step s moment caller command ≡ Ok d → d.reply.repeat ≡ true → d.entry ≡ None
+-- what is decided comes of an effect, or of none
+pub decided-by : (s : State) (moment : ℤ) (caller : Caller) (command : Command) (d : Decided) → step s moment caller command ≡ Ok d
+    → (who : Identity) × (at : ℤ) × (effect : Option Effect) × (decided who at command effect ≡ d)
 unfolding step
-repeat-none s moment caller command d is again = by_signer (signer_of s caller) is
+decided-by s moment caller command d is = by_signer (signer_of s caller) is
   where
-    by_signer : (signer : Option Identity) → step_if_signed s moment command signer ≡ Ok d → d.entry ≡ None
+    by_signer : (signer : Option Identity) → step_if_signed s moment command signer ≡ Ok d → (who : Identity) × (at : ℤ) × (effect : Option Effect) × (decided who at command effect ≡ d)
     by_signer None h = absurd (cc)
     by_signer (Some who) h =
         let at = moment_of_write s moment in
         let open_to = not_refused (first_of (refusals_before s who command)) _ d h in
         let asked = then-ok (asked_of command) _ d open_to in
         let effect = then-ok (judged s asked.0 (effect_of s who at asked.0)) _ d asked.2 in
-        decided-repeat who at command effect.0 d (same_Ok _ d effect.2) again
+        (who, at, effect.0, same_Ok _ d effect.2)
+
+-- it has no entry
+pub repeat-none : (s : State) (moment : ℤ) (caller : Caller) (command : Command) (d : Decided) → step s moment caller command ≡ Ok d → d.reply.repeat ≡ true → d.entry ≡ None
+repeat-none s moment caller command d is again =
+    let (who, at, effect, by) = decided-by s moment caller command d is in decided-repeat who at command effect d by again
 
 -- ---- the cells behind a write
 

@@ -1,13 +1,12 @@
 -- A state is shown row by row.
-use Rattle.std.proofs.Common.{◌≡◌, ℕ, suc, ◌+◌, ◌<◌, Bool, true, false, not, List, [], ◌∷◌, ◌++◌, length, take, drop, get_or, Option, Some, None, refl, sym, ap, subst, ◌∙◌, drop-cons}
+use Rattle.std.proofs.Common.{◌≡◌, ℕ, suc, ◌+◌, ◌<◌, Bool, true, false, List, [], ◌∷◌, ◌++◌, length, take, drop, get_or, Option, Some, None, refl, sym, ap, subst, ◌∙◌, drop-cons}
 use Rattle.std.specs.Prelude.{find}
 use Rattle.std.specs.List.{list_all, list_any}
-use Rattle.std.proofs.lemmas.Bool.{and_from, and_parts, or_parts, or_from, not-true, cond-true, cond-false}
+use Rattle.std.proofs.lemmas.Bool.{and_from, and_parts, or_parts, cond-true, cond-false}
 use Rattle.std.proofs.lemmas.List.{take-append-drop, take_more}
 use Rattle.an_keyed.specs.Key.{Key, same_key}
 use Rattle.an_keyed.specs.Rows.{keys_are_distinct, put_row}
-use Rattle.an_keyed.proofs.KeyLemmas.{other-key}
-use Rattle.an_keyed.proofs.PutLemmas.{put_row-new, row_of-find}
+use Rattle.an_keyed.proofs.PutLemmas.{distinct-before, put_row-new, row_of-find}
 use Rattle.an_policy.specs.Group.{same_group}
 use Rattle.an_snapshot.specs.Absorbed.{state_with}
 use Rattle.an_snapshot.specs.Fits.{fits, keep_groups, notes_stand}
@@ -36,20 +35,9 @@ next : {R : Type 0} (rows : List R) (i : ℕ) (row : R) → i < length rows → 
 next rows i row within is = ap (λ (r : _). take i rows ++ r ∷ []) is ∙ sym (take_more rows i row within)
 
 module _ {R : Type 0} (key : R → Key) where
-  -- no row before a row among distinct ones has its key
-  distinct-before : (front : List R) (row : R) (rows : List R) → keys_are_distinct key (front ++ row ∷ rows) ≡ true → list_any (λ other. same_key (key other) (key row)) front ≡ false
-  distinct-before [] row rows distinct = refl
-  distinct-before (first ∷ front) row rows distinct =
-      let parts = and_parts (not (list_any (λ other. same_key (key other) (key first)) (front ++ row ∷ rows))) _ distinct in
-      or_from _ _ (other-key (key row) (key first) (none-later front (not-true _ parts.0))) (distinct-before front row rows parts.1)
-    where
-      none-later : (front : List R) → list_any (λ other. same_key (key other) (key first)) (front ++ row ∷ rows) ≡ false → same_key (key row) (key first) ≡ false
-      none-later [] none = (or_parts _ _ none).0
-      none-later (other ∷ front) none = none-later front (or_parts _ _ none).1
-
   module _ (rows : List R) (i : ℕ) (row : R) (within : i < length rows) (is : row ≡ get_or rows i row) (distinct : keys_are_distinct key rows ≡ true) where
     none-before : list_any (λ other. same_key (key other) (key row)) (take i rows) ≡ false
-    none-before = distinct-before (take i rows) row (drop (suc i) rows) (subst (λ (l : List R). keys_are_distinct key l ≡ true) (sym (split rows i row within is)) distinct)
+    none-before = distinct-before key (take i rows) row (drop (suc i) rows) (subst (λ (l : List R). keys_are_distinct key l ≡ true) (sym (split rows i row within is)) distinct)
 
     put-next : put_row key row (take i rows) ≡ take (i + 1) rows
     put-next = put_row-new key row (take i rows) none-before ∙ next rows i row within is

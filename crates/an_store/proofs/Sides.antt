@@ -27,10 +27,10 @@ use Rattle.an_shelf.specs.declared.error.WriteError.{WriteError}
 use Rattle.an_shelf.specs.declared.error.WriteError.TheVariants as error
 use Rattle.an_shelf.proofs.FitLemmas.{decided-fits}
 use Rattle.an_shelf.proofs.WritingLemmas.{stands-behind}
-use Rattle.an_laws.specs.Events.{Event, Opened, Wrote, IsLegal, AreKept, Keeps, state_behind, state_at, told_behind, told_at}
+use Rattle.an_laws.specs.Events.{Event, Opened, Wrote, IsLegal, AreKept, Keeps, added_by, state_behind, state_at, told_behind, told_at, wrote}
 use Rattle.an_store.specs.Rule.{Comes, ComeBehind, accepted, Ready, Shows}
 use Rattle.an_store.specs.Side.{Sided, stock_of}
-use Rattle.an_store.specs.Stock.{Stock, LacksOne, Settled, Leaves, Fails, added_by}
+use Rattle.an_store.specs.Stock.{Stock, LacksOne, Settled, Leaves, Fails}
 use Rattle.an_store.specs.declared.published.Published.{Published}
 use Rattle.an_store.specs.declared.published.Addition.{Addition}
 use Rattle.an_store.proofs.Steps.{state-wrote}
@@ -186,7 +186,7 @@ module _ (name : Book) (head : Named) where
     -- and then all that was accepted ends with it
     pub waits-behind : (x : Published) (d o : List Addition) (a : Addition) (s : State) (t t' told : Told) (f : ℕ) → Sided (stock_of x (d ++ o) s t f) name head x (d ++ o) → x.mark.list ≡ accepted x (d ++ o)
         → a.entry ≡ entry → told ≡ t' → a.mark.list ≡ x.mark.list ++ event_of a.entry t' ∷ []
-        → accepted x (d ++ a ∷ []) ≡ accepted x (d ++ o) ++ added_by moment caller command told (Some entry)
+        → accepted x (d ++ a ∷ []) ≡ accepted x (d ++ o) ++ wrote told (added_by moment caller command (Some entry))
     waits-behind x d o a s t t' told f k all copy same list =
         let none : d ≡ [] = none_left d o (none-waits x (d ++ o) k.come all) in
         ap (λ (l : List Addition). accepted x (l ++ a ∷ [])) none
@@ -207,7 +207,7 @@ module _ (moment : ℤ) (caller : Caller) (command : Command) (s t : Stock) (wri
       subst (λ r. IfErr r (λ error. Fails moment caller command s error t)) (sym (at ∙ ap (λ (z : WriteError). Err z) so)) (inl (record { accepted = settled.accepted; published = inl settled.published }, leaves))
 
   -- it was kept, and waits
-  pub settle-fails : {A : Type 0} (result : Result A WriteError) (y : WriteError) → result ≡ Err y → y ≡ error.Memory → t.published ≡ s.accepted → t.accepted ≡ s.accepted ++ added_by moment caller command t.told (Some entry)
+  pub settle-fails : {A : Type 0} (result : Result A WriteError) (y : WriteError) → result ≡ Err y → y ≡ error.Memory → t.published ≡ s.accepted → t.accepted ≡ s.accepted ++ wrote t.told (added_by moment caller command (Some entry))
       → IfErr result (λ error. Fails moment caller command s error t)
   settle-fails result y at so published accepted =
       subst (λ r. IfErr r (λ error. Fails moment caller command s error t)) (sym (at ∙ ap (λ (z : WriteError). Err z) so)) (inr (record { write = write; entry = entry; is = is; has = has; published = published; accepted = accepted }))

@@ -3,12 +3,9 @@ use Rattle.std.proofs.Common.{◌≡◌, ℤ, true, false, List, [], ◌∷◌, 
 use Rattle.std.proofs.lemmas.Bool.{false≢true}
 use Rattle.std.proofs.lemmas.List.{append-nil}
 use mathlib.Core.List.{IsPrefix}
-use Rattle.an_base.specs.Outcome.{first_of}
 use Rattle.an_keep.specs.Keeper.{Told}
-use Rattle.an_machine.specs.Accepted.{decided, effect_of, moment_of_write}
-use Rattle.an_machine.specs.Asked.{asked_of}
-use Rattle.an_machine.specs.Refusals.{signer_of, refusals_before}
-use Rattle.an_machine.specs.Step.{refused_or, and_then, judged, step_if_signed, step}
+use Rattle.an_machine.specs.Accepted.{decided}
+use Rattle.an_machine.specs.Step.{step}
 use Rattle.an_machine.specs.declared.command.Decided.{Decided}
 use Rattle.an_machine.specs.declared.command.Refused.{Refused}
 use Rattle.an_machine.specs.declared.command.WriteReply.{WriteReply}
@@ -20,27 +17,16 @@ use Rattle.an_state.specs.declared.command.Command.{Command}
 use Rattle.an_state.specs.declared.entry.Entry.{Entry}
 use Rattle.an_shelf.specs.Store as shelf
 use Rattle.an_shelf.proofs.ClosingLemmas.{stand-for}
-use Rattle.an_shelf.proofs.WritingLemmas.{repeat-none}
-use Rattle.an_laws.specs.Events.{Event, IsLegal, state_at}
+use Rattle.an_shelf.proofs.WritingLemmas.{decided-by, repeat-none}
+use Rattle.an_laws.specs.Events.{Event, IsLegal, added_by, state_at, wrote}
 use Rattle.an_laws.specs.Events as event
 use Rattle.an_store.specs.Lists.{Seated, Stands, last_of}
 use Rattle.an_store.specs.Opening.{Closes}
-use Rattle.an_store.specs.Stock.{Stock, Stocked, LacksOne, Settled, Took, added_by}
+use Rattle.an_store.specs.Stock.{Stock, Stocked, LacksOne, Settled, Took}
 use Rattle.an_store.specs.Writing.{Wrote, WasRefused}
 use Rattle.an_store.proofs.Lists.{prefix_more, prefix_self, prefix_trans, stands_longer, last_of-push}
 
 -- ---- whether a write adds something
-
-then-ok : {A B : Type 0} (r : Result A Refused) (next : A → Result B Refused) (y : B) → and_then r next ≡ Ok y → (x : A) × (r ≡ Ok x) × (next x ≡ Ok y)
-then-ok (Ok x) next y is = (x, refl, is)
-then-ok (Err e) next y is = absurd (cc)
-
-not_refused : {A : Type 0} (refusal : Option Refused) (otherwise : Result A Refused) (y : A) → refused_or refusal otherwise ≡ Ok y → otherwise ≡ Ok y
-not_refused None otherwise y is = is
-not_refused (Some refusal) otherwise y is = absurd (cc)
-
-same_Ok : (d e : Decided) → ◌≡◌ {A = Result Decided Refused} (Ok d) (Ok e) → d ≡ e
-same_Ok d e is = cc
 
 decided-adds : (who : Identity) (at : ℤ) (command : Command) (effect : Option Effect) (d : Decided) → decided who at command effect ≡ d → d.reply.repeat ≡ false → (e : Entry) × (d.entry ≡ Some e)
 decided-adds who at command None d is first = absurd (false≢true (sym first ∙ ap (λ d. d.reply.repeat) (sym is)))
@@ -48,17 +34,8 @@ decided-adds who at command (Some effect) d is first = (_, ap (λ d. d.entry) (s
 
 -- one that is no repeat does
 pub repeat-some : (s : State) (moment : ℤ) (caller : Caller) (command : Command) (d : Decided) → step s moment caller command ≡ Ok d → d.reply.repeat ≡ false → (e : Entry) × (d.entry ≡ Some e)
-unfolding step
-repeat-some s moment caller command d is first = by_signer (signer_of s caller) is
-  where
-    by_signer : (signer : Option Identity) → step_if_signed s moment command signer ≡ Ok d → (e : Entry) × (d.entry ≡ Some e)
-    by_signer None h = absurd (cc)
-    by_signer (Some who) h =
-        let at = moment_of_write s moment in
-        let open_to = not_refused (first_of (refusals_before s who command)) _ d h in
-        let asked = then-ok (asked_of command) _ d open_to in
-        let effect = then-ok (judged s asked.0 (effect_of s who at asked.0)) _ d asked.2 in
-        decided-adds who at command effect.0 d (same_Ok _ d effect.2) first
+repeat-some s moment caller command d is first =
+    let (who, at, effect, by) = decided-by s moment caller command d is in decided-adds who at command effect d by first
 
 -- ---- what a seat learns
 
@@ -75,7 +52,7 @@ module _ (moment : ℤ) (caller : Caller) (command : Command) (v w : Seated) (s 
   found = prefix_trans v.seen s.published s.accepted first (published-before s k)
 
   -- of a write that was done
-  pub took-wrote : (reply : WriteReply) (took : Took moment caller command s reply t) → Stocked t → w.own ≡ v.own ++ added_by moment caller command t.told took.write.entry → Wrote moment caller command v reply w
+  pub took-wrote : (reply : WriteReply) (took : Took moment caller command s reply t) → Stocked t → w.own ≡ v.own ++ wrote t.told (added_by moment caller command took.write.entry) → Wrote moment caller command v reply w
   took-wrote reply took after own = record {
     at = s.accepted;
     found = found;
@@ -110,7 +87,7 @@ module _ (moment : ℤ) (caller : Caller) (command : Command) (v v1 v2 : Seated)
   its-list = ap (λ (u : Seated). u.seen) two
 
   abbrev adds : Option Entry → List Event
-  adds found = added_by moment caller command t.told found
+  adds found = wrote t.told (added_by moment caller command found)
 
   -- it had been done already
   pub wrote-again : reply.repeat ≡ true → Wrote moment caller command v reply v2

@@ -1,6 +1,6 @@
 -- What a store holds under its lock, and what a write does to it.
-use Rattle.std.specs.Prelude.{◌≡◌, ◌⊎◌, ℕ, ℤ, List, [], ◌∷◌, ◌++◌, Option, None, Some}
-use Rattle.std.specs.Prelude.{Ok, Err}
+use Rattle.std.specs.Prelude.{◌≡◌, ◌⊎◌, ℕ, ℤ, List, [], ◌∷◌, ◌++◌, None, Some, Ok}
+use Rattle.std.specs.Prelude.{Err}
 use Rattle.an_keep.specs.Keeper.{Told, Stays}
 use Rattle.an_machine.specs.Legal.{Write}
 use Rattle.an_machine.specs.Step.{step}
@@ -14,7 +14,8 @@ use Rattle.an_shelf.specs.Store.{Stands}
 use Rattle.an_shelf.specs.Writing.{IsToKeep}
 use Rattle.an_shelf.specs.declared.error.WriteError.{WriteError}
 use Rattle.an_shelf.specs.declared.error.WriteError.TheVariants.{Refused, Keeper, Memory}
-use Rattle.an_laws.specs.Events.{Event, Wrote, IsLegal, Keeps, state_at, told_at}
+use Rattle.an_laws.specs.Events.{Event, Wrote, IsLegal, Keeps, added_by, state_at, told_at}
+use Rattle.an_laws.specs.Events.{wrote}
 
 -- the list that is published; all that was accepted, which may be one event more; the state behind
 -- that; the cells where the keeper tells them; and how often the keeper failed
@@ -64,19 +65,14 @@ pub record Rests (s t : Stock) : Type 0 where
   pub same_told : t.told ≡ s.told
   pub same_faults : t.faults ≡ s.faults
 
--- what a write adds to a list, behind which the keeper told this; a repeat adds nothing
-abbrev pub added_by : ℤ → Caller → Command → Told → Option Entry → List Event
-added_by moment caller command told None = []
-added_by moment caller command told (Some entry) =
-    Wrote (record { moment = moment; caller = caller; command = command; entry = entry }) told ∷ []
-
 -- the write was decided at all that was accepted before, and what it adds is published behind that
 pub record Took (moment : ℤ) (caller : Caller) (command : Command) (s : Stock)
     (reply : WriteReply) (t : Stock) : Type 0 where
   pub write : Decided
   pub is : step s.state moment caller command ≡ Ok write
   pub replies : reply ≡ write.reply
-  pub published : t.published ≡ s.accepted ++ added_by moment caller command t.told write.entry
+  pub published : t.published
+      ≡ s.accepted ++ wrote t.told (added_by moment caller command write.entry)
   pub accepted : t.accepted ≡ t.published
   pub rests : write.entry ≡ None → Rests s t
 
@@ -87,7 +83,8 @@ pub record Waits (moment : ℤ) (caller : Caller) (command : Command) (s t : Sto
   pub is : step s.state moment caller command ≡ Ok write
   pub has : write.entry ≡ Some entry
   pub published : t.published ≡ s.accepted
-  pub accepted : t.accepted ≡ s.accepted ++ added_by moment caller command t.told (Some entry)
+  pub accepted : t.accepted
+      ≡ s.accepted ++ wrote t.told (added_by moment caller command (Some entry))
 
 -- The machine refused the write; or the keeper failed where it was called for; or memory ran out
 -- before the write was kept, or behind it.

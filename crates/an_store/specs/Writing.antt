@@ -11,9 +11,8 @@ use Rattle.an_state.specs.declared.command.Command.{Command}
 use Rattle.an_shelf.specs.Writing.{IsToKeep}
 use Rattle.an_shelf.specs.declared.error.WriteError.{WriteError}
 use Rattle.an_shelf.specs.declared.error.WriteError.TheVariants.{Refused, Keeper, Memory}
-use Rattle.an_laws.specs.Events.{Event, IsLegal, state_at}
+use Rattle.an_laws.specs.Events.{Event, IsLegal, added_by, state_at, wrote}
 use Rattle.an_store.specs.Lists.{Seated}
-use Rattle.an_store.specs.Stock.{added_by}
 
 -- The write was decided at this list, which goes on from the one that the seat saw. What it adds
 -- there was kept, as the keeper told then; it is the seat's own, and the seat saw it.
@@ -25,9 +24,9 @@ pub record Wrote (moment : ℤ) (caller : Caller) (command : Command) (old : Sea
   pub is : step (state_at at) moment caller command ≡ Ok write
   pub replies : reply ≡ write.reply
   pub told : Told
-  pub legal : IsLegal (at ++ added_by moment caller command told write.entry)
-  pub seen : IsPrefix (at ++ added_by moment caller command told write.entry) new.seen
-  pub own : new.own ≡ old.own ++ added_by moment caller command told write.entry
+  pub legal : IsLegal (at ++ wrote told (added_by moment caller command write.entry))
+  pub seen : IsPrefix (at ++ wrote told (added_by moment caller command write.entry)) new.seen
+  pub own : new.own ≡ old.own ++ wrote told (added_by moment caller command write.entry)
 
 -- The write was refused at this list, which goes on from the one that the seat saw, and which the
 -- seat saw.

@@ -8,7 +8,8 @@ ghost use Rattle.an_machine.specs.declared.command.Decided.{Decided};
 ghost use Rattle.an_state.specs.Commands.{is_sendable, is_write};
 ghost use Rattle.an_store.specs.Lists.{Stands};
 ghost use Rattle.an_store.specs.Side.{Sided, stock_of};
-ghost use Rattle.an_store.specs.Stock.{Fails, Rests, Stocked, Took, added_by};
+ghost use Rattle.an_laws.specs.Events.{added_by, wrote};
+ghost use Rattle.an_store.specs.Stock.{Fails, Rests, Stocked, Took};
 ghost use Rattle.an_store.specs.Writing.{Missed, Wrote};
 
 use crate::event::Kept;
@@ -225,7 +226,7 @@ impl<K: Keeper, J: Naming> Side<K, J> {
         requires settled { self.old.published ≡ self.old.accepted }
         ensures stocked { Stocked self.new }
         ensures published { OnOk result (self.new.published ≡ self.old.accepted
-            ++ added_by moment caller.now command.now self.new.told (Some entry)) }
+            ++ wrote self.new.told (added_by moment caller.now command.now (Some entry))) }
         ensures accepted { OnOk result (self.new.accepted ≡ self.new.published) }
         ensures fails { IfErr result
             (λ error. Fails moment caller.now command.now self.old error self.new) }
