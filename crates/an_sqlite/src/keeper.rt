@@ -1,0 +1,133 @@
+ghost use Rattle.std.specs.Prelude.{◌≡◌, ◌≤◌, ◌^◌, false, nat_lt};
+ghost use Rattle.std.specs.List.{list_all};
+ghost use Rattle.an_base.specs.Faults.{Rises};
+
+use crate::base::Base;
+use crate::place::Place;
+use an_base::Text;
+use an_keep::{Cell, Change, KeepError, Keeper};
+use sqlite::{Alter, Connection, File, FileStore};
+use std::rt::HostRuntime;
+
+/// A keeper whose cells stand in the table `cell` of a database, which its first call makes where
+/// it isn't there. It tells no cells.
+///
+/// Each refused statement is a failure and counted, but for want of memory; so is a key above
+/// 2^63 - 1 that is to be put or taken, before any statement runs, and a row that is no cell, as a
+/// foreign table may have one. When it is dropped, the log of a file that it opened is copied into
+/// the file.
+#[derive(Drop)]
+pub struct SqlKeeper<S: Alter + Drop> {
+    place: Place<S>,
+    faults: u64,
+}
+
+impl SqlKeeper<FileStore<File>> {
+    /// A keeper over the file at this path, which it opens, or makes, at its first call, and again
+    /// at the next where that is refused. Takes no memory.
+    pub fn at(rt: &HostRuntime, path: Text) -> SqlKeeper<FileStore<File>>
+        ensures { result.faults ≡ 0 }
+    {
+        SqlKeeper {
+            place: Place::Closed(*rt, path),
+            faults: 0,
+        }
+    }
+}
+
+impl<S: Alter + Drop> SqlKeeper<S> {
+    /// A keeper over an open connection. Takes no memory.
+    pub fn adopt(connection: Connection<S>) -> SqlKeeper<S>
+        ensures { result.faults ≡ 0 }
+    {
+        SqlKeeper {
+            place: Place::Adopted(Base::new(connection)),
+            faults: 0,
+        }
+    }
+
+    /// The connection that was adopted, as the last call left it. A keeper over a file of its own
+    /// ends as it does where it is dropped, and gives none.
+    pub fn into_connection(self) -> Option<Connection<S>> {
+        let SqlKeeper { place, faults: _ } = self;
+        place.into_connection()
+    }
+
+    /// How many calls failed. The count stands still at `u64::MAX`.
+    pub fn faults(&self) -> u64
+        ensures { result ≡ self.now.faults }
+    {
+        self.faults
+    }
+}
+
+/// Whether a row can have the key.
+fn is_key(key: u64) -> bool
+    ensures { result ≡ nat_lt key (2 ^ 63) }
+{
+    key < 1 << 63
+}
+
+/// Whether each change is of a key that a row can have.
+fn have_keys(changes: &[Change]) -> bool
+    ensures { result ≡ list_all (λ change. nat_lt change.key (2 ^ 63)) changes.now }
+{
+    changes.iter().all(|change| is_key(change.key))
+}
+
+/// The answer, which is counted where it is a failure.
+fn counted<T>(faults: &mut u64, answer: Result<T, KeepError>) -> Result<T, KeepError>
+    ensures same { result ≡ answer }
+    ensures counted { result ≡ Err KeepError.Failed → Rises faults.old faults.new }
+    ensures kept { faults.old ≤ faults.new }
+{
+    match answer {
+        Ok(given) => Ok(given),
+        Err(KeepError::Failed) => {
+            *faults = faults.saturating_add(1);
+            Err(KeepError::Failed)
+        }
+        Err(KeepError::Memory) => Err(KeepError::Memory),
+    }
+}
+
+impl<S: Alter + Drop> Keeper for SqlKeeper<S> {
+    ghost use Rattle.std.specs.Prelude.{None, false};
+    ghost use Rattle.std.proofs.Common.{rules};
+
+    ghost told = { λ _. None };
+
+    ghost faults = { λ keeper. keeper.faults };
+
+    ghost is_sure = { false };
+
+    // It claims no such thing.
+    ghost sure_keeps = { Prim.search rules };
+
+    /// Does all of these changes, or none. With a key above 2^63 - 1 it fails, and asks nothing of
+    /// the database.
+    fn commit(&mut self, changes: &[Change]) -> Result<(), KeepError>
+        ensures keys { list_all (λ change. nat_lt change.key (2 ^ 63)) changes.now ≡ false
+            → (result ≡ Err KeepError.Failed) × (self.new.place ≡ self.old.place) }
+
+        // What each keeper ensures.
+        ensures counted { result ≡ Err KeepError.Failed → Rises self.old.faults self.new.faults }
+        ensures faults_kept { self.old.faults ≤ self.new.faults }
+    {
+        if !have_keys(changes) {
+            return counted(&mut self.faults, Err(KeepError::Failed));
+        }
+        let done = self.place.commit(changes);
+        counted(&mut self.faults, done)
+    }
+
+    fn first(&mut self) -> Result<Option<Cell>, KeepError> {
+        let answer = self.place.first();
+        counted(&mut self.faults, answer)
+    }
+
+    fn next_after(&mut self, tab: u8, key: u64) -> Result<Option<Cell>, KeepError> {
+        let answer = self.place.next_after(tab, key);
+        counted(&mut self.faults, answer)
+    }
+}
