@@ -34,8 +34,11 @@ task_of() {
   echo "$crate $kind"
 }
 
+# A kit that keeps nothing between runs has no word for a run from nothing.
+anew=()
+if rt help 2>&1 | grep -q -- --anew; then anew=(--anew); fi
 declare -A tasks=() ticks=() minutes=()
-ANNO_GATE=$$ rt ci --anew >&2 &
+ANNO_GATE=$$ rt ci "${anew[@]}" >&2 &
 gate=$!
 while kill -0 "$gate" 2>/dev/null; do
   while read -r pid start used; do

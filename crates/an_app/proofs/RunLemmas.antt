@@ -20,17 +20,18 @@ use Rattle.an_app.specs.Unopened.{IsCause, Unopened, unopened_text}
 use Rattle.an_app.specs.AtStore.{ExportsAt}
 use Rattle.an_lines.specs.Export.{export_report, export_told, view_named}
 use Rattle.an_app.specs.SessionEnds.{ended_status}
+use Rattle.an_app.specs.Serving.{DoorEnd, ServesTo}
 use Rattle.an_lines.specs.Status.{Exchanges, Finds, IsUnfailing, Misunderstands, PrintsFront, ReadsLittle, misunderstood}
 use Rattle.an_lines.specs.Told.{IsTold, Tells}
 use Rattle.an_laws.specs.Events.{Keeps}
 use Rattle.an_app.specs.Outside.{Outside, WasLeft, outside_of}
 use Rattle.an_app.specs.Runs.{ReadsInput, Runs}
-use Rattle.an_app.specs.declared.form.Form.{Form}
-use Rattle.an_app.specs.declared.form.Form.TheVariants as form
+use Rattle.an_forms.specs.declared.form.Form.{Form}
+use Rattle.an_forms.specs.declared.form.Form.TheVariants as form
 use Rattle.an_lines.specs.Trials.{trial_report}
 use Rattle.an_lines.specs.declared.status.Status.{Status}
 use Rattle.an_lines.specs.declared.status.Status.TheVariants as status
-use Rattle.an_lines.proofs.StatusLemmas.{Finds-no_memory, TellsReport-kept, TellsReport-nothing, TellsReport-unfailing, exchange, exchange-read, prints-unread, reads_little-nothing, reads-nothing}
+use Rattle.an_lines.proofs.StatusLemmas.{Finds-no_memory, TellsReport-kept, TellsReport-nothing, TellsReport-shut, TellsReport-unfailing, exchange, exchange-read, prints-unread, reads_little-nothing, reads-nothing}
 
 -- ---- a store that isn't opened
 
@@ -135,16 +136,17 @@ little_requests (Some old) (Some new) little = record {
 -- ---- all forms
 
 -- memory ran out before the form was read
-pub Runs-nothing_read : (outside : Outside) (clock : ℤ → Bool) (now : Line) (form : Option Form)
-    → IfSome form (Runs outside clock now now status.Memory)
+pub Runs-nothing_read : (outside : Outside) (door : DoorEnd) (clock : ℤ → Bool) (now : Line) (form : Option Form)
+    → IfSome form (Runs outside door clock now now status.Memory)
 unfolding ExportsAt
-Runs-nothing_read outside clock now None = tt
-Runs-nothing_read outside clock now (Some (form.Find site)) =
+Runs-nothing_read outside door clock now None = tt
+Runs-nothing_read outside door clock now (Some (form.Find site)) =
     Finds-no_memory site outside.read_failed outside.write_failed now.traffic now.traffic ([], reads-nothing now.traffic, omega arith)
-Runs-nothing_read outside clock now (Some form.Import) = inr (Unopened-no_memory (IsCause outside) outside.write_failed now.traffic)
-Runs-nothing_read outside clock now (Some (form.Export by)) = inr (Unopened-no_memory (IsCause outside) outside.write_failed now.traffic)
-Runs-nothing_read outside clock now (Some (form.Session site)) = inr (Unopened-no_memory (IsCause outside) outside.write_failed now.traffic)
-Runs-nothing_read outside clock now (Some (form.Trial count seed)) =
+Runs-nothing_read outside door clock now (Some form.Import) = inr (Unopened-no_memory (IsCause outside) outside.write_failed now.traffic)
+Runs-nothing_read outside door clock now (Some (form.Export by)) = inr (Unopened-no_memory (IsCause outside) outside.write_failed now.traffic)
+Runs-nothing_read outside door clock now (Some (form.Session site)) = inr (Unopened-no_memory (IsCause outside) outside.write_failed now.traffic)
+Runs-nothing_read outside door clock now (Some (form.Serve serving)) = inr (Unopened-no_memory (IsCause outside) outside.write_failed now.traffic)
+Runs-nothing_read outside door clock now (Some (form.Trial count seed)) =
     TellsReport-nothing (trial_report (record { count = count; seed = seed })) outside.write_failed now.traffic
 
 pub Misunderstands-nothing_read : (Failed : Type 0) (traffic : Option Traffic) (form : Option Form) → IfNone form (Misunderstands Failed traffic traffic status.Memory)
@@ -157,6 +159,7 @@ ReadsInput-nothing_read traffic (Some (form.Find site)) = reads_little-nothing t
 ReadsInput-nothing_read traffic (Some form.Import) = reads_little-nothing traffic
 ReadsInput-nothing_read traffic (Some (form.Export by)) = reads_little-nothing traffic
 ReadsInput-nothing_read traffic (Some (form.Session site)) = little_requests traffic traffic (reads_little-nothing traffic)
+ReadsInput-nothing_read traffic (Some (form.Serve serving)) = reads_little-nothing traffic
 ReadsInput-nothing_read traffic (Some (form.Trial count seed)) = reads_little-nothing traffic
 
 pub never_rises : (a b : ℕ) → a ≡ 0 → b ≡ 0 → Rises a b → ⊥
@@ -165,7 +168,7 @@ never_rises a b none still rises = let k : a < b = rises (omega arith) in omega 
 pub keeper_never_rises : (a b : ℕ) → b ≡ 0 → a ≤ b → Rises a b → ⊥
 keeper_never_rises a b still kept rises = let k : a < b = rises (omega arith) in omega arith
 
-module _ (outside : Outside) (clock : ℤ → Bool) (old new : Line) where
+module _ (outside : Outside) (door : DoorEnd) (clock : ℤ → Bool) (old new : Line) where
   find_unfailing : (site : Site) (end : Status) → ¬ outside.read_failed → ¬ outside.write_failed → Finds site outside.read_failed outside.write_failed old.traffic new.traffic end → IsUnfailing end
   unfolding Finds
   find_unfailing site status.WriteFault read written run = absurd (written run.0)
@@ -215,12 +218,27 @@ module _ (outside : Outside) (clock : ℤ → Bool) (old new : Line) where
       ⊎_elim (λ opened. TellsReport-kept (export_report opened.state by) outside.write_failed old.traffic new.traffic (export_told-is (view_named opened.state by)) opened.tells)
       (λ whole. unopened_kept (IsCause outside) outside.write_failed old.traffic new.traffic kept whole) run
 
-  run_unfailing : (end : Status) (form : Form) → (Rises old.read_faults new.read_faults → outside.read_failed) → (Rises old.write_faults new.write_faults → outside.write_failed) → ¬ outside.read_failed → ¬ outside.write_failed → Runs outside clock old new end form → IsUnfailing end
+  serve_unfailing : (port most : ℕ) (end : Status) → ¬ outside.write_failed → ServesTo door outside.write_failed port most old.traffic new.traffic end → IsUnfailing end
+  unfolding ServesTo
+  serve_unfailing port most status.WriteFault written run = absurd (written run.0)
+  serve_unfailing port most status.ReadFault written run = absurd run
+  serve_unfailing port most status.Done written run = tt
+  serve_unfailing port most status.DoorFailed written run = tt
+  serve_unfailing port most status.Misunderstood written run = tt
+  serve_unfailing port most status.Refused written run = tt
+  serve_unfailing port most status.KeeperFailed written run = tt
+  serve_unfailing port most status.Memory written run = tt
+  serve_unfailing port most (status.Damaged tab key) written run = tt
+  serve_unfailing port most status.NoReader written run = tt
+
+  run_unfailing : (end : Status) (form : Form) → (Rises old.read_faults new.read_faults → outside.read_failed) → (Rises old.write_faults new.write_faults → outside.write_failed) → ¬ outside.read_failed → ¬ outside.write_failed → Runs outside door clock old new end form → IsUnfailing end
   run_unfailing end (form.Find site) reads writes read written run = find_unfailing site end read written run
   run_unfailing end form.Import reads writes read written run =
       ⊎_elim (λ opened. import_unfailing opened.before opened.behind end read written opened.imports) (λ whole. unopened_unfailing (IsCause outside) outside.write_failed old.traffic new.traffic end written whole) run
   run_unfailing end (form.Export by) reads writes read written run = export_unfailing by end written run
   run_unfailing end (form.Trial count seed) reads writes read written run = TellsReport-unfailing (trial_report (record { count = count; seed = seed })) outside.write_failed old.traffic new.traffic end tt written run
+  run_unfailing end (form.Serve serving) reads writes read written run =
+      ⊎_elim (λ opened. serve_unfailing serving.port serving.connections end written opened.ends) (λ whole. unopened_unfailing (IsCause outside) outside.write_failed old.traffic new.traffic end written whole) run
   run_unfailing end (form.Session site) reads writes read written run =
       ⊎_elim (λ opened.
       let session = opened.connection.session in
@@ -241,23 +259,73 @@ module _ (outside : Outside) (clock : ℤ → Bool) (old new : Line) where
   unfolding Imports
   import_kept s t kept run = kept run.comes.0
 
-  run_kept : (form : Form) → ¬ outside.keeper_can_fail → Runs outside clock old new status.KeeperFailed form → ⊥
+  serve_kept : (port most : ℕ) → ServesTo door outside.write_failed port most old.traffic new.traffic status.KeeperFailed → ⊥
+  unfolding ServesTo
+  serve_kept port most run = run
+
+  run_kept : (form : Form) → ¬ outside.keeper_can_fail → Runs outside door clock old new status.KeeperFailed form → ⊥
   run_kept (form.Find site) kept run = find_kept site run
   run_kept form.Import kept run =
       ⊎_elim (λ opened. import_kept opened.before opened.behind kept opened.imports) (λ whole. unopened_kept (IsCause outside) outside.write_failed old.traffic new.traffic kept whole) run
   run_kept (form.Export by) kept run = export_kept by kept run
   run_kept (form.Trial count seed) kept run = TellsReport-kept (trial_report (record { count = count; seed = seed })) outside.write_failed old.traffic new.traffic tt run
+  run_kept (form.Serve serving) kept run =
+      ⊎_elim (λ opened. serve_kept serving.port serving.connections opened.ends) (λ whole. unopened_kept (IsCause outside) outside.write_failed old.traffic new.traffic kept whole) run
   run_kept (form.Session site) kept run = ⊎_elim (λ opened. ended_kept opened.ended opened.is) (λ whole. unopened_kept (IsCause outside) outside.write_failed old.traffic new.traffic kept whole) run
 
   -- no call of the link is told to have failed where none can
-  pub ends_unfailing : (end : Status) (form : Option Form) → (Rises old.read_faults new.read_faults → outside.read_failed) → (Rises old.write_faults new.write_faults → outside.write_failed) → ¬ outside.read_failed → ¬ outside.write_failed → IfSome form (Runs outside clock old new end)
+  pub ends_unfailing : (end : Status) (form : Option Form) → (Rises old.read_faults new.read_faults → outside.read_failed) → (Rises old.write_faults new.write_faults → outside.write_failed) → ¬ outside.read_failed → ¬ outside.write_failed → IfSome form (Runs outside door clock old new end)
       → IfNone form (Misunderstands outside.write_failed old.traffic new.traffic end) → IsUnfailing end
   ends_unfailing end None reads writes read written understood run = TellsReport-unfailing misunderstood outside.write_failed old.traffic new.traffic end tt written run
   ends_unfailing end (Some form) reads writes read written understood _ = run_unfailing end form reads writes read written understood
 
   -- nor the keeper
-  pub ends_kept : (end : Status) (form : Option Form) → ¬ outside.keeper_can_fail → IfSome form (Runs outside clock old new end)
+  pub ends_kept : (end : Status) (form : Option Form) → ¬ outside.keeper_can_fail → IfSome form (Runs outside door clock old new end)
       → IfNone form (Misunderstands outside.write_failed old.traffic new.traffic end) → ¬ (end ≡ status.KeeperFailed)
   ends_kept end None kept understood run = λ is. TellsReport-kept misunderstood outside.write_failed old.traffic new.traffic tt (subst (λ end. Misunderstands outside.write_failed old.traffic new.traffic end) is run)
   ends_kept end (Some form) kept understood _ =
-      λ is. run_kept form kept (subst (λ end. Runs outside clock old new end form) is understood)
+      λ is. run_kept form kept (subst (λ end. Runs outside door clock old new end form) is understood)
+
+  -- ---- a door that never fails
+
+  ended_shut : (ended : Ended) → status.DoorFailed ≡ ended_status ended → ⊥
+  ended_shut ended.Closed is = cc
+  ended_shut ended.ReadFault is = cc
+  ended_shut ended.WriteFault is = cc
+  ended_shut ended.Memory is = cc
+
+  find_shut : (site : Site) → Finds site outside.read_failed outside.write_failed old.traffic new.traffic status.DoorFailed → ⊥
+  unfolding Finds
+  find_shut site run = run
+
+  import_shut : (s t : State) → Imports outside.read_failed outside.write_failed outside.keeper_can_fail old.traffic new.traffic s t status.DoorFailed → ⊥
+  unfolding Imports
+  import_shut s t run = run
+
+  unopened_shut : Unopened (IsCause outside) outside.write_failed old.traffic new.traffic status.DoorFailed → ⊥
+  unfolding Unopened
+  unopened_shut run = run
+
+  export_shut : (by : List ℕ) → ExportsAt outside by old.traffic new.traffic status.DoorFailed → ⊥
+  unfolding ExportsAt
+  export_shut by run =
+      ⊎_elim (λ opened. TellsReport-shut (export_report opened.state by) outside.write_failed old.traffic new.traffic (export_told-is (view_named opened.state by)) opened.tells) unopened_shut run
+
+  serve_shut : (port most : ℕ) → door.faults ≡ 0 → ServesTo door outside.write_failed port most old.traffic new.traffic status.DoorFailed → ⊥
+  unfolding ServesTo
+  serve_shut port most none run = let some : 0 < door.faults = run.0 in omega (arith, none, some)
+
+  run_shut : (form : Form) → door.faults ≡ 0 → Runs outside door clock old new status.DoorFailed form → ⊥
+  run_shut (form.Find site) none run = find_shut site run
+  run_shut form.Import none run = ⊎_elim (λ opened. import_shut opened.before opened.behind opened.imports) unopened_shut run
+  run_shut (form.Export by) none run = export_shut by run
+  run_shut (form.Trial count seed) none run = TellsReport-shut (trial_report (record { count = count; seed = seed })) outside.write_failed old.traffic new.traffic tt run
+  run_shut (form.Session site) none run = ⊎_elim (λ opened. ended_shut opened.ended opened.is) unopened_shut run
+  run_shut (form.Serve serving) none run = ⊎_elim (λ opened. serve_shut serving.port serving.connections none opened.ends) unopened_shut run
+
+  -- nor the door
+  pub ends_shut : (end : Status) (form : Option Form) → door.faults ≡ 0 → IfSome form (Runs outside door clock old new end)
+      → IfNone form (Misunderstands outside.write_failed old.traffic new.traffic end) → ¬ (end ≡ status.DoorFailed)
+  ends_shut end None none understood run = λ is. TellsReport-shut misunderstood outside.write_failed old.traffic new.traffic tt (subst (λ end. Misunderstands outside.write_failed old.traffic new.traffic end) is run)
+  ends_shut end (Some form) none understood _ =
+      λ is. run_shut form none (subst (λ end. Runs outside door clock old new end form) is understood)

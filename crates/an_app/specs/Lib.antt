@@ -1,6 +1,6 @@
-pub mod Form
 pub mod Outside
 pub mod Unopened
 pub mod AtStore
 pub mod SessionEnds
+pub mod Serving
 pub mod Runs

@@ -2,34 +2,52 @@ ghost use Rattle.std.specs.Prelude.{◌≡◌, IfNone, IfSome, IsTrue, map, stri
 ghost use Rattle.an_base.specs.Faults.{Rises};
 ghost use Rattle.an_session.specs.Session.{line};
 ghost use Rattle.an_lines.specs.Status.{IsUnfailing, Misunderstands, ReadsLittle};
-ghost use Rattle.an_app.specs.Form.{form_of};
+ghost use Rattle.an_forms.specs.Form.{IsServed, form_of};
 ghost use Rattle.an_app.specs.Outside.{outside_of};
 ghost use Rattle.an_app.specs.Runs.{ReadsInput, Runs};
 
-use crate::form::{Form, form_of};
+use crate::serving::serve_at;
 use crate::stored::{export_at, import_at, session_at};
+use an_door::Door;
+use an_forms::{Form, form_of};
 use an_keep::Keeper;
 use an_lines::{Status, find, tell_report, trial};
+use an_seats::AtStores;
 use an_world::{Clock, Link};
 use std::alloc::Global;
+use std::sync::Wait;
+use std::thread::Threads;
 
-/// Does what the words say. They are those of a form, each behind `-`, which stands for an empty
-/// store in memory, the keeper: `import`, which writes lines to the store; `export`, which prints
-/// what the reader of a name sees of it; with the base of all IRIs and how many items a page has,
+/// Does what the words say. They are those of a form, each behind a word that names the store, whose
+/// cells the keeper has: `import`, which writes lines to the store; `export`, which prints what the
+/// reader of a name sees of it; with the base of all IRIs and how many items a page has,
 /// `find`, which plays lines over a state of its own, or `session`, which serves one connection over
-/// the link; or, with how many annotations and a seed, `trial`, which plays a generated input. The
-/// run ends as misunderstood for other words, where nothing is read.
-pub fn run<L: Link, K: Keeper, C: Clock>(
+/// the link, or, with a port, how many are served at once and how many in all, `serve`, which serves
+/// the connections that come in at the door; or, with how many annotations and a seed, `trial`,
+/// which plays a generated input. The run ends as misunderstood for other words, where nothing is
+/// read. The door may not be bound yet.
+pub fn run<
+    R: Threads + Wait + Sync,
+    K: Keeper + Send,
+    L: Link,
+    T: Link + Send,
+    D: Door<AtStores<K>, Link = T> + Send,
+    C: Clock + Sync,
+>(
+    rt: &R,
     alloc: Global,
     words: &[String],
-    link: &mut L,
     keeper: K,
+    link: &mut L,
+    door: &mut D,
     clock: &C,
 ) -> Status
+    requires unbound { (D.counts door.old).port ≡ 0 }
     ensures understood { IfSome (form_of (map string_bytes words.now)) (Runs
         (outside_of K.told (K.told keeper) (¬ (IsTrue K.is_sure))
         (Rises (L.read_faults link.old) (L.read_faults link.new))
         (Rises (L.write_faults link.old) (L.write_faults link.new)))
+        (record { tally = D.counts door.new; faults = D.faults door.new })
         (C.answers clock.now)
         (line (L.traffic link.old) (L.read_faults link.old) (L.write_faults link.old))
         (line (L.traffic link.new) (L.read_faults link.new) (L.write_faults link.new)) result) }
@@ -39,26 +57,38 @@ pub fn run<L: Link, K: Keeper, C: Clock>(
     ensures bounded { IfSome (form_of (map string_bytes words.now)) (ReadsInput
         (L.traffic link.old) (L.traffic link.new)) }
 
-    // Over a link that never fails all is printed, unless memory runs out. A keeper that never
-    // fails isn't told to have failed.
+    // Over a link that never fails all is printed, unless memory runs out. A keeper and a door that
+    // never fail aren't told to have failed.
     ensures sure_link { IsTrue L.is_sure → IsUnfailing result }
     ensures sure_keeper { IsTrue K.is_sure → ¬ (result ≡ Status.KeeperFailed) }
+    ensures sure_door { IsTrue D.is_sure → ¬ (result ≡ Status.DoorFailed) }
 {
-    run_words(alloc, words, link, keeper, clock)
+    run_words(rt, alloc, words, keeper, link, door, clock)
 }
 
-/// The same, but for what is known of a link or a keeper that never fails.
-fn run_words<L: Link, K: Keeper, C: Clock>(
+/// The same, but for what is known of a link, a keeper or a door that never fails.
+fn run_words<
+    R: Threads + Wait + Sync,
+    K: Keeper + Send,
+    L: Link,
+    T: Link + Send,
+    D: Door<AtStores<K>, Link = T> + Send,
+    C: Clock + Sync,
+>(
+    rt: &R,
     alloc: Global,
     words: &[String],
-    link: &mut L,
     keeper: K,
+    link: &mut L,
+    door: &mut D,
     clock: &C,
 ) -> Status
+    requires unbound { (D.counts door.old).port ≡ 0 }
     ensures understood { IfSome (form_of (map string_bytes words.now)) (Runs
         (outside_of K.told (K.told keeper) (¬ (IsTrue K.is_sure))
         (Rises (L.read_faults link.old) (L.read_faults link.new))
         (Rises (L.write_faults link.old) (L.write_faults link.new)))
+        (record { tally = D.counts door.new; faults = D.faults door.new })
         (C.answers clock.now)
         (line (L.traffic link.old) (L.read_faults link.old) (L.write_faults link.old))
         (line (L.traffic link.new) (L.read_faults link.new) (L.write_faults link.new)) result) }
@@ -69,24 +99,28 @@ fn run_words<L: Link, K: Keeper, C: Clock>(
         (L.traffic link.old) (L.traffic link.new)) }
 {
     match form_of(alloc, words) {
-        Ok(Some(form)) => run_form(alloc, form, link, keeper, clock),
+        Ok(Some(form)) => run_form(rt, alloc, form, keeper, link, door, clock),
         Ok(None) => misunderstood(link),
         Err(_) => Status::Memory,
     }
 }
 
 /// Does what a form says.
-fn run_form<L: Link, K: Keeper, C: Clock>(
-    alloc: Global,
-    form: Form,
-    link: &mut L,
-    keeper: K,
-    clock: &C,
-) -> Status
+fn run_form<
+    R: Threads + Wait + Sync,
+    K: Keeper + Send,
+    L: Link,
+    T: Link + Send,
+    D: Door<AtStores<K>, Link = T> + Send,
+    C: Clock + Sync,
+>(rt: &R, alloc: Global, form: Form, keeper: K, link: &mut L, door: &mut D, clock: &C) -> Status
+    requires served { IsServed form }
+    requires unbound { (D.counts door.old).port ≡ 0 }
     ensures runs { Runs
         (outside_of K.told (K.told keeper) (¬ (IsTrue K.is_sure))
         (Rises (L.read_faults link.old) (L.read_faults link.new))
         (Rises (L.write_faults link.old) (L.write_faults link.new)))
+        (record { tally = D.counts door.new; faults = D.faults door.new })
         (C.answers clock.now)
         (line (L.traffic link.old) (L.read_faults link.old) (L.write_faults link.old))
         (line (L.traffic link.new) (L.read_faults link.new) (L.write_faults link.new)) result form }
@@ -100,6 +134,7 @@ fn run_form<L: Link, K: Keeper, C: Clock>(
         Form::Import => import_at(alloc, link, keeper),
         Form::Export(by) => export_at(alloc, link, keeper, by.as_str()),
         Form::Session(settings) => session_at(alloc, link, keeper, &settings, clock),
+        Form::Serve(serving) => serve_at(rt, alloc, keeper, link, &serving, door, clock),
         Form::Trial { count, seed } => {
             drop(keeper);
             trial(alloc, link, count, seed)

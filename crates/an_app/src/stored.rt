@@ -136,7 +136,7 @@ fn ended_status(ended: Ended) -> Status
 // ---- a store that isn't opened
 
 /// Tells why the store isn't opened.
-fn unopened<L: Link>(alloc: Global, link: &mut L, error: OpenError) -> Status
+pub(crate) fn unopened<L: Link>(alloc: Global, link: &mut L, error: OpenError) -> Status
     ensures told { Unopened (λ why. (why ≡ error) × ¬ (why ≡ OpenError.Memory))
         (Rises (L.write_faults link.old) (L.write_faults link.new))
         (L.traffic link.old) (L.traffic link.new) result }

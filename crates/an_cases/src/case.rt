@@ -7,7 +7,8 @@ use std::alloc::Global;
 /// What a case plays.
 #[derive(Clone, Copy)]
 pub enum Kind {
-    /// A run of the server over a link in memory, which is given the input.
+    /// A run of the server over a link in memory, which is given the input, and at a door in memory
+    /// with the links of the case.
     Run,
     /// A call of one of the crates below, once for each row that is due.
     Rows(Call),
@@ -15,6 +16,8 @@ pub enum Kind {
     SureRuns,
     /// What is done with a store in memory, one after the other, a row each.
     Store,
+    /// Requests at a desk and at a store of one seat, whose keeper fails a call.
+    Failing,
     /// What a snapshot answers behind writes, beside a plain book.
     Snapshot,
 }
@@ -24,6 +27,7 @@ pub fn rows_named(name: &str) -> Option<Kind> {
     match name {
         "sure_run" => Some(Kind::SureRuns),
         "store" => Some(Kind::Store),
+        "failing" => Some(Kind::Failing),
         "snapshot" => Some(Kind::Snapshot),
         _ => call_named(name).map(Kind::Rows),
     }
@@ -50,6 +54,10 @@ pub struct Case {
     /// The numbers, from 1, of the reads and the writes that fail.
     pub fail_reads: Vec<u64>,
     pub fail_writes: Vec<u64>,
+    /// What comes in over each link of the door of a run.
+    pub links: Vec<Vec<u8>>,
+    /// The numbers, from 1, of the calls of the door that fail.
+    pub fail_door: Vec<u64>,
     /// The cells of the store that a run is given.
     pub cells: Vec<Cell>,
     /// The numbers, from 1, of the calls of the keeper that fail; the first ones put these cells.
@@ -75,6 +83,8 @@ impl Case {
             cut: Vec::new(alloc),
             fail_reads: Vec::new(alloc),
             fail_writes: Vec::new(alloc),
+            links: Vec::new(alloc),
+            fail_door: Vec::new(alloc),
             cells: Vec::new(alloc),
             fail_keeps: Vec::new(alloc),
             imported: Vec::new(alloc),

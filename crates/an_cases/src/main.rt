@@ -3,6 +3,7 @@
 #![tactic(auto)]
 
 mod case;
+mod failing;
 mod play;
 mod rows;
 mod stores;
@@ -14,6 +15,8 @@ use case::Case;
 use play::play;
 use std::process::ExitCode;
 use std::rt::Files;
+use std::sync::Wait;
+use std::thread::Threads;
 use std::{fs, io};
 use table::Table;
 
@@ -27,7 +30,9 @@ fn main(rt: HostRuntime) -> ExitCode {
 }
 
 /// Plays the table on standard input, and answers whether it is one and no case is wrong.
-fn play_input<R: Input + Files + Print + AllocGlobal>(rt: &R) -> io::Result<bool> {
+fn play_input<R: Input + Files + Print + AllocGlobal + Threads + Wait + Sync>(
+    rt: &R,
+) -> io::Result<bool> {
     let mut table = Table::new(rt.alloc());
     if !read_input(rt, &mut table)? {
         return Ok(false);
@@ -88,7 +93,10 @@ fn read_line<R: Print>(
 
 /// Plays the cases, prints how many there are and how many of them are wrong, and answers whether
 /// none is.
-fn play_all<R: Print + AllocGlobal>(rt: &R, cases: &[Case]) -> io::Result<bool> {
+fn play_all<R: Print + AllocGlobal + Threads + Wait + Sync>(
+    rt: &R,
+    cases: &[Case],
+) -> io::Result<bool> {
     let mut wrong = 0usize;
     for case in cases {
         wrong = wrong_with(wrong, is_right(rt, case)?);
@@ -98,7 +106,10 @@ fn play_all<R: Print + AllocGlobal>(rt: &R, cases: &[Case]) -> io::Result<bool> 
 }
 
 /// Plays a case, and prints what came out otherwise than it is due.
-fn is_right<R: Print + AllocGlobal>(rt: &R, case: &Case) -> io::Result<bool> {
-    let played = play(rt.alloc(), case)?;
+fn is_right<R: Print + AllocGlobal + Threads + Wait + Sync>(
+    rt: &R,
+    case: &Case,
+) -> io::Result<bool> {
+    let played = play(rt, rt.alloc(), case)?;
     report(rt, case.name.as_str(), &case.due, &played)
 }

@@ -125,7 +125,7 @@ fn put(alloc: Global, keeper: &mut MemKeeper, argument: &str) -> Result<String, 
 const CELLS: usize = 20;
 
 /// The cells in their order.
-fn cells(alloc: Global, keeper: &mut MemKeeper) -> Result<String, RowError> {
+pub(crate) fn cells(alloc: Global, keeper: &mut MemKeeper) -> Result<String, RowError> {
     let mut found = String::new(alloc);
     let mut next = keeper.first();
     for _ in 0..CELLS {

@@ -11,7 +11,7 @@ pub enum LineError {
     Unknown,
     /// It belongs to a case, and stands before the first.
     NoCase,
-    /// It is a line of a text, and no text, store, input, output or rows stand above it.
+    /// It is a line of a text, and no text, store, input, link, output or rows stand above it.
     NoPart,
     /// It names a text that doesn't stand above it.
     NoText,
@@ -19,7 +19,7 @@ pub enum LineError {
     NoCall,
     /// A number or a moment is missing, or is none.
     Number,
-    /// A call that fails is neither a read, nor a write, nor one of the keeper.
+    /// A call that fails is neither a read, nor a write, nor one of the keeper or the door.
     Fails,
     /// Its bytes aren't written as pairs of digits and letters from a to f.
     Hex,
@@ -32,11 +32,11 @@ impl LineError {
         match self {
             LineError::Unknown => "no word of a table",
             LineError::NoCase => "no case stands above it",
-            LineError::NoPart => "no text, store, input, output or rows stand above it",
+            LineError::NoPart => "no text, store, input, link, output or rows stand above it",
             LineError::NoText => "no text above it has this name",
             LineError::NoCall => "no call has this name",
             LineError::Number => "no number",
-            LineError::Fails => "neither `read`, `write` nor `keeper`",
+            LineError::Fails => "neither `read`, `write`, `keeper` nor `door`",
             LineError::Hex => "no bytes",
             LineError::Memory => "memory ran out",
         }
@@ -78,6 +78,7 @@ enum Part {
     None,
     Text,
     Input,
+    Link,
     Output,
     Imported,
 }
@@ -138,8 +139,8 @@ impl Table {
         Ok(())
     }
 
-    /// Adds a line to the text, the input, the output or the rows above it: of HTTP behind `>`, of
-    /// anything else behind `|`.
+    /// Adds a line to the text, the input, the link, the output or the rows above it: of HTTP behind
+    /// `>`, of anything else behind `|`.
     fn add_ended(&mut self, line: &str, end: &str) -> Result<(), LineError> {
         self.add(line.as_bytes())?;
         self.add(end.as_bytes())
@@ -159,6 +160,7 @@ impl Table {
             Part::None => return Err(LineError::NoPart),
             Part::Text => add_to_text(self.texts.as_mut_slice(), bytes)?,
             Part::Input => add_to_input(self.cases.as_mut_slice(), bytes)?,
+            Part::Link => add_to_link(self.cases.as_mut_slice(), bytes)?,
             Part::Output => add_to_output(self.cases.as_mut_slice(), bytes)?,
             Part::Imported => add_to_imported(self.cases.as_mut_slice(), bytes)?,
         }
@@ -175,6 +177,12 @@ impl Table {
             "input" => {
                 self.part = Part::Input;
                 add_texts(&mut case.input, self.texts.as_slice(), rest)
+            }
+            "link" => {
+                self.part = Part::Link;
+                let mut link = Vec::new(self.alloc);
+                add_texts(&mut link, self.texts.as_slice(), rest)?;
+                Ok(case.links.push(link)?)
             }
             "store" => {
                 self.part = Part::Imported;
@@ -204,6 +212,13 @@ fn add_to_text(texts: &mut [Named], bytes: &[u8]) -> Result<(), AllocError> {
 fn add_to_input(cases: &mut [Case], bytes: &[u8]) -> Result<(), AllocError> {
     match cases.last_mut() {
         Some(case) => case.input.extend_from_slice(bytes),
+        None => Ok(()),
+    }
+}
+
+fn add_to_link(cases: &mut [Case], bytes: &[u8]) -> Result<(), AllocError> {
+    match cases.last_mut().and_then(|case| case.links.last_mut()) {
+        Some(link) => link.extend_from_slice(bytes),
         None => Ok(()),
     }
 }
@@ -275,12 +290,13 @@ fn add_cell(alloc: Global, case: &mut Case, text: &str) -> Result<(), LineError>
     Ok(())
 }
 
-/// `read`, `write` or `keeper`, and the numbers of the calls that fail.
+/// `read`, `write`, `keeper` or `door`, and the numbers of the calls that fail.
 fn add_failing(case: &mut Case, text: &str) -> Result<(), LineError> {
     match text.split_once(" ") {
         Some(("read", numbers)) => Ok(add_numbers(&mut case.fail_reads, numbers)?),
         Some(("write", numbers)) => Ok(add_numbers(&mut case.fail_writes, numbers)?),
         Some(("keeper", numbers)) => Ok(add_numbers(&mut case.fail_keeps, numbers)?),
+        Some(("door", numbers)) => Ok(add_numbers(&mut case.fail_door, numbers)?),
         _ => Err(LineError::Fails),
     }
 }

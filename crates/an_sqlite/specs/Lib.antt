@@ -1,2 +1,10 @@
 pub mod Ahead
+pub mod Base
+pub mod Cells
+pub mod Later
+pub mod Place
 pub mod Row
+pub mod Statements
+pub mod Table
+pub mod Tells
+pub mod Written

@@ -1,4 +1,4 @@
-ghost use Rattle.std.specs.Prelude.{◌≡◌, IfOk, IfSome, IsTrue};
+ghost use Rattle.std.specs.Prelude.{◌≡◌, IfOk, IfSome};
 ghost use Rattle.an_keep.specs.Cells.{is_behind};
 ghost use Rattle.an_sqlite.specs.Ahead.{Gives};
 

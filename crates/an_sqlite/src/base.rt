@@ -1,4 +1,11 @@
-ghost use Rattle.std.specs.Prelude.{◌≡◌, IfOk, IfSome, IsTrue, None};
+ghost use Rattle.std.specs.Prelude.{◌≡◌, ◌≤◌, IfOk, IfSome, IsTrue, List, None, OnErr, OnOk, false};
+ghost use Rattle.an_keep.specs.declared.cell.Cell.{Cell};
+ghost use Rattle.an_sqlite.specs.Base.{Lists};
+ghost use Rattle.an_keep.specs.Cells.{first_of, put_changes};
+ghost use Rattle.an_sqlite.specs.Tells.{Tells, cells_of};
+ghost use Rattle.sqlite.specs.Held.{state};
+ghost use Rattle.sqlite.specs.State.{HasCleanDisk};
+ghost use Rattle.sqlite_trees.specs.View.{doubt};
 ghost use Rattle.an_keep.specs.Cells.{is_behind};
 
 use crate::ahead::Ahead;
@@ -17,7 +24,9 @@ pub(crate) struct Base<S: Alter + Drop> {
 
 impl<S: Alter + Drop> Base<S> {
     /// Takes no memory.
-    pub(crate) fn new(conn: Connection<S>) -> Base<S> {
+    pub(crate) fn new(conn: Connection<S>) -> Base<S>
+        ensures { result ≡ record { conn = conn; is_made = false; ahead = None } }
+    {
         Base {
             conn,
             is_made: false,
@@ -25,7 +34,9 @@ impl<S: Alter + Drop> Base<S> {
         }
     }
 
-    pub(crate) fn into_connection(self) -> Connection<S> {
+    pub(crate) fn into_connection(self) -> Connection<S>
+        ensures { result ≡ self.conn }
+    {
         let Base {
             conn,
             is_made: _,
@@ -35,8 +46,19 @@ impl<S: Alter + Drop> Base<S> {
     }
 
     /// Makes the table, where this base hasn't yet.
+    #[tactic(auto, using(crate::proofs::FirstLemmas::made_cells, crate::proofs::FirstLemmas::made_before, crate::proofs::FirstLemmas::still_holds))]
     fn make(&mut self) -> Result<(), KeepError>
-        ensures { self.new.ahead ≡ self.old.ahead }
+        ensures ahead { self.new.ahead ≡ self.old.ahead }
+        ensures made { HasCleanDisk (state S.Store self.new.conn)
+            → (cells : List Cell) → Lists S.Store self.old cells
+            → OnOk result (Tells (state S.Store self.new.conn)
+            × (cells_of (state S.Store self.new.conn) ≡ cells)) }
+        ensures still { HasCleanDisk (state S.Store self.new.conn)
+            → IsTrue (state S.Store self.new.conn).is_open
+            → (cells : List Cell) → Lists S.Store self.old cells
+            → OnErr result (Lists S.Store self.new cells) }
+        ensures clean { doubt (state S.Store self.old.conn).is_clean
+            ≤ doubt (state S.Store self.new.conn).is_clean }
     {
         if !self.is_made {
             statements::make(&mut self.conn)?;
@@ -47,14 +69,28 @@ impl<S: Alter + Drop> Base<S> {
 
     /// Does all of these changes, or none. What was read ahead is dropped, whatever this answers.
     pub(crate) fn commit(&mut self, changes: &[Change]) -> Result<(), KeepError>
-        ensures { self.new.ahead ≡ None }
+        ensures ahead { self.new.ahead ≡ None }
+        ensures done { HasCleanDisk (state S.Store self.new.conn)
+            → (cells : List Cell) → Lists S.Store self.old cells
+            → OnOk result (Lists S.Store self.new (put_changes changes.now cells)) }
+        ensures still { HasCleanDisk (state S.Store self.new.conn)
+            → IsTrue (state S.Store self.new.conn).is_open
+            → (cells : List Cell) → Lists S.Store self.old cells
+            → OnErr result (Lists S.Store self.new cells) }
     {
         self.ahead = None;
         self.make()?;
         statements::commit(&mut self.conn, changes)
     }
 
-    pub(crate) fn first(&mut self) -> Result<Option<Cell>, KeepError> {
+    pub(crate) fn first(&mut self) -> Result<Option<Cell>, KeepError>
+        ensures cell { HasCleanDisk (state S.Store self.new.conn)
+            → (cells : List Cell) → Lists S.Store self.old cells
+            → IfOk result (λ cell. cell ≡ first_of cells) }
+        ensures stays { HasCleanDisk (state S.Store self.new.conn)
+            → (cells : List Cell) → Lists S.Store self.old cells
+            → OnOk result (Lists S.Store self.new cells) }
+    {
         self.make()?;
         match statements::first(&mut self.conn)? {
             Some(row) => Ok(Some(cell_of(&row)?)),

@@ -1,6 +1,10 @@
-ghost use Rattle.std.specs.Prelude.{◌≡◌, ◌≤◌, ◌^◌, false, nat_lt};
+ghost use Rattle.std.specs.Prelude.{◌≡◌, ◌≤◌, ◌^◌, IfOk, List, OnErr, OnOk, Some, false, nat_lt};
 ghost use Rattle.std.specs.List.{list_all};
 ghost use Rattle.an_base.specs.Faults.{Rises};
+ghost use Rattle.an_keep.specs.Cells.{first_of, put_changes};
+ghost use Rattle.an_keep.specs.declared.cell.Cell.{Cell};
+ghost use Rattle.an_sqlite.specs.Place.{BeginsWith, HoldsCells, IsClean, IsOpen, connection_in};
+ghost use Rattle.sqlite.specs.Held.{state};
 
 use crate::base::Base;
 use crate::place::Place;
@@ -36,9 +40,13 @@ impl SqlKeeper<FileStore<File>> {
 }
 
 impl<S: Alter + Drop> SqlKeeper<S> {
-    /// A keeper over an open connection. Takes no memory.
+    /// A keeper over an open connection, of the cells that its table has. Takes no memory.
+    #[tactic(auto, using(crate::proofs::FirstLemmas::begins_with))]
     pub fn adopt(connection: Connection<S>) -> SqlKeeper<S>
-        ensures { result.faults ≡ 0 }
+        ensures faults { result.faults ≡ 0 }
+        ensures held { (cells : List Cell) → BeginsWith (state S.Store connection) cells
+            → HoldsCells S.Store result.place cells }
+        ensures connection { connection_in result.place ≡ Some connection }
     {
         SqlKeeper {
             place: Place::Adopted(Base::new(connection)),
@@ -48,7 +56,9 @@ impl<S: Alter + Drop> SqlKeeper<S> {
 
     /// The connection that was adopted, as the last call left it. A keeper over a file of its own
     /// ends as it does where it is dropped, and gives none.
-    pub fn into_connection(self) -> Option<Connection<S>> {
+    pub fn into_connection(self) -> Option<Connection<S>>
+        ensures { result ≡ connection_in self.place }
+    {
         let SqlKeeper { place, faults: _ } = self;
         place.into_connection()
     }
@@ -110,6 +120,14 @@ impl<S: Alter + Drop> Keeper for SqlKeeper<S> {
         ensures keys { list_all (λ change. nat_lt change.key (2 ^ 63)) changes.now ≡ false
             → (result ≡ Err KeepError.Failed) × (self.new.place ≡ self.old.place) }
 
+        // Of a connection that was adopted, where its store is clean behind the call.
+        ensures held { IsClean S.Store self.new.place → (cells : List Cell)
+            → HoldsCells S.Store self.old.place cells
+            → OnOk result (HoldsCells S.Store self.new.place (put_changes changes.now cells)) }
+        ensures kept { IsClean S.Store self.new.place → IsOpen S.Store self.new.place
+            → (cells : List Cell) → HoldsCells S.Store self.old.place cells
+            → OnErr result (HoldsCells S.Store self.new.place cells) }
+
         // What each keeper ensures.
         ensures counted { result ≡ Err KeepError.Failed → Rises self.old.faults self.new.faults }
         ensures faults_kept { self.old.faults ≤ self.new.faults }
@@ -121,7 +139,19 @@ impl<S: Alter + Drop> Keeper for SqlKeeper<S> {
         counted(&mut self.faults, done)
     }
 
-    fn first(&mut self) -> Result<Option<Cell>, KeepError> {
+    fn first(&mut self) -> Result<Option<Cell>, KeepError>
+        // Of a connection that was adopted, where its store is clean behind the call.
+        ensures least { IsClean S.Store self.new.place → (cells : List Cell)
+            → HoldsCells S.Store self.old.place cells
+            → IfOk result (λ cell. cell ≡ first_of cells) }
+        ensures held { IsClean S.Store self.new.place → (cells : List Cell)
+            → HoldsCells S.Store self.old.place cells
+            → OnOk result (HoldsCells S.Store self.new.place cells) }
+
+        // What each keeper ensures.
+        ensures counted { result ≡ Err KeepError.Failed → Rises self.old.faults self.new.faults }
+        ensures faults_kept { self.old.faults ≤ self.new.faults }
+    {
         let answer = self.place.first();
         counted(&mut self.faults, answer)
     }

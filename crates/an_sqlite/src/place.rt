@@ -1,3 +1,8 @@
+ghost use Rattle.std.specs.Prelude.{◌≡◌, IfOk, List, OnErr, OnOk};
+ghost use Rattle.an_keep.specs.Cells.{first_of, put_changes};
+ghost use Rattle.an_keep.specs.declared.cell.Cell.{Cell};
+ghost use Rattle.an_sqlite.specs.Place.{HoldsCells, IsClean, IsOpen, KeepsAdopted, connection_in};
+
 use crate::base::Base;
 use crate::statements::refusal;
 use an_base::Text;
@@ -32,7 +37,9 @@ fn close(base: Base<FileStore<File>>) {
 
 impl<S: Alter + Drop> Place<S> {
     /// The connection that was adopted.
-    pub(crate) fn into_connection(self) -> Option<Connection<S>> {
+    pub(crate) fn into_connection(self) -> Option<Connection<S>>
+        ensures { result ≡ connection_in self }
+    {
         match self {
             Place::Closed(_, _) => None,
             Place::File(base) => {
@@ -44,7 +51,9 @@ impl<S: Alter + Drop> Place<S> {
     }
 
     /// Opens the file, where there is one that isn't open.
-    fn open(&mut self) -> Result<(), KeepError> {
+    fn open(&mut self) -> Result<(), KeepError>
+        ensures { KeepsAdopted self.old self.new }
+    {
         let opened = match self {
             Place::Closed(rt, path) => Connection::open(rt, path.as_str()),
             _ => return Ok(()),
@@ -58,7 +67,13 @@ impl<S: Alter + Drop> Place<S> {
         }
     }
 
-    pub(crate) fn commit(&mut self, changes: &[Change]) -> Result<(), KeepError> {
+    pub(crate) fn commit(&mut self, changes: &[Change]) -> Result<(), KeepError>
+        ensures done { IsClean S.Store self.new → (cells : List Cell)
+            → HoldsCells S.Store self.old cells
+            → OnOk result (HoldsCells S.Store self.new (put_changes changes.now cells)) }
+        ensures still { IsClean S.Store self.new → IsOpen S.Store self.new → (cells : List Cell)
+            → HoldsCells S.Store self.old cells → OnErr result (HoldsCells S.Store self.new cells) }
+    {
         self.open()?;
         match self {
             Place::Closed(_, _) => Err(KeepError::Failed),
@@ -67,7 +82,12 @@ impl<S: Alter + Drop> Place<S> {
         }
     }
 
-    pub(crate) fn first(&mut self) -> Result<Option<Cell>, KeepError> {
+    pub(crate) fn first(&mut self) -> Result<Option<Cell>, KeepError>
+        ensures cell { IsClean S.Store self.new → (cells : List Cell)
+            → HoldsCells S.Store self.old cells → IfOk result (λ cell. cell ≡ first_of cells) }
+        ensures stays { IsClean S.Store self.new → (cells : List Cell)
+            → HoldsCells S.Store self.old cells → OnOk result (HoldsCells S.Store self.new cells) }
+    {
         self.open()?;
         match self {
             Place::Closed(_, _) => Err(KeepError::Failed),

@@ -1,4 +1,16 @@
-ghost use Rattle.std.specs.Prelude.{◌≡◌, ◌↔◌};
+ghost use Rattle.std.specs.Prelude.{[], ◌∷◌, ◌≡◌, ◌≤◌, ◌↔◌, ◌-◌, ◌^◌, min, pos, IfOk, IsTrue};
+ghost use Rattle.std.specs.Prelude.{OnErr, OnOk, false};
+ghost use Rattle.an_keep.specs.Cells.{first_of, put_change, put_changes};
+ghost use Rattle.an_sqlite.specs.Cells.{ShowsIf};
+ghost use Rattle.an_sqlite.specs.Later.{ShowsFirst, in_later_text, is_in_later, is_later_in};
+ghost use Rattle.an_sqlite.specs.Later.{later_in_text};
+ghost use Rattle.an_sqlite.specs.Statements.{put_text, take_text};
+ghost use Rattle.an_sqlite.specs.Table.{no_schema};
+ghost use Rattle.an_sqlite.specs.Tells.{KeepsCommit, Tells, Turns, cells_of};
+ghost use Rattle.sqlite.specs.Held.{state};
+ghost use Rattle.sqlite.specs.State.{ExecutesInside, HasCleanDisk, Shown};
+ghost use Rattle.sqlite_trees.specs.View.{doubt};
+ghost use Rattle.sqlite_value.specs.declared.value.Value.TheVariants.{Blob, Int};
 
 use an_keep::{Change, KeepError};
 use sqlite::{Alter, Connection, Error, ErrorCode, Row, Transaction, params};
@@ -22,8 +34,24 @@ ORDER BY tab, key LIMIT 100";
 
 const IN_LATER: &str = "SELECT tab, key, val FROM cell WHERE tab > ?1 ORDER BY tab, key LIMIT 100";
 
-/// Makes the table where it isn't there.
-pub(crate) fn make<S: Alter>(conn: &mut Connection<S>) -> Result<(), KeepError> {
+/// Makes the table where it isn't there, outside a transaction.
+#[tactic(auto, using(crate::proofs::FirstLemmas::keeps_failed))]
+pub(crate) fn make<S: Alter>(conn: &mut Connection<S>) -> Result<(), KeepError>
+    ensures made { HasCleanDisk (state S.Store conn.new)
+        → (state S.Store conn.old).now.schema ≡ no_schema
+        → OnOk result (Tells (state S.Store conn.new)
+        × (cells_of (state S.Store conn.new) ≡ [])) }
+    ensures again { HasCleanDisk (state S.Store conn.new) → Tells (state S.Store conn.old)
+        → OnOk result (Tells (state S.Store conn.new)
+        × (cells_of (state S.Store conn.new) ≡ cells_of (state S.Store conn.old))) }
+    ensures still { HasCleanDisk (state S.Store conn.new) → IsTrue (state S.Store conn.new).is_open
+        → OnErr result ((state S.Store conn.new).now ≡ (state S.Store conn.old).now) }
+    ensures clean { doubt (state S.Store conn.old).is_clean
+        ≤ doubt (state S.Store conn.new).is_clean }
+{
+    if !conn.is_autocommit() {
+        return Err(KeepError::Failed);
+    }
     match conn.execute(TABLE, &[]) {
         Ok(_) => Ok(()),
         Err(error) => Err(refusal(error)),
@@ -31,7 +59,14 @@ pub(crate) fn make<S: Alter>(conn: &mut Connection<S>) -> Result<(), KeepError> 
 }
 
 /// The first row.
-pub(crate) fn first<S: Alter>(conn: &mut Connection<S>) -> Result<Option<Row>, KeepError> {
+pub(crate) fn first<S: Alter>(conn: &mut Connection<S>) -> Result<Option<Row>, KeepError>
+    ensures row { HasCleanDisk (state S.Store conn.new) → Tells (state S.Store conn.old)
+        → IfOk result (ShowsIf (first_of (cells_of (state S.Store conn.old)))) }
+    ensures kept { HasCleanDisk (state S.Store conn.new) → Tells (state S.Store conn.old)
+        → OnOk result ((state S.Store conn.new).now ≡ (state S.Store conn.old).now) }
+    ensures clean { doubt (state S.Store conn.old).is_clean
+        ≤ doubt (state S.Store conn.new).is_clean }
+{
     match conn.query_row(FIRST, &[]) {
         Ok(row) => Ok(Some(row)),
         Err(Error::QueryReturnedNoRows) => Ok(None),
@@ -40,59 +75,184 @@ pub(crate) fn first<S: Alter>(conn: &mut Connection<S>) -> Result<Option<Row>, K
 }
 
 /// The first rows of a table behind a key.
+#[tactic(auto, using(crate::proofs::LaterLemmas::later_in_at))]
 pub(crate) fn later_in<S: Alter>(
     conn: &mut Connection<S>,
     tab: u8,
     key: u64,
-) -> Result<Vec<Row>, KeepError> {
-    let key = key_or_last(key);
-    match conn.query_all(LATER_IN, params![u32::from(tab), key]) {
+) -> Result<Vec<Row>, KeepError>
+    ensures { HasCleanDisk (state S.Store conn.new) → Tells (state S.Store conn.old)
+        → IfOk result (λ rows. ShowsFirst (is_later_in tab (min key (2 ^ 63 - 1)))
+        (cells_of (state S.Store conn.old)) rows.items) }
+{
+    match ask_later_in(conn, tab, key_or_last(key)) {
         Ok(rows) => Ok(rows),
         Err(error) => Err(refusal(error)),
     }
 }
 
+fn ask_later_in<S: Alter>(conn: &mut Connection<S>, tab: u8, key: i64) -> Result<Vec<Row>, Error>
+    ensures { HasCleanDisk (state S.Store conn.new)
+        → IfOk result (λ rows. Shown later_in_text (Int (pos tab) ∷ Int key ∷ [])
+        (state S.Store conn.old) (state S.Store conn.new) rows.items) }
+{
+    conn.query_all(LATER_IN, params![u32::from(tab), key])
+}
+
 /// The first rows of the tables behind a table.
-pub(crate) fn in_later<S: Alter>(conn: &mut Connection<S>, tab: u8) -> Result<Vec<Row>, KeepError> {
-    match conn.query_all(IN_LATER, params![u32::from(tab)]) {
+#[tactic(auto, using(crate::proofs::LaterLemmas::in_later_shows))]
+pub(crate) fn in_later<S: Alter>(conn: &mut Connection<S>, tab: u8) -> Result<Vec<Row>, KeepError>
+    ensures { HasCleanDisk (state S.Store conn.new) → Tells (state S.Store conn.old)
+        → IfOk result (λ rows. ShowsFirst (is_in_later tab) (cells_of (state S.Store conn.old))
+        rows.items) }
+{
+    match ask_in_later(conn, tab) {
         Ok(rows) => Ok(rows),
         Err(error) => Err(refusal(error)),
     }
+}
+
+fn ask_in_later<S: Alter>(conn: &mut Connection<S>, tab: u8) -> Result<Vec<Row>, Error>
+    ensures { HasCleanDisk (state S.Store conn.new)
+        → IfOk result (λ rows. Shown in_later_text (Int (pos tab) ∷ [])
+        (state S.Store conn.old) (state S.Store conn.new) rows.items) }
+{
+    conn.query_all(IN_LATER, params![u32::from(tab)])
 }
 
 /// Does all of these changes in one transaction, or none.
 pub(crate) fn commit<S: Alter>(
     conn: &mut Connection<S>,
     changes: &[Change],
-) -> Result<(), KeepError> {
-    if !conn.is_autocommit() {
-        return Err(KeepError::Failed);
-    }
-    let mut tx = conn.transaction();
-    for change in changes {
-        put_change(&mut tx, change)?;
-    }
-    match tx.commit() {
+) -> Result<(), KeepError>
+    ensures done { HasCleanDisk (state S.Store conn.new) → Tells (state S.Store conn.old)
+        → OnOk result (Tells (state S.Store conn.new) × (cells_of (state S.Store conn.new)
+        ≡ put_changes changes.now (cells_of (state S.Store conn.old)))) }
+    ensures ended { OnOk result ((state S.Store conn.new).in_transaction ≡ false) }
+    ensures still { HasCleanDisk (state S.Store conn.new) → IsTrue (state S.Store conn.new).is_open
+        → OnErr result ((state S.Store conn.new).now ≡ (state S.Store conn.old).now) }
+    ensures clean { doubt (state S.Store conn.old).is_clean
+        ≤ doubt (state S.Store conn.new).is_clean }
+{
+    match do_all(conn, changes) {
         Ok(()) => Ok(()),
         Err(error) => Err(refusal(error)),
     }
 }
 
-fn put_change<S: Alter>(tx: &mut Transaction<'_, S>, change: &Change) -> Result<(), KeepError> {
-    let tab = u32::from(change.tab);
-    let key = key_or_last(change.key);
-    let done = match &change.val {
-        Some(val) => tx.execute(PUT, params![tab, key, val.as_slice()]),
-        None => tx.execute(TAKE, params![tab, key]),
+fn do_all<S: Alter>(conn: &mut Connection<S>, changes: &[Change]) -> Result<(), Error>
+    ensures done { HasCleanDisk (state S.Store conn.new) → Tells (state S.Store conn.old)
+        → OnOk result (Tells (state S.Store conn.new) × (cells_of (state S.Store conn.new)
+        ≡ put_changes changes.now (cells_of (state S.Store conn.old)))) }
+    ensures ended { OnOk result ((state S.Store conn.new).in_transaction ≡ false) }
+    ensures still { HasCleanDisk (state S.Store conn.new) → IsTrue (state S.Store conn.new).is_open
+        → OnErr result ((state S.Store conn.new).now ≡ (state S.Store conn.old).now) }
+    ensures clean { doubt (state S.Store conn.old).is_clean
+        ≤ doubt (state S.Store conn.new).is_clean }
+{
+    if !conn.is_autocommit() {
+        return Err(Error::SqliteFailure(ErrorCode::TransactionState));
+    }
+    let mut tx = conn.transaction();
+    change_all(&mut tx, changes)?;
+    tx.commit()?;
+    Ok(())
+}
+
+/// Does all of these changes, one after the other.
+#[tactic(auto, using(crate::proofs::ChangeLemmas::turns_none, crate::proofs::ChangeLemmas::turns_more, crate::proofs::ChangeLemmas::keeps_then, crate::proofs::ChangeLemmas::keeps_itself))]
+fn change_all<S: Alter>(tx: &mut Transaction<'_, S>, changes: &[Change]) -> Result<(), Error>
+    ensures same_reference { tx.new.conn.ghost_name ≡ tx.old.conn.ghost_name }
+    ensures done { HasCleanDisk (state S.Store tx.new.conn.now)
+        → IsTrue (state S.Store tx.old.conn.now).in_transaction
+        → Tells (state S.Store tx.old.conn.now)
+        → OnOk result (Turns (put_changes changes.now) (state S.Store tx.old.conn.now)
+        (state S.Store tx.new.conn.now)) }
+    ensures inside { HasCleanDisk (state S.Store tx.new.conn.now)
+        → IsTrue (state S.Store tx.old.conn.now).in_transaction
+        → OnOk result (IsTrue (state S.Store tx.new.conn.now).in_transaction) }
+    ensures kept { HasCleanDisk (state S.Store tx.new.conn.now)
+        → IsTrue (state S.Store tx.old.conn.now).in_transaction
+        → KeepsCommit (state S.Store tx.old.conn.now) (state S.Store tx.new.conn.now) }
+    ensures clean { doubt (state S.Store tx.old.conn.now).is_clean
+        ≤ doubt (state S.Store tx.new.conn.now).is_clean }
+{
+    let Some((first, rest)) = changes.split_first() else {
+        return Ok(());
     };
-    match done {
-        Ok(_) => Ok(()),
-        Err(error) => Err(refusal(error)),
+    change(tx, first)?;
+    change_all(tx, rest)
+}
+
+/// Does one change.
+#[tactic(auto, using(crate::proofs::ChangeLemmas::change_put, crate::proofs::ChangeLemmas::change_take))]
+fn change<S: Alter>(tx: &mut Transaction<'_, S>, change: &Change) -> Result<usize, Error>
+    ensures same_reference { tx.new.conn.ghost_name ≡ tx.old.conn.ghost_name }
+    ensures done { HasCleanDisk (state S.Store tx.new.conn.now)
+        → IsTrue (state S.Store tx.old.conn.now).in_transaction
+        → Tells (state S.Store tx.old.conn.now)
+        → OnOk result (Turns (put_change change.now) (state S.Store tx.old.conn.now)
+        (state S.Store tx.new.conn.now)) }
+    ensures inside { HasCleanDisk (state S.Store tx.new.conn.now)
+        → IsTrue (state S.Store tx.old.conn.now).in_transaction
+        → OnOk result (IsTrue (state S.Store tx.new.conn.now).in_transaction) }
+    ensures kept { HasCleanDisk (state S.Store tx.new.conn.now)
+        → IsTrue (state S.Store tx.old.conn.now).in_transaction
+        → KeepsCommit (state S.Store tx.old.conn.now) (state S.Store tx.new.conn.now) }
+    ensures clean { doubt (state S.Store tx.old.conn.now).is_clean
+        ≤ doubt (state S.Store tx.new.conn.now).is_clean }
+{
+    let Ok(key) = i64::try_from(change.key) else {
+        return Err(Error::IntegralValueOutOfRange(0));
+    };
+    match &change.val {
+        Some(val) => put(tx, change.tab, key, val.as_slice()),
+        None => take(tx, change.tab, key),
     }
 }
 
+/// Puts a cell over the one that is there.
+fn put<S: Alter>(tx: &mut Transaction<'_, S>, tab: u8, key: i64, val: &[u8]) -> Result<usize, Error>
+    ensures same_reference { tx.new.conn.ghost_name ≡ tx.old.conn.ghost_name }
+    ensures ran { HasCleanDisk (state S.Store tx.new.conn.now)
+        → IsTrue (state S.Store tx.old.conn.now).in_transaction
+        → ExecutesInside 0 put_text (Int (pos tab) ∷ Int key ∷ Blob val.now ∷ [])
+        (state S.Store tx.old.conn.now) (state S.Store tx.new.conn.now) result }
+    ensures inside { HasCleanDisk (state S.Store tx.new.conn.now)
+        → IsTrue (state S.Store tx.old.conn.now).in_transaction
+        → OnOk result (IsTrue (state S.Store tx.new.conn.now).in_transaction) }
+    ensures kept { HasCleanDisk (state S.Store tx.new.conn.now)
+        → IsTrue (state S.Store tx.old.conn.now).in_transaction
+        → KeepsCommit (state S.Store tx.old.conn.now) (state S.Store tx.new.conn.now) }
+    ensures clean { doubt (state S.Store tx.old.conn.now).is_clean
+        ≤ doubt (state S.Store tx.new.conn.now).is_clean }
+{
+    tx.execute(PUT, params![u32::from(tab), key, val])
+}
+
+/// Takes the cell at this table and key away.
+fn take<S: Alter>(tx: &mut Transaction<'_, S>, tab: u8, key: i64) -> Result<usize, Error>
+    ensures same_reference { tx.new.conn.ghost_name ≡ tx.old.conn.ghost_name }
+    ensures ran { HasCleanDisk (state S.Store tx.new.conn.now)
+        → IsTrue (state S.Store tx.old.conn.now).in_transaction
+        → ExecutesInside 0 take_text (Int (pos tab) ∷ Int key ∷ [])
+        (state S.Store tx.old.conn.now) (state S.Store tx.new.conn.now) result }
+    ensures inside { HasCleanDisk (state S.Store tx.new.conn.now)
+        → IsTrue (state S.Store tx.old.conn.now).in_transaction
+        → OnOk result (IsTrue (state S.Store tx.new.conn.now).in_transaction) }
+    ensures kept { HasCleanDisk (state S.Store tx.new.conn.now)
+        → IsTrue (state S.Store tx.old.conn.now).in_transaction
+        → KeepsCommit (state S.Store tx.old.conn.now) (state S.Store tx.new.conn.now) }
+    ensures clean { doubt (state S.Store tx.old.conn.now).is_clean
+        ≤ doubt (state S.Store tx.new.conn.now).is_clean }
+{
+    tx.execute(TAKE, params![u32::from(tab), key])
+}
+
 /// The key, or the last one that a row can have.
-fn key_or_last(key: u64) -> i64 {
+fn key_or_last(key: u64) -> i64
+    ensures { result ≡ pos (min key (2 ^ 63 - 1)) }
+{
     match i64::try_from(key) {
         Ok(key) => key,
         Err(_) => i64::MAX,

@@ -1,0 +1,15 @@
+pub mod CellSetLemmas
+pub mod ChangeLemmas
+pub mod Crossings
+pub mod FirstLemmas
+pub mod LaterLemmas
+pub mod LeastLemmas
+pub mod NoneLemmas
+pub mod PutLemmas
+pub mod RowForms
+pub mod RowLemmas
+pub mod ShapeLemmas
+pub mod StatementLemmas
+pub mod TableLemmas
+pub mod TakeLemmas
+pub mod WriteLemmas

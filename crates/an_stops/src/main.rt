@@ -1,0 +1,93 @@
+//! Tries the keeper over SQLite: what its calls answer over a connection in memory, and what a
+//! store over it keeps where one of its disks stops at any of its calls, and crashes.
+#![tactic(auto)]
+
+mod calls;
+mod crashes;
+mod disks;
+mod lent;
+mod sending;
+
+use an_report::{Outcome, report, wrong_with};
+use crashes::Stopped;
+use disks::Crashes;
+use std::alloc::{AllocError, Global};
+use std::io;
+use std::process::ExitCode;
+
+/// Plays the table on standard input, and ends with 0 where each case came out as it is due.
+fn main(rt: HostRuntime) -> ExitCode {
+    match play_input(&rt) {
+        Ok(true) => ExitCode::from(0),
+        Ok(false) => ExitCode::from(1),
+        Err(_) => ExitCode::from(1),
+    }
+}
+
+/// Plays the table on standard input, prints how many cases it has and how many of them are wrong,
+/// and answers whether none is. A line is a comment behind `#`; `lines`, which begins a text of
+/// lines; a line of that text behind `| `; or a case, with ` -> ` before the answer that is due.
+fn play_input<R: Input + Print + AllocGlobal>(rt: &R) -> io::Result<bool> {
+    let table = io::read_to_string(rt.alloc(), rt.reader())?;
+    let mut lines = String::new(rt.alloc());
+    let mut cases = 0usize;
+    let mut wrong = 0usize;
+    for row in table.lines() {
+        if !is_read(&mut lines, row)? {
+            cases = cases.saturating_add(1);
+            wrong = wrong_with(wrong, is_right(rt, lines.as_str(), row)?);
+        }
+    }
+    println!(rt; "{cases} cases, {wrong} wrong")?;
+    Ok(wrong == 0)
+}
+
+/// Reads a row that is no case, and answers whether it is none.
+fn is_read(lines: &mut String, row: &str) -> Result<bool, AllocError> {
+    if let Some(line) = row.strip_prefix("| ") {
+        lines.push_str(line)?;
+        lines.push_str("\n")?;
+        return Ok(true);
+    }
+    if row == "lines" {
+        lines.clear();
+        return Ok(true);
+    }
+    Ok(row.is_empty() || row.starts_with("#"))
+}
+
+/// Plays the case of a row, and prints what came out otherwise than it is due.
+fn is_right<R: Print + AllocGlobal>(rt: &R, lines: &str, row: &str) -> io::Result<bool> {
+    let (asked, due) = row.rsplit_once(" -> ").unwrap_or((row, ""));
+    let due = outcome(rt.alloc(), due)?;
+    let found = outcome(rt.alloc(), answer(rt.alloc(), lines, asked)?.as_str())?;
+    report(rt, asked, &due, &found)
+}
+
+fn outcome(alloc: Global, text: &str) -> Result<Outcome, AllocError> {
+    Ok(Outcome {
+        status: 0,
+        output: Vec::from_slice(alloc, text.as_bytes())?,
+    })
+}
+
+/// What comes of a case: of lines that are imported twice, of lines that are written while a disk
+/// stops, or of calls of a keeper.
+fn answer(alloc: Global, lines: &str, asked: &str) -> Result<String, AllocError> {
+    match asked {
+        "import twice" => sending::import_twice(alloc, lines),
+        "log stops, and what isn't synced is lost" => {
+            crashes::play(alloc, lines, Stopped::Log, Crashes::Machine)
+        }
+        "log stops, and what is written stays" => {
+            crashes::play(alloc, lines, Stopped::Log, Crashes::Process)
+        }
+        "file stops, and what isn't synced is lost" => {
+            crashes::play(alloc, lines, Stopped::File, Crashes::Machine)
+        }
+        "file stops, and what is written stays" => {
+            crashes::play(alloc, lines, Stopped::File, Crashes::Process)
+        }
+        _ => calls::play(alloc, asked),
+    }
+}
