@@ -1,0 +1,330 @@
+"""Drives examples/viewer/index.html as readers would, and compares what they see.
+
+Words: the file of the page, its address at another origin, the address of the server, the lines of
+its reading room, a folder for the pictures, and the first of two free ports for drivers.
+tests/viewer.sh gives them.
+"""
+import json
+import os
+import re
+import sys
+import urllib.parse
+
+from webdriver import Browser
+
+PAGE, ORIGIN, SERVER, LINES, PICTURES, PORT = sys.argv[1:]
+VERA = "viewer-vera-token"
+asked = wrong = pictures = 0
+
+
+def due(name, found, wanted):
+    global asked, wrong
+    asked += 1
+    if found != wanted:
+        wrong += 1
+        print(f"wrong: {name}\n  found {found!r}\n  due   {wanted!r}")
+
+
+def picture(browser, name):
+    global pictures
+    pictures += 1
+    browser.picture(os.path.join(PICTURES, f"{pictures:02}-{name}.png"))
+
+
+def readers_and_notes():
+    """What the reading room's lines put: readers by name, annotations by owner and name."""
+    readers, notes = {}, {}
+    with open(LINES, encoding="utf-8") as file:
+        for line in filter(str.strip, file):
+            _, _, method, target, *tree = line.rstrip("\n").split(" ", 4)
+            path, _, query = target.partition("?")
+            kind, *names = path.strip("/").split("/")
+            kept = {"readers": readers, "annotations": notes}.get(kind)
+            if kept is None:
+                continue
+            if method == "DELETE":
+                kept.pop(tuple(names), None)
+            else:
+                kept[tuple(names)] = dict(urllib.parse.parse_qsl(query)), json.loads(tree[0])
+    return readers, notes
+
+
+def fitting(word, manifest, reader=None):
+    """How many annotations with a word the reader may read on a manifest, by the lines alone."""
+    readers, notes = readers_and_notes()
+    groups = ["public"] + (readers[(reader,)][1].get("groups", []) if reader else [])
+    count = 0
+    for (owner, _), (query, tree) in notes.items():
+        group = query.get("group", "public")
+        is_shown = group in groups or (group == "private" and owner == reader)
+        bodies = tree.get("body", [])
+        texts = [body["value"] for body in (bodies if isinstance(bodies, list) else [bodies])
+                 if isinstance(body, dict) and "value" in body]
+        words = re.findall(r"\w+", " ".join(texts).lower())
+        count += query["manifest"] == manifest and is_shown and word in words
+    return "1 annotation fits." if count == 1 else f"{count} annotations fit."
+
+
+def told(browser, text):
+    """Waits for the line of the page that tells what came of a request."""
+    browser.until(lambda: browser.texts("#told") == [text])
+    due(f"the page tells: {text}", browser.texts("#told"), [text])
+
+
+def connect(browser, token="", reader=""):
+    browser.type("#connect [name=server]", SERVER)
+    browser.type("#connect [name=token]", token)
+    browser.type("#connect [name=reader]", reader)
+    browser.press("#connect button")
+    browser.until(lambda: re.search(r"are shown to|\(\d+ ", browser.texts("#told")[0]))
+
+
+def open_log(browser, canvas=1):
+    browser.run(f"location.hash = 'manifest=viewer-log&canvas={canvas}'")
+    browser.until(lambda: browser.texts("#canvas-title") == [f"Page {canvas}"])
+    browser.until(lambda: browser.texts("#canvases [aria-current]") != [])
+
+
+def completions(browser, prefix):
+    browser.run("document.querySelector('#words').replaceChildren()")
+    browser.type("#search [name=q]", prefix)
+    browser.until(lambda: browser.texts("#words li") != [], 5)
+    return [text.split() for text in browser.texts("#words li")]
+
+
+def search(browser, words):
+    """Searches, and gives how many annotations fit and the lines that were found."""
+    browser.run("document.querySelector('#total').textContent = ''")
+    browser.type("#search [name=q]", words)
+    browser.press("#search button")
+    browser.until(lambda: browser.texts("#total") != [""])
+    return browser.texts("#total") + browser.texts("#hits .card > p:not(.faint)")
+
+
+def region(browser):
+    """The region that is chosen on the drawing."""
+    browser.until(lambda: browser.run("return !!document.querySelector('#drawing .chosen')"))
+    return browser.run("const r = document.querySelector('#drawing .chosen');"
+                       "return ['x', 'y', 'width', 'height'].map(n => r.getAttribute(n)).join()")
+
+
+def hidden(browser, selector):
+    return browser.run("return document.querySelector(arguments[0]).hidden", selector)
+
+
+def reading_room(browser):
+    """The same search by anybody and by a member of the closed group `keepers`."""
+    anybody, leila = fitting("ink", "log"), fitting("ink", "log", "leila")
+    due("the lines tell the two apart", anybody != leila, True)
+    for reader, token, wanted in [("", "", anybody), ("leila", "tok-leila-room", leila)]:
+        browser.open(ORIGIN)
+        connect(browser, token, reader)
+        browser.run("location.hash = 'manifest=log&canvas=29'")
+        browser.until(lambda: browser.texts("#canvases [aria-current]") != [])
+        due(f"a search by {reader or 'anybody'} of the room", search(browser, "ink")[0], wanted)
+        browser.press("#hits a")
+        browser.until(lambda: browser.run("return !!document.querySelector('#drawing .chosen')"))
+        browser.run("scrollTo(0, 0)")
+        picture(browser, f"room-{reader or 'anybody'}")
+
+
+def anonymous_reader(browser):
+    browser.open("file://" + PAGE)
+    connect(browser)
+    labels = "return [...document.querySelectorAll('#manifests li')].map(e => e.innerText)"
+    log = "Log of the harbour, for the viewer's test"
+    browser.until(lambda: log in browser.run(labels))
+    due("the open manifest is listed", log in browser.run(labels), True)
+    due("the closed manifest is not", "Ledger of the closed desk" in browser.run(labels), False)
+    picture(browser, "manifests")
+    open_log(browser)
+    due("canvases", [text.split("\n")[-1] for text in browser.texts("#canvases li")],
+        ["Page 1", "Page 2"])
+    due("a thumbnail where there is one", browser.run(
+        "return [...document.querySelectorAll('#canvases .thumbnail')].map(e => e.localName)"),
+        ["img", "span"])
+    due("the image that is painted on the canvas", browser.run(
+        "return document.querySelector('#drawing image').getAttribute('href').slice(0, 15)"),
+        "data:image/png;")
+    due("its size is the canvas's", browser.run(
+        "return document.querySelector('#drawing').getAttribute('viewBox')"), "0 0 800 1200")
+    due("hostile texts are texts", browser.texts("#notes p:not(.faint)"),
+        ["<img src=x onerror=\"document.title='taken'\">plain\nstyleddocument.title='taken'"])
+    due("hostile texts make no elements", browser.run(
+        "return document.querySelectorAll('#notes img, #notes script').length"), 0)
+    due("hostile texts run nothing", browser.run("return document.title"), "Reading room")
+    due("words that complete", completions(browser, "sand"), [["sandpiper", "1"]])
+    picture(browser, "completion")
+    due("a search", search(browser, "sandpiper"),
+        ["1 annotation fits.", "… A sandpiper stood at the pi …"])
+    due("what is marked", browser.texts("#hits mark"), ["sandpiper"])
+    browser.press("#hits a")
+    due("the region of the hit", region(browser), "100,200,300,150")
+    due("nobody writes without a name", hidden(browser, "#editor-part"), True)
+    picture(browser, "anonymous-hit")
+
+
+def member(browser):
+    browser.open(ORIGIN)
+    connect(browser, VERA, "viewer-vera")
+    browser.until(lambda: "Ledger of the closed desk" in browser.texts("#manifests li"))
+    due("a member is shown the closed manifest",
+        "Ledger of the closed desk" in browser.texts("#manifests li"), True)
+    open_log(browser, 2)
+    due("words that complete for a member", completions(browser, "sand"), [["sandpiper", "2"]])
+    due("a member's search", search(browser, "sandpiper")[0], "2 annotations fit.")
+    due("what is marked for a member", browser.texts("#hits mark"), ["sandpiper", "sandpiper"])
+    browser.run("document.querySelectorAll('#hits a')[1].click()")
+    due("a region in percent", region(browser), "400,600,200,120")
+    picture(browser, "member-hit")
+
+
+def note(browser, other):
+    browser.drag("#drawing", (-60, -100), (20, -40))
+    drawn = browser.run("return document.querySelector('#editor [name=region]').value")
+    due("a region was drawn", len([int(part) for part in drawn.split(",")]), 4)
+    browser.type("#editor [name=text]", "An osprey over the mole.")
+    browser.type("#editor [name=group]", "viewer-desk")
+    browser.type("#editor [name=name]", "osprey")
+    browser.press("#editor button")
+    told(browser, "The note is kept as number 1.")
+    picture(browser, "note-written")
+    due("the note is found", search(browser, "osprey")[0], "1 annotation fits.")
+    connect(other)
+    open_log(other, 2)
+    due("others don't find it", search(other, "osprey"), ["0 annotations fit."])
+    browser.type("#editor [name=text]", "Two gannets over the mole.")
+    browser.press("#editor button")
+    told(browser, "The note is kept as number 2.")
+    due("the old word is gone", search(browser, "osprey"), ["0 annotations fit."])
+    due("the new word is found", search(browser, "gannets")[0], "1 annotation fits.")
+    picture(browser, "note-changed")
+    refusals(browser)
+    browser.press("#again")
+    told(browser, "This is what the server has now.")
+    browser.press("#delete")
+    told(browser, "The note is deleted, by number 3.")
+    due("a deleted note isn't found", search(browser, "gannets"), ["0 annotations fit."])
+    picture(browser, "note-deleted")
+
+
+def refusals(browser):
+    browser.type("#editor [name=text]", "Three gannets.")
+    browser.type("#editor [name=version]", "2")
+    browser.press("#editor button")
+    told(browser, "Another number is due: this note is at 2. Load it again, look at what is there,"
+         " and save it as number 3.")
+    picture(browser, "number-refused")
+    browser.type("#editor [name=version]", "3")
+    browser.type("#editor [name=group]", "strangers")
+    browser.press("#editor button")
+    told(browser, "You are no member of this group. (403 not_member)")
+
+
+def refused_readers(browser):
+    connect(browser, "nobody-has-this-token")
+    told(browser, "The token is no reader's. Check it, or leave it out to read as anybody."
+         " (401 not_signed)")
+    picture(browser, "token-refused")
+    connect(browser, "viewer-olaf-token", "viewer-olaf")
+    open_log(browser)
+    browser.type("#editor [name=text]", "I was here.")
+    browser.press("#editor button")
+    told(browser, "You may read here, but not write. (403 not_writer)")
+    browser.type("#connect [name=server]", "http://127.0.0.1:1")
+    browser.press("#connect button")
+    told(browser, "The server can't be reached at this address.")
+
+
+def tab_to(browser, test):
+    """Goes on by the tabulator until an element with the focus passes the test."""
+    for _ in range(400):
+        browser.keys("tab")
+        if browser.run(f"const e = document.activeElement; return !!({test})"):
+            return
+    due(f"the tabulator comes to {test}", False, True)
+
+
+def keyboard_alone(browser):
+    browser.open("about:blank")
+    browser.open("file://" + PAGE)
+    tab_to(browser, "e.name === 'server'")
+    browser.run("document.activeElement.select()")
+    browser.keys(*SERVER, "tab", *VERA, "tab", *"viewer-vera", "enter")
+    browser.until(lambda: "Log of the harbour, for the viewer's test" in
+                  browser.texts("#manifests li"))
+    tab_to(browser, "e.textContent.startsWith('Log of the harbour, for')")
+    browser.keys("enter")
+    browser.until(lambda: browser.texts("#canvas-title") == ["Page 1"])
+    tab_to(browser, "e.name === 'q'")
+    browser.keys(*"sand")
+    browser.until(lambda: browser.texts("#words li") != [])
+    browser.keys("down", "enter")
+    browser.until(lambda: browser.texts("#total") == ["2 annotations fit."])
+    due("a search by keys", browser.texts("#total"), ["2 annotations fit."])
+    tab_to(browser, "e.matches('#hits a')")
+    browser.keys("enter")
+    due("a hit by keys", region(browser), "100,200,300,150")
+    tab_to(browser, "e.name === 'text'")
+    browser.keys(*"A note by keys.", "tab", *"10,20,30,40")
+    tab_to(browser, "e.textContent === 'Save'")
+    browser.keys("enter")
+    told(browser, "The note is kept as number 1.")
+    picture(browser, "keyboard-note")
+    tab_to(browser, "e.id === 'delete'")
+    browser.keys("enter")
+    told(browser, "The note is deleted, by number 2.")
+
+
+def lightness(browser, selector, part):
+    return browser.run("return getComputedStyle(document.querySelector(arguments[0]))"
+                       "[arguments[1]].match(/\\d+/g).slice(0, 3).map(Number)"
+                       ".reduce((a, b) => a + b) / 3", selector, part)
+
+
+def dark_phone(browser):
+    browser.told("Emulation.setDeviceMetricsOverride", width=390, height=844, deviceScaleFactor=1,
+                 mobile=True)
+    browser.open(ORIGIN)
+    connect(browser, VERA, "viewer-vera")
+    open_log(browser, 2)
+    search(browser, "sandpiper")
+    due("a phone's width is enough",
+        browser.run("return document.documentElement.scrollWidth"), 390)
+    picture(browser, "phone")
+    browser.run("document.querySelector('#search-part').scrollIntoView()")
+    picture(browser, "phone-search")
+    browser.told("Emulation.setEmulatedMedia",
+                 features=[{"name": "prefers-color-scheme", "value": "dark"}])
+    due("the ground is dark in the dark", lightness(browser, "body", "backgroundColor") < 60, True)
+    due("the text is light in the dark", lightness(browser, "body", "color") > 180, True)
+    picture(browser, "phone-dark")
+    browser.told("Emulation.clearDeviceMetricsOverride")
+    browser.run("scrollTo(0, 0)")
+    picture(browser, "dark")
+
+
+def main():
+    browser = Browser(int(PORT))
+    other = Browser(int(PORT) + 1)
+    try:
+        reading_room(browser)
+        anonymous_reader(browser)
+        member(browser)
+        other.open("file://" + PAGE)
+        note(browser, other)
+        refused_readers(browser)
+        keyboard_alone(browser)
+        dark_phone(browser)
+    except Exception:
+        picture(browser, "stopped-here")
+        print(f"told: {browser.texts('#told')}")
+        raise
+    finally:
+        browser.close()
+        other.close()
+    print(f"{asked} asked, {wrong} wrong")
+    sys.exit(1 if wrong else 0)
+
+
+main()
