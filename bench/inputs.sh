@@ -46,3 +46,13 @@ readers() {
       printf "2024-05-01T10:00:00Z - PUT /readers/r%d?version=%d {\"groups\":[\"g%d\"],\"role\":\"writer\",\"token\":\"token-%06d\",\"user\":\"http://a.example/u/%d\"}\n", k % (n / 2), 1 + (k >= n / 2), k, k % (n / 2), k % (n / 2)
   }'
 }
+
+# A manifest of 900 canvases, each with an image.
+book() {
+  awk 'BEGIN {
+    printf "2024-05-01T10:02:00Z - PUT /manifests/book?version=1 {\"items\":["
+    for (i = 1; i <= 900; i++)
+      printf "%s{\"height\":3000,\"id\":\"http://a.example/book/canvas/%d\",\"items\":[{\"id\":\"http://a.example/book/page/%d\",\"items\":[{\"body\":{\"format\":\"image/jpeg\",\"height\":3000,\"id\":\"http://a.example/book/image/%d/full/max/0/default.jpg\",\"type\":\"Image\",\"width\":2000},\"id\":\"http://a.example/book/painting/%d\",\"motivation\":\"painting\",\"target\":\"http://a.example/book/canvas/%d\",\"type\":\"Annotation\"}],\"type\":\"AnnotationPage\"}],\"label\":{\"none\":[\"%d\"]},\"type\":\"Canvas\",\"width\":2000}", (i > 1 ? "," : ""), i, i, i, i, i, i
+    print "],\"label\":{\"en\":[\"A book\"]},\"type\":\"Manifest\"}"
+  }'
+}

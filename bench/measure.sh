@@ -1,9 +1,12 @@
-# Sourced by the benchmarks: builds the program `anno`, or the one that `tool` names, and measures its
-# runs.
+# Sourced by the benchmarks: builds the program `anno`, or the one that `tool` names, and measures
+# its runs. ANNO names another program to run in place of `anno`.
 top=$(cd "$(dirname "$0")/.." && pwd)
 tool=${tool:-anno}
-"$top/build" "$tool"
-program=$top/crates/$tool/out/$tool
+program=${ANNO:-}
+if [ -z "$program" ] || [ "$tool" != anno ]; then
+  "$top/build" "$tool"
+  program=$top/crates/$tool/out/$tool
+fi
 work=$(mktemp -d)
 trap 'rm -rf "$work"' EXIT
 
@@ -20,10 +23,11 @@ beginning() {
 # The words of the runs that are measured.
 words=(- find http://a.example 10)
 
-# Runs the program on the input, and sets `status`, `micros` and `peak`, the most memory in KiB that it
-# used. It is asked again and again, since a short run is over before another program could look.
+# Runs the program on the input, for `limit` seconds at most, or two minutes, and sets `status`,
+# `micros` and `peak`, the most memory in KiB that it used. It is asked again and again, since a
+# short run is over before another program could look.
 measure() {
-  local start=${EPOCHREALTIME/./} end=$((SECONDS + 120)) job state
+  local start=${EPOCHREALTIME/./} end=$((SECONDS + ${limit:-120})) job state
   "$program" "${words[@]}" <"$work/input" >"$work/output" &
   job=$!
   peak=0
@@ -36,8 +40,8 @@ measure() {
   micros=$((${EPOCHREALTIME/./} - start))
 }
 
-# Prints the figures of the last run, which the first word names; the second is the time of a run of a
-# tenth of it, or 0.
+# Prints the figures of the last run, which the first word names; the second is the time of a run of
+# a tenth of it, or 0.
 report() {
   if [ "$status" -ne 0 ]; then
     echo "$1: ended with status $status"
@@ -53,7 +57,7 @@ report() {
 # Runs the program on the input, and sets `used`, the microseconds of a processor that it used.
 measure_used() {
   local TIMEFORMAT='%3U %3S' spent
-  spent=$({ time "$program" "${words[@]}" <"$work/input" >"$work/output"; } 2>&1)
+  spent=$({ time "$program" "${words[@]}" <"$work/input" >"$work/output" 2>"$work/told"; } 2>&1)
   used=$(awk '{ printf "%d", ($1 + $2) * 1e6 }' <<<"$spent")
 }
 

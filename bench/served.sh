@@ -4,6 +4,7 @@
 # microseconds an answer, which is what so many answers add to the time of the writes alone.
 set -eu
 . "$(dirname "$0")/measure.sh"
+. "$(dirname "$0")/inputs.sh"
 
 writes() {
   beginning
@@ -14,11 +15,8 @@ writes() {
       for (k = 1; k < 32; k++) text = text " " words[(i * 7 + k * 3) % count + 1]
       printf "2024-05-01T10:01:00Z mara PUT /annotations/mara/n%d?version=1&manifest=m1&group=public {\"body\":{\"type\":\"TextualBody\",\"value\":\"%s\"},\"target\":\"http://a.example/c1\",\"type\":\"Annotation\"}\n", i, text
     }
-    printf "2024-05-01T10:02:00Z - PUT /manifests/book?version=1 {\"items\":["
-    for (i = 1; i <= 900; i++)
-      printf "%s{\"height\":3000,\"id\":\"http://a.example/book/canvas/%d\",\"items\":[{\"id\":\"http://a.example/book/page/%d\",\"items\":[{\"body\":{\"format\":\"image/jpeg\",\"height\":3000,\"id\":\"http://a.example/book/image/%d/full/max/0/default.jpg\",\"type\":\"Image\",\"width\":2000},\"id\":\"http://a.example/book/painting/%d\",\"motivation\":\"painting\",\"target\":\"http://a.example/book/canvas/%d\",\"type\":\"Annotation\"}],\"type\":\"AnnotationPage\"}],\"label\":{\"none\":[\"%d\"]},\"type\":\"Canvas\",\"width\":2000}", (i > 1 ? "," : ""), i, i, i, i, i, i
-    print "],\"label\":{\"en\":[\"A book\"]},\"type\":\"Manifest\"}"
   }'
+  book
 }
 
 echo "processors: $(nproc)"

@@ -1,0 +1,189 @@
+"""What the tests over sockets and files share: servers, connections, and the cells of a store."""
+import atexit
+import http.client
+import json
+import os
+import select
+import shutil
+import signal
+import socket
+import sqlite3
+import subprocess
+import time
+
+BASE = "http://a.example"
+MANIFEST = (
+    '{"items":[{"height":100,"id":"http://a.example/c1","type":"Canvas","width":80}],'
+    '"label":{"en":["Log"]},"type":"Manifest"}'
+)
+
+
+def note_text(text):
+    """The JSON text of an annotation with this text."""
+    return json.dumps(
+        {"bodyValue": text, "target": "http://a.example/c1", "type": "Annotation"},
+        separators=(",", ":"),
+    )
+
+
+def reader_line(name, role):
+    """A line that makes a reader, whose token is that of `token`."""
+    user = f"http://a.example/u/{name}"
+    reader = {"groups": [], "role": role, "token": token(name), "user": user}
+    return f"2024-05-01T10:00:00Z - PUT /readers/{name}?version=1 {json.dumps(reader)}\n"
+
+
+def token(name):
+    return f"token-of-{name}"
+
+
+def free_port():
+    """A port that nobody listens on now."""
+    with socket.socket() as found:
+        found.bind(("127.0.0.1", 0))
+        return found.getsockname()[1]
+
+
+class Server:
+    """A process of `serve`. `wrap` are words before the program's name."""
+
+    def __init__(self, program, store, workers=8, wrap=(), environment=None, pass_fds=()):
+        self.port = free_port()
+        self.process = subprocess.Popen(
+            [*wrap, program, store, "serve", BASE, "10", str(self.port), str(workers), "0"],
+            stdin=subprocess.DEVNULL, stdout=subprocess.PIPE, stderr=subprocess.PIPE,
+            env=environment, pass_fds=pass_fds,
+        )
+        self.said = b""
+        atexit.register(self.kill)
+
+    def wait_until_it_listens(self, seconds=60):
+        """Whether it listens in time. Not so where it has ended before."""
+        end = time.monotonic() + seconds
+        while b"\n" not in self.said and time.monotonic() < end:
+            ready, _, _ = select.select([self.process.stderr], [], [], 0.1)
+            if ready:
+                piece = os.read(self.process.stderr.fileno(), 4096)
+                if not piece:
+                    return False
+                self.said += piece
+        return self.said.startswith(b"listening")
+
+    def kill(self):
+        """Ends it by signal 9, where it hasn't ended, and answers its status."""
+        if self.process.poll() is None:
+            self.process.send_signal(signal.SIGKILL)
+        status = self.process.wait()
+        self.process.stdout.close()
+        self.process.stderr.close()
+        atexit.unregister(self.kill)
+        return status
+
+    def memory(self, name):
+        """A figure of its memory in KiB, such as VmHWM or VmSize."""
+        with open(f"/proc/{self.process.pid}/status") as lines:
+            for line in lines:
+                if line.startswith(name + ":"):
+                    return int(line.split()[1])
+        raise KeyError(name)
+
+
+class Gone(Exception):
+    """A connection that ended before the reply."""
+
+
+class Connection:
+    """Requests one behind another. Where the server has closed, the next one opens anew."""
+
+    def __init__(self, port, seconds=20):
+        self.link = http.client.HTTPConnection("127.0.0.1", port, timeout=seconds)
+
+    def ask(self, method, target, name=None, text=None):
+        """The status and the body of the reply to a request that `name` signs."""
+        fields = {} if name is None else {"Authorization": "Bearer " + token(name)}
+        try:
+            self.link.request(method, target, body=text, headers=fields)
+            reply = self.link.getresponse()
+            return reply.status, reply.read()
+        except (OSError, http.client.HTTPException) as error:
+            self.link.close()
+            raise Gone(repr(error)) from error
+
+    def close(self):
+        self.link.close()
+
+
+def run(program, store, words, given=b"", wrap=(), seconds=120):
+    """The status and the output of a run of the program over these words."""
+    done = subprocess.run(
+        [*wrap, program, store, *words], input=given, stdout=subprocess.PIPE,
+        stderr=subprocess.PIPE, timeout=seconds,
+    )
+    return done.returncode, done.stdout
+
+
+def new_store(program, path):
+    """Makes a store with the curator mara and the manifest m1, and answers its path."""
+    lines = reader_line("mara", "curator")
+    lines += f"2024-05-01T10:00:00Z mara PUT /manifests/m1?version=1 {MANIFEST}\n"
+    told = run(program, path, ["import"], lines.encode())
+    assert told == (0, b"accepted 2 repeated 0 old 0\n"), told
+    return path
+
+
+def bytes_of(path):
+    """The bytes of a store's file and of its log, each None where it is no file."""
+    found = []
+    for part in (path, path + "-wal"):
+        found.append(None)
+        if os.path.isfile(part):
+            with open(part, "rb") as file:
+                found[-1] = file.read()
+    return found
+
+
+def copy_store(path, beside):
+    """Copies a store's file and log in place of another's."""
+    for end in ("", "-wal", "-shm"):
+        if os.path.exists(beside + end):
+            os.remove(beside + end)
+        if end != "-shm" and os.path.exists(path + end):
+            shutil.copyfile(path + end, beside + end)
+
+
+def check_sound(path):
+    """Fails where Debian's sqlite3 finds a file not sound."""
+    told = subprocess.run(["sqlite3", path, "PRAGMA integrity_check"], stdout=subprocess.PIPE,
+                          stderr=subprocess.STDOUT, timeout=120)
+    if told.returncode != 0 or told.stdout != b"ok\n":
+        raise AssertionError(f"sqlite3 finds the file not sound: {told.stdout!r}")
+
+
+def cells_of(path, beside, is_checked=True):
+    """The cells of a store, by SQLite on a copy of its file and log at the path `beside`, which it
+    has to find sound."""
+    copy_store(path, beside)
+    if is_checked:
+        check_sound(beside)
+    base = sqlite3.connect(beside)
+    try:
+        if not base.execute("SELECT 1 FROM sqlite_schema WHERE name = 'cell'").fetchone():
+            return []
+        return base.execute("SELECT tab, key, val FROM cell ORDER BY tab, key").fetchall()
+    finally:
+        base.close()
+
+
+class Table:
+    """What a test prints: a row for each thing that it shows."""
+
+    def __init__(self):
+        self.wrong = 0
+
+    def row(self, what, is_due, told=""):
+        self.wrong += not is_due
+        print(f"{'ok' if is_due else 'WRONG':5}  {what}{': ' if told else ''}{told}", flush=True)
+
+    def end(self):
+        """Ends the program: with 0 where all was as due."""
+        raise SystemExit(1 if self.wrong else 0)
