@@ -48,6 +48,7 @@ use Rattle.an_base.specs.contracts.text.Text as Text
 use Rattle.an_sqlite.specs.contracts.ahead.Ahead as Ahead
 use Rattle.an_sqlite.specs.contracts.base.Base as Base
 use Rattle.an_sqlite.specs.contracts.place.Place as Place
+use Rattle.an_sqlite.specs.contracts.teller.Teller as Teller
 use Rattle.an_sqlite.specs.contracts.keeper.SqlKeeper as SqlKeeper
 use Rattle.an_sqlite.specs.contracts.file.FileKeeper as FileKeeper
 
@@ -176,8 +177,12 @@ module _ (S : RattleType) (g : Store.Ghosts S.Denot) where
   base_send store = let connection = connection_send S g store in search (ahead_send, declared_send, as_row_send, heap.crosses, sendable) depth 60 fits 40000
 
 module _ (S : RattleType) (g : Store.Ghosts S.Denot) where
+  teller_send : IsSend S → IsSend (Teller.the_row S g)
+  teller_send store = let base = base_send S g store in search (declared_send, as_row_send, heap.crosses, sendable) depth 60 fits 40000
+
+module _ (S : RattleType) (g : Store.Ghosts S.Denot) where
   place_send : IsSend S → IsSend (Place.the_row S g)
-  place_send store = let base = base_send S g store in search (base_send, store_send, modelled_send, host_send, text_send, variants_send, as_row_send, heap.crosses, sendable) depth 60 fits 40000
+  place_send store = let teller = teller_send S g store in search (teller_send, store_send, modelled_send, host_send, text_send, variants_send, as_row_send, heap.crosses, sendable) depth 60 fits 40000
 
   pub keeper_send : IsSend S → IsSend (SqlKeeper.the_row S g)
   keeper_send store = let place = place_send store in search (declared_send, as_row_send, heap.crosses, sendable) depth 60 fits 40000

@@ -1,5 +1,5 @@
 -- Which cell the first row shows, and what making the table does.
-use Rattle.std.proofs.Common.{◌≡◌, ◌⊎◌, Bool, true, IsTrue, true≢false, inl, inr, ℕ, pos, List, [], None, Some, Ok, Err, Result, IfOk, OnErr, OnOk, false, refl, sym, ap, subst, ◌∙◌}
+use Rattle.std.proofs.Common.{◌≡◌, Bool, true, IsTrue, true≢false, inl, inr, ℕ, pos, List, [], Option, None, Some, Ok, Err, Result, IfOk, OnErr, OnOk, false, refl, sym, ap, subst, ◌∙◌}
 use Rattle.sqlite_schema.specs.declared.schema.Table.{Table}
 use Rattle.sqlite_schema.specs.declared.command.Command.TheVariants.{CreateTable, Nothing}
 use Rattle.sqlite_schema.specs.Rules.{Obeys}
@@ -14,7 +14,9 @@ use Rattle.sqlite.specs.Effect.{Database}
 use Rattle.sqlite.specs.Does.{Tally, lacks_sequence}
 use Rattle.sqlite.specs.Given.{IsPlain}
 use Rattle.sqlite.specs.Listing.{understood}
-use Rattle.sqlite.specs.State.{State, IsRolledBack, Writes, Executes, ExecutesIn, IsNotRun, QueriesRow, shows_rows}
+use Rattle.sqlite.specs.State.{State, IsRolledBack, Writes, Executes, ExecutesIn, FailsToQuery, FailsToShow, IsNotRun, QueriesRow, shows_rows}
+use Rattle.sqlite_schema.specs.declared.command.Returning.{Returning}
+use Rattle.sqlite_resolve.specs.declared.compiled.Compiled.{Compiled}
 use Rattle.std.proofs.lemmas.Bool.{cases_Bool}
 use Rattle.sqlite.proofs.Callers.{statement_of, runs_as}
 use Rattle.an_keep.specs.Cells.{first_of, put_changes}
@@ -23,6 +25,7 @@ use Rattle.an_keep.specs.declared.cell.Change.{Change}
 use Rattle.an_sqlite.specs.Statements.{first_text}
 use Rattle.an_sqlite.specs.Table.{create_text, no_schema, cell_schema}
 use Rattle.an_sqlite.specs.Written.{written}
+use Rattle.an_sqlite.specs.Base.{HasCells}
 use Rattle.an_sqlite.specs.Cells.{table, shown_cell, ShowsCell}
 use Rattle.an_sqlite.specs.Place.{BeginsWith}
 use Rattle.an_sqlite.specs.Row.{Shows}
@@ -101,10 +104,7 @@ makes_again old new (Ok count) t h =
     let same = (runs_as create_text [] old new cell_schema t.schema Nothing create_again_is create_again_plain count h).0 in
     (tells_still old new t same.0.now_is, cells_still old new same.0.now_is)
 
-abbrev pub Holds : State → Bool → List Cell → Type 0
-Holds s is_made cells = (Tells s × (cells_of s ≡ cells)) ⊎ ((is_made ≡ false) × (s.now.schema ≡ no_schema) × (cells ≡ []))
-
-pub begins_with : (s : State) (cells : List Cell) → BeginsWith s cells → Holds s false cells
+pub begins_with : (s : State) (cells : List Cell) → BeginsWith s cells → HasCells s false cells
 begins_with s cells (inl h) = inl h
 begins_with s cells (inr h) = inr (refl, h.0, h.1)
 
@@ -122,36 +122,52 @@ keeps_failed sql params old new e settled (inr h) is_open = elim (cases_Bool (sh
   | inr runs ↦ elim (rw runs at h.2) [ inl u ↦ u.1.0.now_is | inr f ↦ undone old new settled f.3 is_open ]
 ]
 
+fails_to_show : (sql : List ℕ) (params : Row) (old new : State) (c : Compiled) (e : Error) (what : Option Returning) → (IsTrue old.is_open → old.now ≡ old.committed) → FailsToShow old new sql c params e what → IsTrue new.is_open → new.now ≡ old.now
+fails_to_show sql params old new c e None settled h is_open = h.3.0.now_is
+fails_to_show sql params old new c e (Some what) settled (inl u) is_open = u.1.0.now_is
+fails_to_show sql params old new c e (Some what) settled (inr f) is_open = undone old new settled f.3 is_open
+
+pub keeps_refused : (sql : List ℕ) (params : Row) (old new : State) (e : Error) → (IsTrue old.is_open → old.now ≡ old.committed) → FailsToQuery sql params old new e → IsTrue new.is_open → new.now ≡ old.now
+unfolding FailsToQuery IsNotRun
+keeps_refused sql params old new e settled (inl (inl h)) is_open = h.1.0.now_is
+keeps_refused sql params old new e settled (inl (inr h)) is_open = undone old new settled h.3 is_open
+keeps_refused sql params old new e settled (inr h) is_open = fails_to_show sql _ old new h.0 e h.0.returning settled h.2 is_open
+
+pub first_failed : (old new : State) (e : Error) → (IsTrue old.is_open → old.now ≡ old.committed) → Tells old → QueriesRow first_text [] old new (Err e) → IsTrue new.is_open → new.now ≡ old.now
+unfolding QueriesRow
+first_failed old new e settled t (inl h) is_open = keeps_refused first_text [] old new e settled h is_open
+first_failed old new e settled t (inr h) is_open = (first_unchanged [] old new [] t.schema h.1).0.now_is
+
 -- ---- one call behind the other
 
 -- what making the table leaves
-pub made_cells : (old new : State) (is_made : Bool) (cells : List Cell) → Holds old is_made cells → (Tells old → Tells new × (cells_of new ≡ cells_of old))
+pub made_cells : (old new : State) (is_made : Bool) (cells : List Cell) → HasCells old is_made cells → (Tells old → Tells new × (cells_of new ≡ cells_of old))
     → (old.now.schema ≡ no_schema → Tells new × (cells_of new ≡ [])) → Tells new × (cells_of new ≡ cells)
 made_cells old new is_made cells (inl h) again made = let it = again h.0 in (it.0, it.1 ∙ h.1)
 made_cells old new is_made cells (inr h) again made = let it = made h.1 in (it.0, it.1 ∙ sym h.2)
 
-pub made_before : (old new : State) (cells : List Cell) → Holds old true cells → new.now ≡ old.now → Tells new × (cells_of new ≡ cells)
+pub made_before : (old new : State) (cells : List Cell) → HasCells old true cells → new.now ≡ old.now → Tells new × (cells_of new ≡ cells)
 made_before old new cells (inl h) is = (tells_still old new h.0 is, cells_still old new is ∙ h.1)
 made_before old new cells (inr h) is = absurd (true≢false h.0)
 
-pub still_holds : (old new : State) (is_made : Bool) (cells : List Cell) → Holds old is_made cells → new.now ≡ old.now → Holds new is_made cells
+pub still_holds : (old new : State) (is_made : Bool) (cells : List Cell) → HasCells old is_made cells → new.now ≡ old.now → HasCells new is_made cells
 still_holds old new is_made cells (inl h) is = inl (tells_still old new h.0 is, cells_still old new is ∙ h.1)
 still_holds old new is_made cells (inr h) is = inr (h.0, ap (λ (d : Database). d.schema) is ∙ h.1, h.2)
 
 pub commits : (mid new : State) (is_made : Bool) (changes : List Change) (cells : List Cell) → Tells mid × (cells_of mid ≡ cells)
-    → (Tells mid → Tells new × (cells_of new ≡ put_changes changes (cells_of mid))) → Holds new is_made (put_changes changes cells)
+    → (Tells mid → Tells new × (cells_of new ≡ put_changes changes (cells_of mid))) → HasCells new is_made (put_changes changes cells)
 commits mid new is_made changes cells made done = let it = done made.0 in inl (it.0, it.1 ∙ ap (put_changes changes) made.1)
 
-pub stays : (mid new : State) (is_made : Bool) (cells : List Cell) → Tells mid × (cells_of mid ≡ cells) → (Tells mid → new.now ≡ mid.now) → Holds new is_made cells
+pub stays : (mid new : State) (is_made : Bool) (cells : List Cell) → Tells mid × (cells_of mid ≡ cells) → (Tells mid → new.now ≡ mid.now) → HasCells new is_made cells
 stays mid new is_made cells made same = let is = same made.0 in inl (tells_still mid new made.0 is, cells_still mid new is ∙ made.1)
 
-pub stays_failed : (mid new : State) (is_made : Bool) (cells : List Cell) → Tells mid × (cells_of mid ≡ cells) → new.now ≡ mid.now → Holds new is_made cells
+pub stays_failed : (mid new : State) (is_made : Bool) (cells : List Cell) → Tells mid × (cells_of mid ≡ cells) → new.now ≡ mid.now → HasCells new is_made cells
 stays_failed mid new is_made cells made is = inl (tells_still mid new made.0 is, cells_still mid new is ∙ made.1)
 
 three : {a b : ℕ} {v : List ℕ} {c d : ℕ} {w : List ℕ} → a ≡ c → b ≡ d → v ≡ w → ◌≡◌ {A = Cell} (record { tab = a; key = b; val = v }) (record { tab = c; key = d; val = w })
 three p q r = rw (p, q, r) refl
 
-cell_is : (row : Row) (c cell : Cell) → row ≡ shown_cell c → Shows row cell → cell ≡ c
+pub cell_is : (row : Row) (c cell : Cell) → row ≡ shown_cell c → Shows row cell → cell ≡ c
 cell_is row c cell is s =
     let tabs : Int (pos c.tab) ≡ Int (pos cell.tab) = ap (λ r. column r 0) (sym is) ∙ s.tab in
     let keys : Int (pos c.key) ≡ Int (pos cell.key) = ap (λ r. column r 1) (sym is) ∙ s.key in
@@ -175,3 +191,7 @@ on_ok (Err e) turn p = tt
 pub on_err : {A E : Type 0} {P Q : Type 0} (r : Result A E) → (P → Q) → OnErr r P → OnErr r Q
 on_err (Ok a) turn p = tt
 on_err (Err e) turn p = turn p
+
+pub if_ok : {A E : Type 0} {P Q : A → Type 0} (r : Result A E) → ((a : A) → P a → Q a) → IfOk r P → IfOk r Q
+if_ok (Ok a) turn p = turn a p
+if_ok (Err e) turn p = tt

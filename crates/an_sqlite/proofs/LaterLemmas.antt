@@ -43,6 +43,7 @@ use Rattle.an_sqlite.specs.Tells.{Tells, cells_of}
 use Rattle.an_sqlite.proofs.CellSetLemmas.{at_itself, same_cells}
 use Rattle.an_sqlite.proofs.ChangeLemmas.{cells_in}
 use Rattle.an_sqlite.proofs.LeastLemmas.{out}
+use Rattle.an_sqlite.proofs.NoneLemmas.{shown_unchanged}
 use Rattle.an_sqlite.proofs.PutLemmas.{below_itself}
 use Rattle.an_sqlite.proofs.RowLemmas.{truth_is}
 use Rattle.an_sqlite.proofs.TableLemmas.{at_of, order_is, table_ascends, table_from, table_has}
@@ -275,3 +276,9 @@ in_later_shows old new tab rows t h =
     let params : Row = Int (pos tab) ∷ [] in
     let got = reads_as in_later_text params old new cell_schema t.schema _ in_later_is.0 in_later_is.2 in_later_is.1 rows h in
     shows_first in_later_tests params (is_in_later tab) (in_later_passes tab) old.now.trees t.rises (cells_in old t) rows (got.answer Null)
+
+pub later_in_same : (old new : State) (params : Row) (rows : List Row) → Tells old → Shown later_in_text params old new rows → new.now ≡ old.now
+later_in_same old new params rows t h = (shown_unchanged later_in_text (later_query later_in_tests) _ later_in_is.0 later_in_is.2 params old new rows t.schema h).0.now_is
+
+pub in_later_same : (old new : State) (params : Row) (rows : List Row) → Tells old → Shown in_later_text params old new rows → new.now ≡ old.now
+in_later_same old new params rows t h = (shown_unchanged in_later_text (later_query in_later_tests) _ in_later_is.0 in_later_is.2 params old new rows t.schema h).0.now_is

@@ -1,3 +1,4 @@
+pub mod AheadLemmas
 pub mod CellSetLemmas
 pub mod ChangeLemmas
 pub mod Crossings
@@ -5,6 +6,8 @@ pub mod FirstLemmas
 pub mod LaterLemmas
 pub mod LeastLemmas
 pub mod NoneLemmas
+pub mod OpenLemmas
+pub mod PlaceLemmas
 pub mod PutLemmas
 pub mod RowForms
 pub mod RowLemmas
@@ -12,4 +15,5 @@ pub mod ShapeLemmas
 pub mod StatementLemmas
 pub mod TableLemmas
 pub mod TakeLemmas
+pub mod ToldLemmas
 pub mod WriteLemmas

@@ -59,7 +59,7 @@ module _ (sql : List ℕ) (query : Query) (names : List (List ℕ)) (known : com
   shown_nothing old new has (inl h) = absurd (fails_apart old new QueryReturnedNoRows has h refl)
   shown_nothing old new has (inr h) = h.1
 
-  shown_unchanged : (old new : State) (rows : List Row) → old.now.schema ≡ cell_schema → Shown sql given old new rows → IsUnchanged old new
+  pub shown_unchanged : (old new : State) (rows : List Row) → old.now.schema ≡ cell_schema → Shown sql given old new rows → IsUnchanged old new
   unfolding Shown
   shown_unchanged old new rows has h =
       let same = sym h.1.is ∙ ap (λ s. understood s sql) has in

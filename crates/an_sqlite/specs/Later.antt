@@ -11,6 +11,7 @@ use Rattle.sqlite_sql.specs.declared.ops.BinaryOp.TheVariants.{Compare}
 use Rattle.sqlite_sql.specs.declared.ops.CompareOp.TheVariants.{Eq, Gt}
 use Rattle.sqlite_sql.specs.Query.{Query}
 use Rattle.an_keep.specs.declared.cell.Cell.{Cell}
+use Rattle.an_keep.specs.Cells.{is_behind}
 use Rattle.an_sqlite.specs.Cells.{shown_cell}
 use Rattle.an_sqlite.specs.Statements.{first_query}
 
@@ -51,3 +52,16 @@ is_in_later tab cell = nat_lt tab cell.tab
 -- the rows show the first 100 cells that pass the test, in their order and with none between
 abbrev pub ShowsFirst : (Cell → Bool) → List Cell → List Row → Type 0
 ShowsFirst test cells rows = rows ≡ take 100 (map shown_cell (filter test cells))
+
+-- the rows that show the cells behind a place, in their order
+abbrev pub shown_behind : ℕ → ℕ → List Cell → List Row
+shown_behind tab key cells = map shown_cell (filter (is_behind tab key) cells)
+
+-- the others begin with these rows
+abbrev pub IsFrontOf : List Row → List Row → Type 0
+IsFrontOf rows others = (more : List Row) × (others ≡ rows ++ more)
+
+-- the rows show the first cells behind a place, with none between, and none where none is there
+pub record ShowsBehind (tab : ℕ) (key : ℕ) (cells : List Cell) (rows : List Row) : Type 0 where
+  pub front : IsFrontOf rows (shown_behind tab key cells)
+  pub none : rows ≡ [] → filter (is_behind tab key) cells ≡ []

@@ -7,4 +7,5 @@ pub mod Row
 pub mod Statements
 pub mod Table
 pub mod Tells
+pub mod Told
 pub mod Written

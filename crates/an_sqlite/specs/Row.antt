@@ -8,8 +8,11 @@ use Rattle.an_keep.specs.declared.cell.Cell.{Cell}
 abbrev pub ShowsTable : List Value → ℕ → Type 0
 ShowsTable row tab = column row 0 ≡ Int (pos tab)
 
+abbrev pub ShowsKey : List Value → ℕ → Type 0
+ShowsKey row key = column row 1 ≡ Int (pos key)
+
 -- the table, the key and the value of the cell, in this order
 pub record Shows (row : List Value) (cell : Cell) : Type 0 where
   pub tab : ShowsTable row cell.tab
-  pub key : column row 1 ≡ Int (pos cell.key)
+  pub key : ShowsKey row cell.key
   pub val : column row 2 ≡ Blob cell.val

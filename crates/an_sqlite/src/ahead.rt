@@ -1,6 +1,6 @@
-ghost use Rattle.std.specs.Prelude.{◌≡◌, IfOk, IfSome};
+ghost use Rattle.std.specs.Prelude.{◌≡◌, IfOk, OnErr};
 ghost use Rattle.an_keep.specs.Cells.{is_behind};
-ghost use Rattle.an_sqlite.specs.Ahead.{Gives};
+ghost use Rattle.an_sqlite.specs.Ahead.{MayGive};
 
 use crate::row::cell_of;
 use an_keep::{Cell, KeepError};
@@ -18,7 +18,9 @@ pub(crate) struct Ahead {
 
 impl Ahead {
     /// The first rows behind this table and key.
-    pub(crate) fn new(tab: u8, key: u64, rows: Vec<Row>) -> Ahead {
+    pub(crate) fn new(tab: u8, key: u64, rows: Vec<Row>) -> Ahead
+        ensures { result ≡ record { tab = tab; key = key; rows = rows; given = 0 } }
+    {
         Ahead {
             tab,
             key,
@@ -30,7 +32,8 @@ impl Ahead {
     /// The next cell, where what is left begins behind this table and key, and its first row is
     /// behind them too, which it isn't where a foreign table has two rows of one key.
     pub(crate) fn next_after(&mut self, tab: u8, key: u64) -> Result<Option<Cell>, KeepError>
-        ensures { IfOk result (λ cell. IfSome cell (Gives tab key self.old self.new)) }
+        ensures given { IfOk result (MayGive tab key self.old self.new) }
+        ensures kept { OnErr result (self.new ≡ self.old) }
     {
         if self.tab != tab || self.key != key {
             return Ok(None);

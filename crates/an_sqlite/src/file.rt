@@ -26,10 +26,12 @@ impl FileKeeper {
 }
 
 impl Keeper for FileKeeper {
-    ghost use Rattle.std.specs.Prelude.{None, false};
+    ghost use Rattle.std.specs.Prelude.{false};
     ghost use Rattle.std.proofs.Common.{rules};
+    ghost use Rattle.an_sqlite.specs.Place.{told_in};
+    ghost use Rattle.sqlite.specs.Files.{over_files};
 
-    ghost told = { λ _. None };
+    ghost told = { λ k. told_in over_files k.keeper.place };
 
     ghost faults = { λ k. k.keeper.faults };
 

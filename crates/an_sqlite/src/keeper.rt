@@ -1,20 +1,27 @@
-ghost use Rattle.std.specs.Prelude.{◌≡◌, ◌≤◌, ◌^◌, IfOk, List, OnErr, OnOk, Some, false, nat_lt};
+ghost use Rattle.std.specs.Prelude.{[], ◌≡◌, ◌≤◌, ◌^◌, IfOk, IfSome, IsSome, IsTrue, List, OnErr};
+ghost use Rattle.std.specs.Prelude.{OnOk, Some, false, nat_lt};
 ghost use Rattle.std.specs.List.{list_all};
 ghost use Rattle.an_base.specs.Faults.{Rises};
-ghost use Rattle.an_keep.specs.Cells.{first_of, put_changes};
+ghost use Rattle.an_keep.specs.Cells.{Ascend, first_of, next_after, put_changes};
+ghost use Rattle.an_keep.specs.Keeper.{Stays, StaysOrBegins, Turns};
 ghost use Rattle.an_keep.specs.declared.cell.Cell.{Cell};
 ghost use Rattle.an_sqlite.specs.Place.{BeginsWith, HoldsCells, IsClean, IsOpen, connection_in};
+ghost use Rattle.an_sqlite.specs.Place.{is_own_in, is_telling, told_in};
+ghost use Rattle.an_sqlite.specs.Table.{no_schema};
+ghost use Rattle.an_sqlite.specs.Told.{is_well};
 ghost use Rattle.sqlite.specs.Held.{state};
 
-use crate::base::Base;
 use crate::place::Place;
+use crate::teller::Teller;
 use an_base::Text;
 use an_keep::{Cell, Change, KeepError, Keeper};
 use sqlite::{Alter, Connection, File, FileStore};
 use std::rt::HostRuntime;
 
 /// A keeper whose cells stand in the table `cell` of a database, which its first call makes where
-/// it isn't there. It tells no cells.
+/// it isn't there. It tells its cells where it found no table, no index and no view in the
+/// database, as long as the disk returns what was written: over a connection from the beginning,
+/// and of a file from the first call of `first` on.
 ///
 /// Each refused statement is a failure and counted, but for want of memory; so is a key above
 /// 2^63 - 1 that is to be put or taken, before any statement runs, and a row that is no cell, as a
@@ -47,9 +54,16 @@ impl<S: Alter + Drop> SqlKeeper<S> {
         ensures held { (cells : List Cell) → BeginsWith (state S.Store connection) cells
             → HoldsCells S.Store result.place cells }
         ensures connection { connection_in result.place ≡ Some connection }
+        ensures tells { (state S.Store connection).now.schema ≡ no_schema
+            → (state S.Store connection).in_transaction ≡ false
+            → IsTrue (is_well (state S.Store connection))
+            → told_in S.Store result.place ≡ Some [] }
+        ensures told { IsSome (told_in S.Store result.place)
+            → ((state S.Store connection).now.schema ≡ no_schema)
+            × ((state S.Store connection).in_transaction ≡ false) }
     {
         SqlKeeper {
-            place: Place::Adopted(Base::new(connection)),
+            place: Place::Adopted(Teller::new(connection)),
             faults: 0,
         }
     }
@@ -102,10 +116,11 @@ fn counted<T>(faults: &mut u64, answer: Result<T, KeepError>) -> Result<T, KeepE
 }
 
 impl<S: Alter + Drop> Keeper for SqlKeeper<S> {
-    ghost use Rattle.std.specs.Prelude.{None, false};
+    ghost use Rattle.std.specs.Prelude.{false};
     ghost use Rattle.std.proofs.Common.{rules};
+    ghost use Rattle.an_sqlite.specs.Place.{told_in};
 
-    ghost told = { λ _. None };
+    ghost told = { λ keeper. told_in S.Store keeper.place };
 
     ghost faults = { λ keeper. keeper.faults };
 
@@ -119,6 +134,7 @@ impl<S: Alter + Drop> Keeper for SqlKeeper<S> {
     fn commit(&mut self, changes: &[Change]) -> Result<(), KeepError>
         ensures keys { list_all (λ change. nat_lt change.key (2 ^ 63)) changes.now ≡ false
             → (result ≡ Err KeepError.Failed) × (self.new.place ≡ self.old.place) }
+        ensures on { IsTrue (is_telling self.old.place) → IsTrue (is_telling self.new.place) }
 
         // Of a connection that was adopted, where its store is clean behind the call.
         ensures held { IsClean S.Store self.new.place → (cells : List Cell)
@@ -129,6 +145,10 @@ impl<S: Alter + Drop> Keeper for SqlKeeper<S> {
             → OnErr result (HoldsCells S.Store self.new.place cells) }
 
         // What each keeper ensures.
+        ensures done { OnOk result (Turns (put_changes changes.now)
+            (told_in S.Store self.old.place) (told_in S.Store self.new.place)) }
+        ensures still { OnErr result (Stays (told_in S.Store self.old.place)
+            (told_in S.Store self.new.place)) }
         ensures counted { result ≡ Err KeepError.Failed → Rises self.old.faults self.new.faults }
         ensures faults_kept { self.old.faults ≤ self.new.faults }
     {
@@ -139,7 +159,11 @@ impl<S: Alter + Drop> Keeper for SqlKeeper<S> {
         counted(&mut self.faults, done)
     }
 
+    #[tactic(auto, using(crate::proofs::PlaceLemmas::told_ascend))]
     fn first(&mut self) -> Result<Option<Cell>, KeepError>
+        ensures on { IsTrue (is_telling self.old.place) → IsTrue (is_telling self.new.place) }
+        ensures begins { OnOk result (is_telling self.new.place ≡ is_own_in self.new.place) }
+
         // Of a connection that was adopted, where its store is clean behind the call.
         ensures least { IsClean S.Store self.new.place → (cells : List Cell)
             → HoldsCells S.Store self.old.place cells
@@ -147,8 +171,16 @@ impl<S: Alter + Drop> Keeper for SqlKeeper<S> {
         ensures held { IsClean S.Store self.new.place → (cells : List Cell)
             → HoldsCells S.Store self.old.place cells
             → OnOk result (HoldsCells S.Store self.new.place cells) }
+        ensures kept { IsClean S.Store self.new.place → IsOpen S.Store self.new.place
+            → (cells : List Cell) → HoldsCells S.Store self.old.place cells
+            → OnErr result (HoldsCells S.Store self.new.place cells) }
 
         // What each keeper ensures.
+        ensures cell { IfOk result (λ cell. IfSome (told_in S.Store self.new.place)
+            (λ cells. cell ≡ first_of cells)) }
+        ensures ascend { IfSome (told_in S.Store self.new.place) Ascend }
+        ensures stays { StaysOrBegins (told_in S.Store self.old.place)
+            (told_in S.Store self.new.place) }
         ensures counted { result ≡ Err KeepError.Failed → Rises self.old.faults self.new.faults }
         ensures faults_kept { self.old.faults ≤ self.new.faults }
     {
@@ -156,7 +188,27 @@ impl<S: Alter + Drop> Keeper for SqlKeeper<S> {
         counted(&mut self.faults, answer)
     }
 
-    fn next_after(&mut self, tab: u8, key: u64) -> Result<Option<Cell>, KeepError> {
+    fn next_after(&mut self, tab: u8, key: u64) -> Result<Option<Cell>, KeepError>
+        ensures on { IsTrue (is_telling self.old.place) → IsTrue (is_telling self.new.place) }
+
+        // Of a connection that was adopted, where its store is clean behind the call.
+        ensures next { IsClean S.Store self.new.place → (cells : List Cell)
+            → HoldsCells S.Store self.old.place cells
+            → IfOk result (λ cell. cell ≡ next_after tab key cells) }
+        ensures held { IsClean S.Store self.new.place → (cells : List Cell)
+            → HoldsCells S.Store self.old.place cells
+            → OnOk result (HoldsCells S.Store self.new.place cells) }
+        ensures kept { IsClean S.Store self.new.place → IsOpen S.Store self.new.place
+            → (cells : List Cell) → HoldsCells S.Store self.old.place cells
+            → OnErr result (HoldsCells S.Store self.new.place cells) }
+
+        // What each keeper ensures.
+        ensures cell { IfOk result (λ cell. IfSome (told_in S.Store self.new.place)
+            (λ cells. cell ≡ next_after tab key cells)) }
+        ensures still { Stays (told_in S.Store self.old.place) (told_in S.Store self.new.place) }
+        ensures counted { result ≡ Err KeepError.Failed → Rises self.old.faults self.new.faults }
+        ensures faults_kept { self.old.faults ≤ self.new.faults }
+    {
         let answer = self.place.next_after(tab, key);
         counted(&mut self.faults, answer)
     }

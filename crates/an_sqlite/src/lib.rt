@@ -11,3 +11,4 @@ mod keeper;
 mod place;
 mod row;
 mod statements;
+mod teller;

@@ -1,10 +1,12 @@
-ghost use Rattle.std.specs.Prelude.{◌≡◌, IfOk, List, OnErr, OnOk};
-ghost use Rattle.an_keep.specs.Cells.{first_of, put_changes};
+ghost use Rattle.std.specs.Prelude.{◌≡◌, IfOk, IfSome, IsTrue, List, OnErr, OnOk};
+ghost use Rattle.an_keep.specs.Cells.{first_of, next_after, put_changes};
 ghost use Rattle.an_keep.specs.declared.cell.Cell.{Cell};
-ghost use Rattle.an_sqlite.specs.Place.{HoldsCells, IsClean, IsOpen, KeepsAdopted, connection_in};
+ghost use Rattle.an_keep.specs.Keeper.{Stays, StaysOrBegins, Turns};
+ghost use Rattle.an_sqlite.specs.Place.{HoldsCells, IsClean, IsOpen, KeepsOpen};
+ghost use Rattle.an_sqlite.specs.Place.{connection_in, is_own_in, is_telling, told_in};
 
-use crate::base::Base;
 use crate::statements::refusal;
+use crate::teller::Teller;
 use an_base::Text;
 use an_keep::{Cell, Change, KeepError};
 use sqlite::{Alter, Connection, File, FileStore};
@@ -14,8 +16,9 @@ use std::rt::HostRuntime;
 pub(crate) enum Place<S: Alter + Drop> {
     /// A file that isn't open yet.
     Closed(HostRuntime, Text),
-    File(Base<FileStore<File>>),
-    Adopted(Base<S>),
+    /// A file, and whether its cells are told, which `first` alone begins.
+    File(Teller<FileStore<File>>, bool),
+    Adopted(Teller<S>),
 }
 
 impl<S: Alter + Drop> Drop for Place<S> {
@@ -23,7 +26,7 @@ impl<S: Alter + Drop> Drop for Place<S> {
     fn drop(self) {
         match self {
             Place::Closed(_, _) => {}
-            Place::File(base) => close(base),
+            Place::File(teller, _) => close(teller),
             Place::Adopted(_) => {}
         }
     }
@@ -31,8 +34,8 @@ impl<S: Alter + Drop> Drop for Place<S> {
 
 /// Copies the log into the database file, and closes both. Where that fails the two hold the cells
 /// together, as they do behind each commit.
-fn close(base: Base<FileStore<File>>) {
-    let _ = base.into_connection().close();
+fn close(teller: Teller<FileStore<File>>) {
+    let _ = teller.into_connection().close();
 }
 
 impl<S: Alter + Drop> Place<S> {
@@ -42,17 +45,17 @@ impl<S: Alter + Drop> Place<S> {
     {
         match self {
             Place::Closed(_, _) => None,
-            Place::File(base) => {
-                close(base);
+            Place::File(teller, _) => {
+                close(teller);
                 None
             }
-            Place::Adopted(base) => Some(base.into_connection()),
+            Place::Adopted(teller) => Some(teller.into_connection()),
         }
     }
 
     /// Opens the file, where there is one that isn't open.
     fn open(&mut self) -> Result<(), KeepError>
-        ensures { KeepsAdopted self.old self.new }
+        ensures { KeepsOpen S.Store self.old self.new }
     {
         let opened = match self {
             Place::Closed(rt, path) => Connection::open(rt, path.as_str()),
@@ -60,14 +63,20 @@ impl<S: Alter + Drop> Place<S> {
         };
         match opened {
             Ok(connection) => {
-                *self = Place::File(Base::new(connection));
+                *self = Place::File(Teller::new(connection), false);
                 Ok(())
             }
             Err(error) => Err(refusal(error)),
         }
     }
 
+    #[tactic(auto, using(crate::proofs::PlaceLemmas::same_told, crate::proofs::PlaceLemmas::goes_telling, crate::proofs::PlaceLemmas::turns_while, crate::proofs::PlaceLemmas::stays_while))]
     pub(crate) fn commit(&mut self, changes: &[Change]) -> Result<(), KeepError>
+        ensures on { IsTrue (is_telling self.old) → IsTrue (is_telling self.new) }
+        ensures turns { OnOk result (Turns (put_changes changes.now)
+            (told_in S.Store self.old) (told_in S.Store self.new)) }
+        ensures stays { OnErr result (Stays (told_in S.Store self.old)
+            (told_in S.Store self.new)) }
         ensures done { IsClean S.Store self.new → (cells : List Cell)
             → HoldsCells S.Store self.old cells
             → OnOk result (HoldsCells S.Store self.new (put_changes changes.now cells)) }
@@ -77,31 +86,55 @@ impl<S: Alter + Drop> Place<S> {
         self.open()?;
         match self {
             Place::Closed(_, _) => Err(KeepError::Failed),
-            Place::File(base) => base.commit(changes),
-            Place::Adopted(base) => base.commit(changes),
+            Place::File(teller, _) => teller.commit(changes),
+            Place::Adopted(teller) => teller.commit(changes),
         }
     }
 
+    #[tactic(auto, using(crate::proofs::PlaceLemmas::same_told, crate::proofs::PlaceLemmas::goes_telling, crate::proofs::PlaceLemmas::begins_while))]
     pub(crate) fn first(&mut self) -> Result<Option<Cell>, KeepError>
+        ensures on { IsTrue (is_telling self.old) → IsTrue (is_telling self.new) }
+        ensures begins { OnOk result (is_telling self.new ≡ is_own_in self.new) }
+        ensures gives { IfOk result (λ cell. IfSome (told_in S.Store self.new)
+            (λ cells. cell ≡ first_of cells)) }
+        ensures told { StaysOrBegins (told_in S.Store self.old) (told_in S.Store self.new) }
         ensures cell { IsClean S.Store self.new → (cells : List Cell)
             → HoldsCells S.Store self.old cells → IfOk result (λ cell. cell ≡ first_of cells) }
         ensures stays { IsClean S.Store self.new → (cells : List Cell)
             → HoldsCells S.Store self.old cells → OnOk result (HoldsCells S.Store self.new cells) }
+        ensures still { IsClean S.Store self.new → IsOpen S.Store self.new → (cells : List Cell)
+            → HoldsCells S.Store self.old cells → OnErr result (HoldsCells S.Store self.new cells) }
     {
         self.open()?;
         match self {
             Place::Closed(_, _) => Err(KeepError::Failed),
-            Place::File(base) => base.first(),
-            Place::Adopted(base) => base.first(),
+            Place::File(teller, tells) => {
+                *tells = true;
+                teller.first()
+            }
+            Place::Adopted(teller) => teller.first(),
         }
     }
 
-    pub(crate) fn next_after(&mut self, tab: u8, key: u64) -> Result<Option<Cell>, KeepError> {
+    #[tactic(auto, using(crate::proofs::PlaceLemmas::same_told, crate::proofs::PlaceLemmas::goes_telling, crate::proofs::PlaceLemmas::stays_while, crate::proofs::PlaceLemmas::gives_while))]
+    pub(crate) fn next_after(&mut self, tab: u8, key: u64) -> Result<Option<Cell>, KeepError>
+        ensures on { IsTrue (is_telling self.old) → IsTrue (is_telling self.new) }
+        ensures gives { IfOk result (λ cell. IfSome (told_in S.Store self.new)
+            (λ cells. cell ≡ next_after tab key cells)) }
+        ensures told { Stays (told_in S.Store self.old) (told_in S.Store self.new) }
+        ensures cell { IsClean S.Store self.new → (cells : List Cell)
+            → HoldsCells S.Store self.old cells
+            → IfOk result (λ cell. cell ≡ next_after tab key cells) }
+        ensures stays { IsClean S.Store self.new → (cells : List Cell)
+            → HoldsCells S.Store self.old cells → OnOk result (HoldsCells S.Store self.new cells) }
+        ensures still { IsClean S.Store self.new → IsOpen S.Store self.new → (cells : List Cell)
+            → HoldsCells S.Store self.old cells → OnErr result (HoldsCells S.Store self.new cells) }
+    {
         self.open()?;
         match self {
             Place::Closed(_, _) => Err(KeepError::Failed),
-            Place::File(base) => base.next_after(tab, key),
-            Place::Adopted(base) => base.next_after(tab, key),
+            Place::File(teller, _) => teller.next_after(tab, key),
+            Place::Adopted(teller) => teller.next_after(tab, key),
         }
     }
 }

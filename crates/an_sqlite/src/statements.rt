@@ -1,5 +1,5 @@
-ghost use Rattle.std.specs.Prelude.{[], ◌∷◌, ◌≡◌, ◌≤◌, ◌↔◌, ◌-◌, ◌^◌, min, pos, IfOk, IsTrue};
-ghost use Rattle.std.specs.Prelude.{OnErr, OnOk, false};
+ghost use Rattle.std.specs.Prelude.{[], ◌∷◌, ◌≡◌, ◌≤◌, ◌↔◌, ◌-◌, ◌^◌, min, pos, IfErr, IfOk};
+ghost use Rattle.std.specs.Prelude.{IsTrue, OnErr, OnOk, false};
 ghost use Rattle.an_keep.specs.Cells.{first_of, put_change, put_changes};
 ghost use Rattle.an_sqlite.specs.Cells.{ShowsIf};
 ghost use Rattle.an_sqlite.specs.Later.{ShowsFirst, in_later_text, is_in_later, is_later_in};
@@ -8,7 +8,7 @@ ghost use Rattle.an_sqlite.specs.Statements.{put_text, take_text};
 ghost use Rattle.an_sqlite.specs.Table.{no_schema};
 ghost use Rattle.an_sqlite.specs.Tells.{KeepsCommit, Tells, Turns, cells_of};
 ghost use Rattle.sqlite.specs.Held.{state};
-ghost use Rattle.sqlite.specs.State.{ExecutesInside, HasCleanDisk, Shown};
+ghost use Rattle.sqlite.specs.State.{ExecutesInside, FailsToQuery, HasCleanDisk, Shown};
 ghost use Rattle.sqlite_trees.specs.View.{doubt};
 ghost use Rattle.sqlite_value.specs.declared.value.Value.TheVariants.{Blob, Int};
 
@@ -35,7 +35,7 @@ ORDER BY tab, key LIMIT 100";
 const IN_LATER: &str = "SELECT tab, key, val FROM cell WHERE tab > ?1 ORDER BY tab, key LIMIT 100";
 
 /// Makes the table where it isn't there, outside a transaction.
-#[tactic(auto, using(crate::proofs::FirstLemmas::keeps_failed))]
+#[tactic(auto, using(crate::proofs::FirstLemmas::keeps_failed, crate::proofs::OpenLemmas::executed))]
 pub(crate) fn make<S: Alter>(conn: &mut Connection<S>) -> Result<(), KeepError>
     ensures made { HasCleanDisk (state S.Store conn.new)
         → (state S.Store conn.old).now.schema ≡ no_schema
@@ -46,6 +46,8 @@ pub(crate) fn make<S: Alter>(conn: &mut Connection<S>) -> Result<(), KeepError>
         × (cells_of (state S.Store conn.new) ≡ cells_of (state S.Store conn.old))) }
     ensures still { HasCleanDisk (state S.Store conn.new) → IsTrue (state S.Store conn.new).is_open
         → OnErr result ((state S.Store conn.new).now ≡ (state S.Store conn.old).now) }
+    ensures open { HasCleanDisk (state S.Store conn.new) → IsTrue (state S.Store conn.new).is_open
+        → IsTrue (state S.Store conn.old).is_open }
     ensures clean { doubt (state S.Store conn.old).is_clean
         ≤ doubt (state S.Store conn.new).is_clean }
 {
@@ -58,15 +60,24 @@ pub(crate) fn make<S: Alter>(conn: &mut Connection<S>) -> Result<(), KeepError>
     }
 }
 
-/// The first row.
+/// The first row, outside a transaction.
+#[tactic(auto, using(crate::proofs::OpenLemmas::queried))]
 pub(crate) fn first<S: Alter>(conn: &mut Connection<S>) -> Result<Option<Row>, KeepError>
     ensures row { HasCleanDisk (state S.Store conn.new) → Tells (state S.Store conn.old)
         → IfOk result (ShowsIf (first_of (cells_of (state S.Store conn.old)))) }
     ensures kept { HasCleanDisk (state S.Store conn.new) → Tells (state S.Store conn.old)
         → OnOk result ((state S.Store conn.new).now ≡ (state S.Store conn.old).now) }
+    ensures still { HasCleanDisk (state S.Store conn.new) → IsTrue (state S.Store conn.new).is_open
+        → Tells (state S.Store conn.old)
+        → OnErr result ((state S.Store conn.new).now ≡ (state S.Store conn.old).now) }
+    ensures open { HasCleanDisk (state S.Store conn.new) → IsTrue (state S.Store conn.new).is_open
+        → IsTrue (state S.Store conn.old).is_open }
     ensures clean { doubt (state S.Store conn.old).is_clean
         ≤ doubt (state S.Store conn.new).is_clean }
 {
+    if !conn.is_autocommit() {
+        return Err(KeepError::Failed);
+    }
     match conn.query_row(FIRST, &[]) {
         Ok(row) => Ok(Some(row)),
         Err(Error::QueryReturnedNoRows) => Ok(None),
@@ -74,17 +85,28 @@ pub(crate) fn first<S: Alter>(conn: &mut Connection<S>) -> Result<Option<Row>, K
     }
 }
 
-/// The first rows of a table behind a key.
-#[tactic(auto, using(crate::proofs::LaterLemmas::later_in_at))]
+/// The first rows of a table behind a key, outside a transaction.
+#[tactic(auto, using(crate::proofs::FirstLemmas::keeps_refused))]
 pub(crate) fn later_in<S: Alter>(
     conn: &mut Connection<S>,
     tab: u8,
     key: u64,
 ) -> Result<Vec<Row>, KeepError>
-    ensures { HasCleanDisk (state S.Store conn.new) → Tells (state S.Store conn.old)
+    ensures rows { HasCleanDisk (state S.Store conn.new) → Tells (state S.Store conn.old)
         → IfOk result (λ rows. ShowsFirst (is_later_in tab (min key (2 ^ 63 - 1)))
         (cells_of (state S.Store conn.old)) rows.items) }
+    ensures kept { HasCleanDisk (state S.Store conn.new) → Tells (state S.Store conn.old)
+        → OnOk result ((state S.Store conn.new).now ≡ (state S.Store conn.old).now) }
+    ensures still { HasCleanDisk (state S.Store conn.new) → IsTrue (state S.Store conn.new).is_open
+        → OnErr result ((state S.Store conn.new).now ≡ (state S.Store conn.old).now) }
+    ensures open { HasCleanDisk (state S.Store conn.new) → IsTrue (state S.Store conn.new).is_open
+        → IsTrue (state S.Store conn.old).is_open }
+    ensures clean { doubt (state S.Store conn.old).is_clean
+        ≤ doubt (state S.Store conn.new).is_clean }
 {
+    if !conn.is_autocommit() {
+        return Err(KeepError::Failed);
+    }
     match ask_later_in(conn, tab, key_or_last(key)) {
         Ok(rows) => Ok(rows),
         Err(error) => Err(refusal(error)),
@@ -92,20 +114,38 @@ pub(crate) fn later_in<S: Alter>(
 }
 
 fn ask_later_in<S: Alter>(conn: &mut Connection<S>, tab: u8, key: i64) -> Result<Vec<Row>, Error>
-    ensures { HasCleanDisk (state S.Store conn.new)
+    ensures ok { HasCleanDisk (state S.Store conn.new)
         → IfOk result (λ rows. Shown later_in_text (Int (pos tab) ∷ Int key ∷ [])
         (state S.Store conn.old) (state S.Store conn.new) rows.items) }
+    ensures err { HasCleanDisk (state S.Store conn.new)
+        → IfErr result (FailsToQuery later_in_text (Int (pos tab) ∷ Int key ∷ [])
+        (state S.Store conn.old) (state S.Store conn.new)) }
+    ensures open { HasCleanDisk (state S.Store conn.new) → IsTrue (state S.Store conn.new).is_open
+        → IsTrue (state S.Store conn.old).is_open }
+    ensures clean { doubt (state S.Store conn.old).is_clean
+        ≤ doubt (state S.Store conn.new).is_clean }
 {
     conn.query_all(LATER_IN, params![u32::from(tab), key])
 }
 
-/// The first rows of the tables behind a table.
-#[tactic(auto, using(crate::proofs::LaterLemmas::in_later_shows))]
+/// The first rows of the tables behind a table, outside a transaction.
+#[tactic(auto, using(crate::proofs::FirstLemmas::keeps_refused))]
 pub(crate) fn in_later<S: Alter>(conn: &mut Connection<S>, tab: u8) -> Result<Vec<Row>, KeepError>
-    ensures { HasCleanDisk (state S.Store conn.new) → Tells (state S.Store conn.old)
+    ensures rows { HasCleanDisk (state S.Store conn.new) → Tells (state S.Store conn.old)
         → IfOk result (λ rows. ShowsFirst (is_in_later tab) (cells_of (state S.Store conn.old))
         rows.items) }
+    ensures kept { HasCleanDisk (state S.Store conn.new) → Tells (state S.Store conn.old)
+        → OnOk result ((state S.Store conn.new).now ≡ (state S.Store conn.old).now) }
+    ensures still { HasCleanDisk (state S.Store conn.new) → IsTrue (state S.Store conn.new).is_open
+        → OnErr result ((state S.Store conn.new).now ≡ (state S.Store conn.old).now) }
+    ensures open { HasCleanDisk (state S.Store conn.new) → IsTrue (state S.Store conn.new).is_open
+        → IsTrue (state S.Store conn.old).is_open }
+    ensures clean { doubt (state S.Store conn.old).is_clean
+        ≤ doubt (state S.Store conn.new).is_clean }
 {
+    if !conn.is_autocommit() {
+        return Err(KeepError::Failed);
+    }
     match ask_in_later(conn, tab) {
         Ok(rows) => Ok(rows),
         Err(error) => Err(refusal(error)),
@@ -113,9 +153,16 @@ pub(crate) fn in_later<S: Alter>(conn: &mut Connection<S>, tab: u8) -> Result<Ve
 }
 
 fn ask_in_later<S: Alter>(conn: &mut Connection<S>, tab: u8) -> Result<Vec<Row>, Error>
-    ensures { HasCleanDisk (state S.Store conn.new)
+    ensures ok { HasCleanDisk (state S.Store conn.new)
         → IfOk result (λ rows. Shown in_later_text (Int (pos tab) ∷ [])
         (state S.Store conn.old) (state S.Store conn.new) rows.items) }
+    ensures err { HasCleanDisk (state S.Store conn.new)
+        → IfErr result (FailsToQuery in_later_text (Int (pos tab) ∷ [])
+        (state S.Store conn.old) (state S.Store conn.new)) }
+    ensures open { HasCleanDisk (state S.Store conn.new) → IsTrue (state S.Store conn.new).is_open
+        → IsTrue (state S.Store conn.old).is_open }
+    ensures clean { doubt (state S.Store conn.old).is_clean
+        ≤ doubt (state S.Store conn.new).is_clean }
 {
     conn.query_all(IN_LATER, params![u32::from(tab)])
 }
@@ -131,6 +178,8 @@ pub(crate) fn commit<S: Alter>(
     ensures ended { OnOk result ((state S.Store conn.new).in_transaction ≡ false) }
     ensures still { HasCleanDisk (state S.Store conn.new) → IsTrue (state S.Store conn.new).is_open
         → OnErr result ((state S.Store conn.new).now ≡ (state S.Store conn.old).now) }
+    ensures open { HasCleanDisk (state S.Store conn.new) → IsTrue (state S.Store conn.new).is_open
+        → IsTrue (state S.Store conn.old).is_open }
     ensures clean { doubt (state S.Store conn.old).is_clean
         ≤ doubt (state S.Store conn.new).is_clean }
 {
@@ -147,6 +196,8 @@ fn do_all<S: Alter>(conn: &mut Connection<S>, changes: &[Change]) -> Result<(), 
     ensures ended { OnOk result ((state S.Store conn.new).in_transaction ≡ false) }
     ensures still { HasCleanDisk (state S.Store conn.new) → IsTrue (state S.Store conn.new).is_open
         → OnErr result ((state S.Store conn.new).now ≡ (state S.Store conn.old).now) }
+    ensures open { HasCleanDisk (state S.Store conn.new) → IsTrue (state S.Store conn.new).is_open
+        → IsTrue (state S.Store conn.old).is_open }
     ensures clean { doubt (state S.Store conn.old).is_clean
         ≤ doubt (state S.Store conn.new).is_clean }
 {

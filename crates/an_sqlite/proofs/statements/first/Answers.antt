@@ -1,9 +1,9 @@
-use Rattle.std.proofs.Common.{◌≡◌, [], Ok, Err, subst, rules}
+use Rattle.std.proofs.Common.{◌≡◌, [], Ok, Err, IsTrue, subst, rules}
 use Rattle.sqlite.specs.Held.{state}
 use Rattle.sqlite.specs.State.{QueriesRow}
 use Rattle.sqlite.specs.declared.error.Error.TheVariants.{QueryReturnedNoRows}
 use Rattle.an_sqlite.specs.Statements.{first_text}
-use Rattle.an_sqlite.proofs.FirstLemmas.{first_shows, first_none, first_same, none_same}
+use Rattle.an_sqlite.proofs.FirstLemmas.{first_failed, first_shows, first_none, first_same, none_same}
 use Rattle.an_sqlite.proofs.statements.first.Goals as goal
 
 pub returns-in-Ok-clause-row : goal.returns-in-Ok-clause-row
@@ -23,3 +23,8 @@ returns-in-Err-QueryReturnedNoRows-clause-kept g c clean tells =
     let none_is : c.query_row.result ≡ Err QueryReturnedNoRows = search rules in
     none_same (state g.S.Store c.args.conn.now) (state g.S.Store c.query_row.new.self) tells
     (subst (QueriesRow first_text [] (state g.S.Store c.args.conn.now) (state g.S.Store c.query_row.new.self)) none_is (c.query_row.ensures.row clean))
+
+pub returns-in-Err-clause-still : goal.returns-in-Err-clause-still
+returns-in-Err-clause-still g c clean is_open tells =
+    let settled : IsTrue c.is_autocommit.result = search rules in
+    first_failed (state g.S.Store c.args.conn.now) (state g.S.Store c.query_row.new.self) c.in-Err.error (c.is_autocommit.ensures.settled settled) tells (c.in-Err.ensures.row clean) is_open

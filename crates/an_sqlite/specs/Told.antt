@@ -1,0 +1,34 @@
+-- What a keeper over SQLite tells of its cells.
+use Rattle.std.specs.Prelude.{◌≤◌, ◌==◌, ◌&&◌, Bool, true, false, if◌then◌else◌, IsTrue}
+use Rattle.std.specs.Prelude.{List, [], Some, None}
+use Rattle.sqlite_trees.specs.declared.store.Store.{Ghosts}
+use Rattle.sqlite_trees.specs.View.{doubt}
+use Rattle.sqlite.specs.Held.{state}
+use Rattle.sqlite.specs.State.{State, HasCleanDisk}
+use Rattle.an_keep.specs.Keeper.{Told}
+use Rattle.an_keep.specs.declared.cell.Cell.{Cell}
+use Rattle.an_sqlite.specs.declared.base.Base.{Base}
+use Rattle.an_sqlite.specs.Tells.{cells_of}
+
+-- the cells of the table, and none where it isn't made yet
+abbrev pub cells_in : {S : Type 0} → Ghosts S → Base S → List Cell
+cells_in g base = if base.is_made then cells_of (state g base.conn) else []
+
+-- the disk returned so far what was written, and the connection is open
+abbrev pub is_well : State → Bool
+is_well s = (doubt s.is_clean == 0) && s.is_open
+
+abbrev pub told_if : Bool → List Cell → Told
+told_if true cells = Some cells
+told_if false cells = None
+
+-- the cells of a base, where it put all the rows of its table
+abbrev pub told_by : {S : Type 0} → Ghosts S → Bool → Base S → Told
+told_by g is_own base = told_if (is_own && is_well (state g base.conn)) (cells_in g base)
+
+-- For private clauses: no call forgets a fault or that the table is made, or opens a connection.
+pub record GoesOn {S : Type 0} (g : Ghosts S) (old new : Base S) : Type 0 where
+  pub clean : doubt (state g old.conn).is_clean ≤ doubt (state g new.conn).is_clean
+  pub was_open : HasCleanDisk (state g new.conn) → IsTrue (state g new.conn).is_open
+      → IsTrue (state g old.conn).is_open
+  pub made : IsTrue old.is_made → IsTrue new.is_made
