@@ -10,14 +10,15 @@ ghost use Rattle.an_listed.specs.Room.{HasCounts, HasSpace, IsEnough, IsKept};
 ghost use Rattle.an_listed.specs.Staying.{left_empty, left_whole, left_words};
 ghost use Rattle.an_listed.specs.Stands.{Stands, left_parts};
 
-use crate::filed::{Filed, staying_terms};
+use crate::filed::{Filed, is_alike, staying_terms};
 use crate::register::Register;
 use crate::words::{add_counts, put_places, take_counts, take_places};
 use an_base::{Name, TermList};
 use an_postings::Postings;
 
 impl Register {
-    /// Puts a row in place of another. It takes no memory.
+    /// Puts a row in place of another, which costs no look-up where both are found alike. It takes
+    /// no memory.
     pub(crate) fn replace(&mut self, rows: &[Filed], place: usize, row: &Filed)
         requires stands { Stands self.old rows.now }
         requires place { place < length rows.now }
@@ -27,8 +28,10 @@ impl Register {
             → HasSpace (row.now ∷ rest) self.old → HasSpace rest self.new }
     {
         let old = &rows[place];
-        self.take(old, staying_terms(old, row), place);
-        self.put(row, place);
+        if !is_alike(old, row) {
+            self.take(old, staying_terms(old, row), place);
+            self.put(row, place);
+        }
     }
 
     /// Puts a row behind all. It takes no memory.

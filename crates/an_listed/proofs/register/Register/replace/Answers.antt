@@ -6,6 +6,7 @@ use Rattle.an_slots.specs.Rows.{added, posted, unposted}
 use Rattle.an_slots.specs.Slot.{Slot}
 use Rattle.an_listed.specs.Filed.{whole_parts, word_parts}
 use Rattle.an_listed.specs.Staying.{left_whole, left_words}
+use Rattle.an_listed.proofs.AlikeLemmas.{stands-alike}
 use Rattle.an_listed.proofs.SpaceLemmas.{space-kept}
 use Rattle.an_listed.proofs.StandLemmas.{small-taken, stands-set, stands-there}
 use Rattle.an_listed.proofs.register.Register.replace.Goals as goal
@@ -19,8 +20,8 @@ put-requires-clause-space c = space-kept (c.args.row.now ∷ []) c.args.self.now
 pub put-requires-clause-small : goal.put-requires-clause-small
 put-requires-clause-small c = small-taken c.args.self.now c.args.rows.now c.requires.stands c.index-rows-place.result c.args.row.now (count_of c.take.new.self.counts) c.take.ensures.counts
 
-pub returns-clause-stands : goal.returns-clause-stands
-returns-clause-stands c =
+pub returns-then-not-is_alike-clause-stands : goal.returns-then-not-is_alike-clause-stands
+returns-then-not-is_alike-clause-stands c =
     let self = c.args.self.now in
     let place = c.args.place in
     let old = c.index-rows-place.result in
@@ -30,5 +31,8 @@ returns-clause-stands c =
     let counts = c.put.ensures.counts ∙ ap (λ (f : Slot → ℕ). added f (word_parts row)) c.take.ensures.counts in
     stands-set self c.args.rows.now c.requires.stands c.put.new.self place old row c.requires.place c.index-rows-place.is words whole counts
 
-pub returns-clause-rest : goal.returns-clause-rest
-returns-clause-rest c = λ rest space. c.put.ensures.rest rest (space-kept (c.args.row.now ∷ rest) c.args.self.now c.take.new.self c.take.ensures.word_room c.take.ensures.whole_room c.take.ensures.count_room space)
+pub returns-then-not-is_alike-clause-rest : goal.returns-then-not-is_alike-clause-rest
+returns-then-not-is_alike-clause-rest c = λ rest space. c.put.ensures.rest rest (space-kept (c.args.row.now ∷ rest) c.args.self.now c.take.new.self c.take.ensures.word_room c.take.ensures.whole_room c.take.ensures.count_room space)
+
+pub returns-else-not-is_alike-clause-stands : goal.returns-else-not-is_alike-clause-stands
+returns-else-not-is_alike-clause-stands c = stands-alike c.args.self.now c.args.rows.now c.requires.stands c.args.place c.index-rows-place.result c.args.row.now c.requires.place c.index-rows-place.is (c.is_alike.ensures.words c.if-not-is_alike.false) (c.is_alike.ensures.whole c.if-not-is_alike.false)
