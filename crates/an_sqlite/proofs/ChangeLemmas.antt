@@ -31,7 +31,7 @@ use Rattle.an_sqlite.proofs.TableLemmas.{puts_only, put_table, takes_only, take_
 pub cells_in : (s : State) → Tells s → AreCells (s.now.trees 0)
 cells_in s t = are_cells s.now.trees t.rises t.obeys
 
-tells_from : (s : State) → s.now.schema ≡ cell_schema → IsDatabase s.now → Rises (s.now.trees 0) → Tells s
+pub tells_from : (s : State) → s.now.schema ≡ cell_schema → IsDatabase s.now → Rises (s.now.trees 0) → Tells s
 tells_from s schema sound rises = record { schema = schema; rises = rises; obeys = subst (λ (t : Schema). Obeys t s.now.trees) (schema ∙ written_is) sound.obeys }
 
 pub put_state : (old new : State) (tab key : ℕ) (val : List ℕ) (count : ℕ) → Tells old → Executes put_text (params_of tab key val) old new (Ok count)

@@ -3,6 +3,7 @@ use denote.RattleType.{RattleType}
 use denote.Param.Send.{IsSend, view_send, sendable, owning_send}
 use denote.Param.SendFields.{as_row_send, declared_send, variants_send}
 use Rattle.std.proofs.Crossing as heap
+use Rattle.std.specs.contracts.snapshot.Snapshot as Snapshot
 use Rattle.sqlite_disk.specs.declared.Disk as Disk
 use Rattle.sqlite_wal.specs.contracts.log.Log as Log
 use Rattle.sqlite_wal.specs.contracts.index.PageIndex as PageIndex
@@ -176,9 +177,12 @@ module _ (S : RattleType) (g : Store.Ghosts S.Denot) where
   base_send : IsSend S → IsSend (Base.the_row S g)
   base_send store = let connection = connection_send S g store in search (ahead_send, declared_send, as_row_send, heap.crosses, sendable) depth 60 fits 40000
 
+snapshot_send : (T : RattleType) → IsSend (Snapshot.the_row T)
+snapshot_send T = owning_send (Snapshot.the_type T) (search sendable, tt) (λ d. tt) (λ k x w. tt)
+
 module _ (S : RattleType) (g : Store.Ghosts S.Denot) where
   teller_send : IsSend S → IsSend (Teller.the_row S g)
-  teller_send store = let base = base_send S g store in search (declared_send, as_row_send, heap.crosses, sendable) depth 60 fits 40000
+  teller_send store = let base = base_send S g store in search (snapshot_send, declared_send, heap.crosses, sendable) depth 60 fits 40000
 
 module _ (S : RattleType) (g : Store.Ghosts S.Denot) where
   place_send : IsSend S → IsSend (Place.the_row S g)

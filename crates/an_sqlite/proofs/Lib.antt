@@ -3,6 +3,7 @@ pub mod CellSetLemmas
 pub mod ChangeLemmas
 pub mod Crossings
 pub mod FirstLemmas
+pub mod FoundLemmas
 pub mod LaterLemmas
 pub mod LeastLemmas
 pub mod NoneLemmas

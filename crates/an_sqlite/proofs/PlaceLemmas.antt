@@ -1,12 +1,16 @@
 -- What a place tells while it is opened.
-use Rattle.std.proofs.Common.{◌≡◌, Bool, true, false, List, Option, Result, Ok, Err, IfOk, IfSome, IsTrue, OnOk, ap, ◌∙◌}
+use Rattle.std.proofs.Common.{◌≡◌, ◌&&◌, Bool, true, false, List, Option, Result, Ok, Err, IfOk, IfSome, IsTrue, OnOk, ap, ◌∙◌}
+use Rattle.std.proofs.lemmas.Bool.{and_parts}
 use Rattle.sqlite_trees.specs.declared.store.Store.{Ghosts}
 use Rattle.sqlite.specs.Files.{over_files}
+use Rattle.sqlite.specs.Held.{state}
 use Rattle.an_keep.specs.Cells.{Ascend}
 use Rattle.an_keep.specs.Keeper.{Told, Turns, Stays, StaysOrBegins}
 use Rattle.an_keep.specs.declared.cell.Cell.{Cell}
+use Rattle.an_sqlite.specs.declared.teller.Teller.{Teller}
 use Rattle.an_sqlite.specs.declared.place.Place.{Place}
 use Rattle.an_sqlite.specs.declared.place.Place.TheVariants.{Adopted, Closed, File}
+use Rattle.an_sqlite.specs.Found.{may_tell}
 use Rattle.an_sqlite.specs.Place.{KeepsOpen, is_telling, told_in, told_while}
 use Rattle.an_sqlite.proofs.ToldLemmas.{never_begins, told_ascends}
 
@@ -21,9 +25,16 @@ module _ {S : Type 0} (g : Ghosts S) where
   goes_telling (File teller told) mid keeps tells = ap is_telling keeps ∙ tells
   goes_telling (Closed rt path) mid keeps tells = absurd cc
 
+  -- a call leaves how the connection came
+  pub goes_on : (tells : Bool) (old new : Teller S g) → new.came ≡ old.came → IsTrue (tells && may_tell (state g old.came.value)) → IsTrue (tells && may_tell (state g new.came.value))
+  goes_on tells old new same on = rw same on
+
+  pub begins_on : (tells : Bool) (old new : Teller S g) → new.came ≡ old.came → IsTrue (tells && may_tell (state g old.came.value)) → IsTrue (may_tell (state g new.came.value))
+  begins_on tells old new same on = rw same (and_parts tells (may_tell (state g old.came.value)) on).1
+
   pub told_ascend : (place : Place S g) → IfSome (told_in g place) Ascend
-  told_ascend (Adopted teller) = told_ascends g teller.is_own teller.base
-  told_ascend (File teller true) = told_ascends over_files teller.is_own teller.base
+  told_ascend (Adopted teller) = told_ascends g teller.came.value teller.base
+  told_ascend (File teller true) = told_ascends over_files teller.came.value teller.base
   told_ascend (File teller false) = tt
   told_ascend (Closed rt path) = tt
 

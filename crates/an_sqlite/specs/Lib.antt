@@ -1,6 +1,7 @@
 pub mod Ahead
 pub mod Base
 pub mod Cells
+pub mod Found
 pub mod Later
 pub mod Place
 pub mod Row

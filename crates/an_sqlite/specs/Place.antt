@@ -10,6 +10,7 @@ use Rattle.an_keep.specs.declared.cell.Cell.{Cell}
 use Rattle.an_sqlite.specs.declared.place.Place.{Place}
 use Rattle.an_sqlite.specs.declared.place.Place.TheVariants.{Adopted, Closed, File}
 use Rattle.an_sqlite.specs.Base.{Lists}
+use Rattle.an_sqlite.specs.Found.{may_tell}
 use Rattle.an_sqlite.specs.Table.{no_schema}
 use Rattle.an_sqlite.specs.Tells.{Tells, cells_of}
 use Rattle.an_sqlite.specs.Told.{told_by}
@@ -37,28 +38,28 @@ abbrev pub BeginsWith : State → List Cell → Type 0
 BeginsWith s cells =
     (Tells s × (cells_of s ≡ cells)) ⊎ ((s.now.schema ≡ no_schema) × (cells ≡ []))
 
--- whether the database had no table, no index and no view when it came here
-abbrev pub is_own_in : {S : Type 0} {g : Ghosts S} → Place S g → Bool
-is_own_in (Adopted teller) = teller.is_own
-is_own_in (File teller tells) = teller.is_own
-is_own_in (Closed rt path) = false
+-- whether the connection came so that its cells are told
+abbrev pub may_tell_in : {S : Type 0} {g : Ghosts S} → Place S g → Bool
+may_tell_in {S} {g} (Adopted teller) = may_tell (state g teller.came.value)
+may_tell_in (File teller tells) = may_tell (state over_files teller.came.value)
+may_tell_in (Closed rt path) = false
 
 -- whether the cells are told while the disk returns what was written, and the connection is open
 abbrev pub is_telling : {S : Type 0} {g : Ghosts S} → Place S g → Bool
-is_telling (Adopted teller) = teller.is_own
-is_telling (File teller tells) = tells && teller.is_own
+is_telling {S} {g} (Adopted teller) = may_tell (state g teller.came.value)
+is_telling (File teller tells) = tells && may_tell (state over_files teller.came.value)
 is_telling (Closed rt path) = false
 
 abbrev pub told_while : Bool → Told → Told
 told_while true told = told
 told_while false told = None
 
--- The cells that a keeper tells: those of a database that had no table, no index and no view when
--- it came here, as long as the disk returned what was written. Of a file they are told from the
--- first call of `first` on.
+-- The cells that a keeper tells: those of a connection that came with no table at all, or with
+-- exactly the table of cells, as long as the disk returned what was written. Of a file they are
+-- told from the first call of `first` on.
 abbrev pub told_in : {S : Type 0} → (g : Ghosts S) → Place S g → Told
-told_in g (Adopted teller) = told_by g teller.is_own teller.base
-told_in g (File teller tells) = told_while tells (told_by over_files teller.is_own teller.base)
+told_in g (Adopted teller) = told_by g teller.came.value teller.base
+told_in g (File teller tells) = told_while tells (told_by over_files teller.came.value teller.base)
 told_in g (Closed rt path) = None
 
 -- For private clauses: what was open stays, and what is opened is a file that isn't told yet.

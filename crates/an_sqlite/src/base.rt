@@ -67,7 +67,6 @@ impl<S: Alter + Drop> Base<S> {
         ensures clean { doubt (state S.Store self.old.conn).is_clean
             ≤ doubt (state S.Store self.new.conn).is_clean }
         ensures goes_on { GoesOn S.Store self.old self.new }
-        ensures is_made { OnOk result (IsTrue self.new.is_made) }
     {
         if !self.is_made {
             statements::make(&mut self.conn)?;
@@ -80,7 +79,6 @@ impl<S: Alter + Drop> Base<S> {
     pub(crate) fn commit(&mut self, changes: &[Change]) -> Result<(), KeepError>
         ensures ahead { self.new.ahead ≡ None }
         ensures goes_on { GoesOn S.Store self.old self.new }
-        ensures is_made { OnOk result (IsTrue self.new.is_made) }
         ensures done { HasCleanDisk (state S.Store self.new.conn)
             → (cells : List Cell) → Lists S.Store self.old cells
             → OnOk result (Lists S.Store self.new (put_changes changes.now cells)) }

@@ -1,4 +1,4 @@
-ghost use Rattle.std.specs.Prelude.{[], ◌≡◌, ◌≤◌, ◌^◌, IfOk, IfSome, IsSome, IsTrue, List, OnErr};
+ghost use Rattle.std.specs.Prelude.{[], ◌≡◌, ◌≤◌, ◌^◌, ◌⊎◌, IfOk, IfSome, IsSome, IsTrue, List, OnErr};
 ghost use Rattle.std.specs.Prelude.{OnOk, Some, false, nat_lt};
 ghost use Rattle.std.specs.List.{list_all};
 ghost use Rattle.an_base.specs.Faults.{Rises};
@@ -6,8 +6,9 @@ ghost use Rattle.an_keep.specs.Cells.{Ascend, first_of, next_after, put_changes}
 ghost use Rattle.an_keep.specs.Keeper.{Stays, StaysOrBegins, Turns};
 ghost use Rattle.an_keep.specs.declared.cell.Cell.{Cell};
 ghost use Rattle.an_sqlite.specs.Place.{BeginsWith, HoldsCells, IsClean, IsOpen, connection_in};
-ghost use Rattle.an_sqlite.specs.Place.{is_own_in, is_telling, told_in};
+ghost use Rattle.an_sqlite.specs.Place.{is_telling, may_tell_in, told_in};
 ghost use Rattle.an_sqlite.specs.Table.{no_schema};
+ghost use Rattle.an_sqlite.specs.Tells.{Tells, cells_of};
 ghost use Rattle.an_sqlite.specs.Told.{is_well};
 ghost use Rattle.sqlite.specs.Held.{state};
 
@@ -19,9 +20,10 @@ use sqlite::{Alter, Connection, File, FileStore};
 use std::rt::HostRuntime;
 
 /// A keeper whose cells stand in the table `cell` of a database, which its first call makes where
-/// it isn't there. It tells its cells where it found no table, no index and no view in the
-/// database, as long as the disk returns what was written: over a connection from the beginning,
-/// and of a file from the first call of `first` on.
+/// it isn't there. It tells its cells where the connection came with no table, no index and no
+/// view, or with exactly that table, whose rowids rise, and with no transaction open, as long as
+/// the disk returns what was written: over a connection from the beginning, and of a file from the
+/// first call of `first` on.
 ///
 /// Each refused statement is a failure and counted, but for want of memory; so is a key above
 /// 2^63 - 1 that is to be put or taken, before any statement runs, and a row that is no cell, as a
@@ -58,9 +60,15 @@ impl<S: Alter + Drop> SqlKeeper<S> {
             → (state S.Store connection).in_transaction ≡ false
             → IsTrue (is_well (state S.Store connection))
             → told_in S.Store result.place ≡ Some [] }
+        ensures tells_found { Tells (state S.Store connection)
+            → (state S.Store connection).in_transaction ≡ false
+            → IsTrue (is_well (state S.Store connection))
+            → told_in S.Store result.place ≡ Some (cells_of (state S.Store connection)) }
         ensures told { IsSome (told_in S.Store result.place)
             → ((state S.Store connection).now.schema ≡ no_schema)
-            × ((state S.Store connection).in_transaction ≡ false) }
+            ⊎ Tells (state S.Store connection) }
+        ensures settled { IsSome (told_in S.Store result.place)
+            → (state S.Store connection).in_transaction ≡ false }
     {
         SqlKeeper {
             place: Place::Adopted(Teller::new(connection)),
@@ -162,7 +170,7 @@ impl<S: Alter + Drop> Keeper for SqlKeeper<S> {
     #[tactic(auto, using(crate::proofs::PlaceLemmas::told_ascend))]
     fn first(&mut self) -> Result<Option<Cell>, KeepError>
         ensures on { IsTrue (is_telling self.old.place) → IsTrue (is_telling self.new.place) }
-        ensures begins { OnOk result (is_telling self.new.place ≡ is_own_in self.new.place) }
+        ensures begins { OnOk result (is_telling self.new.place ≡ may_tell_in self.new.place) }
 
         // Of a connection that was adopted, where its store is clean behind the call.
         ensures least { IsClean S.Store self.new.place → (cells : List Cell)

@@ -3,7 +3,7 @@ ghost use Rattle.an_keep.specs.Cells.{first_of, next_after, put_changes};
 ghost use Rattle.an_keep.specs.declared.cell.Cell.{Cell};
 ghost use Rattle.an_keep.specs.Keeper.{Stays, StaysOrBegins, Turns};
 ghost use Rattle.an_sqlite.specs.Place.{HoldsCells, IsClean, IsOpen, KeepsOpen};
-ghost use Rattle.an_sqlite.specs.Place.{connection_in, is_own_in, is_telling, told_in};
+ghost use Rattle.an_sqlite.specs.Place.{connection_in, is_telling, may_tell_in, told_in};
 
 use crate::statements::refusal;
 use crate::teller::Teller;
@@ -94,7 +94,7 @@ impl<S: Alter + Drop> Place<S> {
     #[tactic(auto, using(crate::proofs::PlaceLemmas::same_told, crate::proofs::PlaceLemmas::goes_telling, crate::proofs::PlaceLemmas::begins_while))]
     pub(crate) fn first(&mut self) -> Result<Option<Cell>, KeepError>
         ensures on { IsTrue (is_telling self.old) → IsTrue (is_telling self.new) }
-        ensures begins { OnOk result (is_telling self.new ≡ is_own_in self.new) }
+        ensures begins { OnOk result (is_telling self.new ≡ may_tell_in self.new) }
         ensures gives { IfOk result (λ cell. IfSome (told_in S.Store self.new)
             (λ cells. cell ≡ first_of cells)) }
         ensures told { StaysOrBegins (told_in S.Store self.old) (told_in S.Store self.new) }

@@ -1,60 +1,62 @@
-ghost use Rattle.std.specs.Prelude.{◌≡◌, ◌↔◌, IfOk, IfSome, IsTrue, List, None, OnErr, OnOk, false};
+ghost use Rattle.std.specs.Prelude.{◌≡◌, IfOk, IfSome, IsTrue, List, None, OnErr, OnOk, false};
 ghost use Rattle.an_keep.specs.Cells.{Ascend, first_of, next_after, put_changes};
 ghost use Rattle.an_keep.specs.Keeper.{Stays, Turns};
 ghost use Rattle.an_keep.specs.declared.cell.Cell.{Cell};
 ghost use Rattle.an_sqlite.specs.Base.{Lists};
-ghost use Rattle.an_sqlite.specs.Table.{no_schema};
+ghost use Rattle.an_sqlite.specs.Found.{may_tell};
 ghost use Rattle.an_sqlite.specs.Told.{cells_in, is_well, told_by};
 ghost use Rattle.sqlite.specs.Held.{state};
-ghost use Rattle.sqlite.specs.State.{HasCleanDisk};
+ghost use Rattle.sqlite.specs.State.{HasCleanDisk, IsLive};
 
 use crate::base::Base;
 use an_keep::{Cell, Change, KeepError};
 use sqlite::{Alter, Connection};
-use sqlite_schema::schema::Schema;
+use std::snapshot::Snapshot;
 
-/// A base that knows its cells, where it put all the rows of its table. Of a table that it found no
-/// contract says that the rows are in order.
+/// A base that tells its cells, where the connection came with no table at all or with exactly the
+/// table of cells. Nothing is tested for that: contracts alone see how it came.
 #[derive(Drop)]
 pub(crate) struct Teller<S: Alter + Drop> {
     base: Base<S>,
-    /// Whether the database had no table, no index and no view when it came here, and no
-    /// transaction was open.
-    is_own: bool,
-    ghost known: { IsTrue is_own → IsTrue (is_well (state S.Store base.conn))
-        → ∥ Lists S.Store base (cells_in S.Store base) ∥₁ },
+    /// The connection as it came here. It takes no bytes.
+    came: Snapshot<Connection<S>>,
+    ghost known: { IsTrue (may_tell (state S.Store came.value))
+        → IsTrue (is_well (state S.Store base.conn))
+        → ∥ Lists S.Store base (cells_in (state S.Store base.conn)) ∥₁ },
 }
 
 impl<S: Alter + Drop> Teller<S> {
     /// Takes no memory.
-    #[tactic(auto, using(crate::proofs::ToldLemmas::knows_blank))]
+    #[tactic(auto, using(crate::proofs::ToldLemmas::knows_found))]
     pub(crate) fn new(conn: Connection<S>) -> Teller<S>
         ensures base { result.base ≡ record { conn = conn; is_made = false; ahead = None } }
-        ensures own { IsTrue result.is_own ↔ ((state S.Store conn).now.schema ≡ no_schema)
-            × ((state S.Store conn).in_transaction ≡ false) }
+        ensures came { result.came.value ≡ conn }
+        ensures live { IsLive (state S.Store conn) }
     {
-        let is_own = is_blank(&conn);
+        // It is asked for what it ensures: that the rows obey the schema.
+        let _ = conn.schema();
+        let came = Snapshot::of(&conn);
         Teller {
             base: Base::new(conn),
-            is_own,
+            came,
         }
     }
 
     pub(crate) fn into_connection(self) -> Connection<S>
         ensures { result ≡ self.base.conn }
     {
-        let Teller { base, is_own: _ } = self;
+        let Teller { base, came: _ } = self;
         base.into_connection()
     }
 
     /// Does all of these changes, or none.
     pub(crate) fn commit(&mut self, changes: &[Change]) -> Result<(), KeepError>
-        ensures own { self.new.is_own ≡ self.old.is_own }
+        ensures came { self.new.came ≡ self.old.came }
         ensures turns { OnOk result (Turns (put_changes changes.now)
-            (told_by S.Store self.old.is_own self.old.base)
-            (told_by S.Store self.new.is_own self.new.base)) }
-        ensures stays { OnErr result (Stays (told_by S.Store self.old.is_own self.old.base)
-            (told_by S.Store self.new.is_own self.new.base)) }
+            (told_by S.Store self.old.came.value self.old.base)
+            (told_by S.Store self.new.came.value self.new.base)) }
+        ensures stays { OnErr result (Stays (told_by S.Store self.old.came.value self.old.base)
+            (told_by S.Store self.new.came.value self.new.base)) }
         ensures done { HasCleanDisk (state S.Store self.new.base.conn)
             → (cells : List Cell) → Lists S.Store self.old.base cells
             → OnOk result (Lists S.Store self.new.base (put_changes changes.now cells)) }
@@ -67,11 +69,11 @@ impl<S: Alter + Drop> Teller<S> {
     }
 
     pub(crate) fn first(&mut self) -> Result<Option<Cell>, KeepError>
-        ensures own { self.new.is_own ≡ self.old.is_own }
+        ensures came { self.new.came ≡ self.old.came }
         ensures gives { IfOk result (λ cell. IfSome
-            (told_by S.Store self.new.is_own self.new.base) (λ cells. cell ≡ first_of cells)) }
-        ensures told { Stays (told_by S.Store self.old.is_own self.old.base)
-            (told_by S.Store self.new.is_own self.new.base) }
+            (told_by S.Store self.new.came.value self.new.base) (λ cells. cell ≡ first_of cells)) }
+        ensures told { Stays (told_by S.Store self.old.came.value self.old.base)
+            (told_by S.Store self.new.came.value self.new.base) }
         ensures cell { HasCleanDisk (state S.Store self.new.base.conn)
             → (cells : List Cell) → Lists S.Store self.old.base cells
             → IfOk result (λ cell. cell ≡ first_of cells) }
@@ -88,12 +90,12 @@ impl<S: Alter + Drop> Teller<S> {
 
     /// The first cell behind this table and key. It takes no time for the cells before them.
     pub(crate) fn next_after(&mut self, tab: u8, key: u64) -> Result<Option<Cell>, KeepError>
-        ensures own { self.new.is_own ≡ self.old.is_own }
+        ensures came { self.new.came ≡ self.old.came }
         ensures gives { IfOk result (λ cell. IfSome
-            (told_by S.Store self.new.is_own self.new.base)
+            (told_by S.Store self.new.came.value self.new.base)
             (λ cells. cell ≡ next_after tab key cells)) }
-        ensures told { Stays (told_by S.Store self.old.is_own self.old.base)
-            (told_by S.Store self.new.is_own self.new.base) }
+        ensures told { Stays (told_by S.Store self.old.came.value self.old.base)
+            (told_by S.Store self.new.came.value self.new.base) }
         ensures cell { HasCleanDisk (state S.Store self.new.base.conn)
             → (cells : List Cell) → Lists S.Store self.old.base cells
             → IfOk result (λ cell. cell ≡ next_after tab key cells) }
@@ -107,19 +109,4 @@ impl<S: Alter + Drop> Teller<S> {
     {
         self.base.next_after(tab, key)
     }
-}
-
-/// Whether the database has no table, no index and no view, and no transaction is open.
-fn is_blank<S: Alter>(conn: &Connection<S>) -> bool
-    ensures { IsTrue result ↔ ((state S.Store conn.now).now.schema ≡ no_schema)
-        × ((state S.Store conn.now).in_transaction ≡ false) }
-{
-    conn.is_autocommit() && is_empty(conn.schema())
-}
-
-#[tactic(auto, using(crate::proofs::ToldLemmas::nothing_is))]
-fn is_empty(schema: &Schema) -> bool
-    ensures { IsTrue result ↔ (schema.now ≡ no_schema) }
-{
-    schema.tables.is_empty() && schema.indexes.is_empty() && schema.views.is_empty()
 }
