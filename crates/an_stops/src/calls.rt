@@ -1,12 +1,10 @@
 //! Calls of a keeper over a connection in memory.
-use crate::sending::{cells, shown};
+use crate::sending::{MemSqlKeeper, cells, shown};
 use an_base::Bytes;
 use an_keep::{Change, Keeper};
 use an_sqlite::SqlKeeper;
-use sqlite::{Connection, MemStore};
+use sqlite::Connection;
 use std::alloc::{AllocError, Global};
-
-type MemSqlKeeper = SqlKeeper<MemStore>;
 
 /// Answers calls of one keeper, between ` | `: `commit 1 0 a, 2 3`, which puts `a` at table 1 and
 /// key 0, and takes away what stands at 2 and 3; `first`; `next 1 0`; `faults`, which counts those

@@ -11,6 +11,7 @@ mod sending;
 use an_report::{Outcome, report, wrong_with};
 use crashes::Stopped;
 use disks::Crashes;
+use sending::Second;
 use std::alloc::{AllocError, Global};
 use std::io;
 use std::process::ExitCode;
@@ -75,7 +76,8 @@ fn outcome(alloc: Global, text: &str) -> Result<Outcome, AllocError> {
 /// stops, or of calls of a keeper.
 fn answer(alloc: Global, lines: &str, asked: &str) -> Result<String, AllocError> {
     match asked {
-        "import twice" => sending::import_twice(alloc, lines),
+        "import twice" => sending::import_twice(alloc, lines, Second::Same),
+        "import twice, by two keepers" => sending::import_twice(alloc, lines, Second::Another),
         "log stops, and what isn't synced is lost" => {
             crashes::play(alloc, lines, Stopped::Log, Crashes::Machine)
         }

@@ -10,6 +10,9 @@ use sqlite::{Connection, MemStore};
 use std::alloc::{AllocError, Global};
 use std::str::from_utf8;
 
+/// A keeper over a connection in memory.
+pub type MemSqlKeeper = SqlKeeper<MemStore>;
+
 /// How many bytes an import prints at most.
 const PRINTED: usize = 1_000;
 
@@ -101,36 +104,55 @@ pub fn states(alloc: Global, lines: &str) -> Result<Vec<String>, AllocError> {
     Ok(states)
 }
 
-/// What two imports of the lines print, the second over the connection that the first store gave
-/// back, and whether the cells behind both are those of a keeper in memory.
-pub fn import_twice(alloc: Global, lines: &str) -> Result<String, AllocError> {
+/// The keeper over which lines are imported again.
+#[derive(Clone, Copy)]
+pub enum Second {
+    /// The one that the first store gave back.
+    Same,
+    /// Another one over its connection.
+    Another,
+}
+
+/// What two imports of the lines print, the second over this keeper, and whether the cells behind
+/// both are those of a keeper in memory.
+pub fn import_twice(alloc: Global, lines: &str, second: Second) -> Result<String, AllocError> {
     let due = states(alloc, lines)?;
     let due = due.last().map_or("", |cells| cells.as_str());
     let mut told = String::new(alloc);
-    let connection = Connection::open_in_memory(alloc)?;
-    let Some(connection) = import_over(alloc, connection, lines, due, &mut told)? else {
+    let keeper = SqlKeeper::adopt(Connection::open_in_memory(alloc)?);
+    let Some(keeper) = import_over(alloc, keeper, lines, due, &mut told)? else {
+        return Ok(told);
+    };
+    let Some(keeper) = second_keeper(keeper, second) else {
         return Ok(told);
     };
     told.push_str("; ")?;
-    let _ = import_over(alloc, connection, lines, due, &mut told)?;
+    let _ = import_over(alloc, keeper, lines, due, &mut told)?;
     Ok(told)
 }
 
-/// Tells what an import over a connection prints, and whether the cells behind it are those that
-/// are due, and gives the connection back.
+fn second_keeper(keeper: MemSqlKeeper, second: Second) -> Option<MemSqlKeeper> {
+    match second {
+        Second::Same => Some(keeper),
+        Second::Another => Some(SqlKeeper::adopt(keeper.into_connection()?)),
+    }
+}
+
+/// Tells what an import over a keeper prints, and whether the cells behind it are those that are
+/// due, and gives the keeper back as the store does.
 fn import_over(
     alloc: Global,
-    connection: Connection<MemStore>,
+    keeper: MemSqlKeeper,
     lines: &str,
     due: &str,
     told: &mut String,
-) -> Result<Option<Connection<MemStore>>, AllocError> {
-    match Desk::open(alloc, SqlKeeper::adopt(connection)) {
+) -> Result<Option<MemSqlKeeper>, AllocError> {
+    match Desk::open(alloc, keeper) {
         Ok(mut desk) => {
             let printed = printed(alloc, &mut desk, lines);
             let mut keeper = desk.into_keeper();
             tell_import(alloc, &mut keeper, printed, due, told)?;
-            Ok(keeper.into_connection())
+            Ok(Some(keeper))
         }
         Err(_error) => {
             told.push_str("not opened")?;
