@@ -30,10 +30,13 @@ impl ToldKeeper {
 }
 
 impl Keeper for ToldKeeper {
-    ghost use Rattle.std.specs.Prelude.{None, false};
+    ghost use Rattle.std.specs.Prelude.{false};
     ghost use Rattle.std.proofs.Common.{rules};
+    ghost use Rattle.an_sqlite.specs.Place.{told_in};
+    ghost use Rattle.sqlite.specs.Files.{over_files};
 
-    ghost told = { λ _. None };
+    // The cells that the keeper inside tells.
+    ghost told = { λ k. told_in over_files k.keeper.keeper.place };
 
     ghost faults = { λ k. k.keeper.keeper.faults };
 
