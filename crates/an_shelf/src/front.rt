@@ -65,13 +65,6 @@ impl Front {
         }
     }
 
-    /// Takes memory for an entry, so that it need not wait.
-    pub(crate) fn room(&mut self, entry: &Entry) -> Result<(), AllocError>
-        ensures same { self.new ≡ self.old }
-    {
-        self.snapshot.room(entry)
-    }
-
     /// Shows an entry. Where memory runs out it waits.
     pub(crate) fn show(&mut self, entry: Entry) -> Result<(), AllocError>
         requires nothing_waits { self.old.waiting ≡ None }

@@ -144,7 +144,6 @@ fn carry_out<K: Keeper>(
     let Decided { entry, reply } = decided;
     match entry {
         Some(entry) => {
-            front.room(&entry)?;
             let copy = put(alloc, keeper, book, entry)?;
             front.show(copy)?;
             Ok(reply)
