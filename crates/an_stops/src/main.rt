@@ -8,7 +8,7 @@ mod disks;
 mod lent;
 mod sending;
 
-use an_report::{Outcome, report, wrong_with};
+use an_report::{is_right, read_row, wrong_with};
 use crashes::Stopped;
 use disks::Crashes;
 use sending::Second;
@@ -26,50 +26,21 @@ fn main(rt: HostRuntime) -> ExitCode {
 }
 
 /// Plays the table on standard input, prints how many cases it has and how many of them are wrong,
-/// and answers whether none is. A line is a comment behind `#`; `lines`, which begins a text of
-/// lines; a line of that text behind `| `; or a case, with ` -> ` before the answer that is due.
+/// and answers whether none is.
 fn play_input<R: Input + Print + AllocGlobal>(rt: &R) -> io::Result<bool> {
     let table = io::read_to_string(rt.alloc(), rt.reader())?;
     let mut lines = String::new(rt.alloc());
     let mut cases = 0usize;
     let mut wrong = 0usize;
-    for row in table.lines() {
-        if !is_read(&mut lines, row)? {
+    for line in table.lines() {
+        if let Some(row) = read_row(&mut lines, line)? {
+            let found = answer(rt.alloc(), lines.as_str(), row.asked)?;
             cases = cases.saturating_add(1);
-            wrong = wrong_with(wrong, is_right(rt, lines.as_str(), row)?);
+            wrong = wrong_with(wrong, is_right(rt, &row, found.as_str())?);
         }
     }
     println!(rt; "{cases} cases, {wrong} wrong")?;
     Ok(wrong == 0)
-}
-
-/// Reads a row that is no case, and answers whether it is none.
-fn is_read(lines: &mut String, row: &str) -> Result<bool, AllocError> {
-    if let Some(line) = row.strip_prefix("| ") {
-        lines.push_str(line)?;
-        lines.push_str("\n")?;
-        return Ok(true);
-    }
-    if row == "lines" {
-        lines.clear();
-        return Ok(true);
-    }
-    Ok(row.is_empty() || row.starts_with("#"))
-}
-
-/// Plays the case of a row, and prints what came out otherwise than it is due.
-fn is_right<R: Print + AllocGlobal>(rt: &R, lines: &str, row: &str) -> io::Result<bool> {
-    let (asked, due) = row.rsplit_once(" -> ").unwrap_or((row, ""));
-    let due = outcome(rt.alloc(), due)?;
-    let found = outcome(rt.alloc(), answer(rt.alloc(), lines, asked)?.as_str())?;
-    report(rt, asked, &due, &found)
-}
-
-fn outcome(alloc: Global, text: &str) -> Result<Outcome, AllocError> {
-    Ok(Outcome {
-        status: 0,
-        output: Vec::from_slice(alloc, text.as_bytes())?,
-    })
 }
 
 /// What comes of a case: of lines that are imported twice, of lines that are written while a disk
