@@ -6,3 +6,5 @@ pub mod PlaceLemmas
 pub mod PutFiled
 pub mod ReadLemmas
 pub mod StepLemmas
+pub mod ChangeLemmas
+pub mod AddedLemmas

@@ -24,7 +24,7 @@ use Rattle.an_snapshot.specs.Listing.{IsFiled, IsListing}
 -- ---- one annotation
 
 -- the audience of a class
-class-audience : (a : Audience) (classes : List Audience) (k : ℕ) → class_of a classes ≡ Some k → slice_get classes k ≡ Some a
+pub class-audience : (a : Audience) (classes : List Audience) (k : ℕ) → class_of a classes ≡ Some k → slice_get classes k ≡ Some a
 class-audience a classes k is =
     let at = position-Some (λ audience. same_audience audience a) classes k a is in
     slice_get_read classes (length classes) k a refl at.0 (sym (same_audience-true (get_or classes k a) a at.1))

@@ -25,7 +25,7 @@ use Rattle.an_snapshot.specs.Plan.{AreLeft, rows_fit, state_behind}
 use Rattle.an_snapshot.specs.Steps.{HasStepRoom, IsOther, IsStep, IsStepOver, filed_in}
 use Rattle.an_snapshot.specs.declared.steps.Step.{Step}
 use Rattle.an_snapshot.specs.declared.steps.Step.TheVariants.{Other, Note}
-use Rattle.an_snapshot.proofs.AllLemmas.{All-nil}
+use Rattle.an_snapshot.proofs.AllLemmas.{All-gives, All-nil}
 use Rattle.an_snapshot.proofs.FiledLemmas.{filed-kept}
 use Rattle.an_snapshot.proofs.OverLemmas.{audience-over}
 use Rattle.an_snapshot.proofs.StandOver.{stand-rows}
@@ -101,6 +101,15 @@ steps-filed s classes (step ∷ steps) all =
 
 pub listing-empty : IsListing empty [] []
 listing-empty = record { notes = refl; filed = All-nil (IsFiled empty []); distinct = distinct-empty; stand = refl }
+
+-- with more classes it is a listing still
+pub listing-grown : (s : State) (old new : List Audience) (rows : List Filed) → Grows old new → IsListing s old rows → IsListing s new rows
+listing-grown s old new rows grows listing = record {
+  notes = listing.notes;
+  filed = All-gives (IsFiled s old) (IsFiled s new) rows (λ filed is audience then. grows audience filed.class (is audience then)) listing.filed;
+  distinct = listing.distinct;
+  stand = listing.stand;
+}
 
 -- what was filed before stays so behind an entry that fits
 pub filed-behind : (entry : Entry) (s : State) (old new : List Audience) (listed : List Filed) → Grows old new → IsListing s old listed → fits s entry ≡ true

@@ -4,3 +4,4 @@ pub mod Over
 pub mod Steps
 pub mod Plan
 pub mod Listing
+pub mod Changes

@@ -3,10 +3,13 @@ ghost use Rattle.an_listed.specs.Room.{HasRoom};
 ghost use Rattle.an_policy.specs.declared.group.Audience.{Audience};
 ghost use Rattle.an_state.specs.State.{State};
 ghost use Rattle.an_snapshot.specs.Absorbed.{state_with};
+ghost use Rattle.an_snapshot.specs.Changes.{AreChanges};
 ghost use Rattle.an_snapshot.specs.Listing.{IsFiled, IsListing};
 ghost use Rattle.an_snapshot.specs.Plan.{state_behind};
 ghost use Rattle.an_snapshot.specs.Steps.{IsSame, filed_in, row_of_step};
 
+use crate::changes::{Changes, add_changes};
+use crate::filing::changes_of;
 use crate::prepare::{Prepared, prepare};
 use crate::put::{add_all, put_steps};
 use an_listed::Listed;
@@ -14,22 +17,49 @@ use an_policy::Classes;
 use an_state::{Book, Entry};
 use std::alloc::{AllocError, Global};
 
+/// Takes all memory that the entry needs.
+#[tactic(auto, using(crate::proofs::AddedLemmas::kept_changes))]
+pub(crate) fn take_room(
+    alloc: Global,
+    book: &mut Book,
+    classes: &mut Classes,
+    listed: &mut Listed,
+    changes: &mut Changes,
+    entry: &Entry,
+) -> Result<(), AllocError>
+    requires listing { IsListing book.old.state classes.old listed.old.rows }
+    requires changes { AreChanges book.old.state classes.old changes.old.rows }
+    ensures listing { IsListing book.new.state classes.new listed.new.rows }
+    ensures changes { AreChanges book.new.state classes.new changes.new.rows }
+    ensures state { book.new.state ≡ book.old.state }
+{
+    changes_of(alloc, classes, changes, entry)?;
+    prepare(alloc, book, classes, listed, entry)?;
+    Ok(())
+}
+
 /// Puts the entry's rows and adds its activities, where the entry fits. All memory is taken before.
+#[tactic(auto, using(crate::proofs::AddedLemmas::kept_changes))]
 pub(crate) fn absorb(
     alloc: Global,
     book: &mut Book,
     classes: &mut Classes,
     listed: &mut Listed,
+    changes: &mut Changes,
     entry: &Entry,
 ) -> Result<(), AllocError>
     requires listing { IsListing book.old.state classes.old listed.old.rows }
+    requires changes { AreChanges book.old.state classes.old changes.old.rows }
     ensures listing { IsListing book.new.state classes.new listed.new.rows }
+    ensures changes { AreChanges book.new.state classes.new changes.new.rows }
     ensures ok { OnOk result (book.new.state ≡ state_with book.old.state entry.now) }
     ensures err { OnErr result (book.new.state ≡ book.old.state) }
 {
+    let added = changes_of(alloc, classes, changes, entry)?;
     match prepare(alloc, book, classes, listed, entry)? {
         Some(prepared) => {
             put(book, listed, prepared);
+            add_changes(changes, added);
             Ok(())
         }
         None => Ok(()),

@@ -58,7 +58,7 @@ impl Look for Snapshot {
     }
 
     fn seen_count(&self, who: &Who<'_>) -> usize {
-        self.book().seen_count(who)
+        self.changes_seen(who)
     }
 
     fn seen_slice(
@@ -68,7 +68,7 @@ impl Look for Snapshot {
         start: usize,
         count: usize,
     ) -> Result<Vec<Seen>, AllocError> {
-        self.book().seen_slice(alloc, who, start, count)
+        self.changes_from(alloc, who, start, count)
     }
 
     fn last_change(&self, who: &Who<'_>, owner: Option<&Name>, name: &Name) -> Option<Kind> {

@@ -1,15 +1,16 @@
-ghost use Rattle.std.specs.Prelude.{◌≡◌, IfOk, OnErr, OnOk};
+ghost use Rattle.std.specs.Prelude.{◌≡◌, IfOk, OnErr, OnOk, drop, length, take};
 ghost use Rattle.an_policy.specs.Audience.{identity};
 ghost use Rattle.an_state.specs.Terms.{places_with_term, terms_with_prefix};
-ghost use Rattle.an_state.specs.View.{readable_places};
+ghost use Rattle.an_state.specs.View.{readable_places, seen_by};
 ghost use Rattle.an_snapshot.specs.Absorbed.{absorbed, nothing};
 
-use crate::absorb::absorb;
-use crate::prepare::prepare;
+use crate::absorb::{absorb, take_room};
+use crate::changes::Changes;
+use crate::seen::{count_seen, slice_seen};
 use an_base::{Name, TermTotal};
 use an_listed::Listed;
 use an_policy::{Classes, Who};
-use an_state::{Book, Entry};
+use an_state::{Book, Entry, Seen};
 use std::alloc::{AllocError, Global};
 use std::marker::Model;
 
@@ -20,6 +21,7 @@ pub struct Snapshot {
     book: Book,
     classes: Classes,
     listed: Listed,
+    changes: Changes,
     count: u128,
 }
 
@@ -27,6 +29,7 @@ impl Model for Snapshot {
     ghost use Rattle.std.specs.Coded.{codes};
     ghost use Rattle.an_base.specs.TreeCode.{tree_code};
     ghost use Rattle.an_snapshot.specs.Absorbed.{Absorbed};
+    ghost use Rattle.an_snapshot.specs.Changes.{AreChanges};
     ghost use Rattle.an_snapshot.specs.Listing.{IsListing};
 
     ghost Value = { Absorbed };
@@ -35,7 +38,10 @@ impl Model for Snapshot {
 
     ghost view = { λ s. record { state = s.book.state; count = s.count } };
 
-    ghost invariant = { λ s. IsListing s.book.state s.classes s.listed.rows };
+    ghost invariant = { λ s. record {
+      listing : IsListing s.book.state s.classes s.listed.rows;
+      changes : AreChanges s.book.state s.classes s.changes.rows;
+    } };
 }
 
 impl Snapshot {
@@ -48,6 +54,7 @@ impl Snapshot {
             book: Book::new(alloc),
             classes: Classes::new(alloc),
             listed: Listed::new(alloc),
+            changes: Changes::new(alloc),
             count: 0,
         }
     }
@@ -63,14 +70,14 @@ impl Snapshot {
     pub fn room(&mut self, entry: &Entry) -> Result<(), AllocError>
         ensures same { self.new ≡ self.old }
     {
-        prepare(
+        take_room(
             self.alloc,
             &mut self.book,
             &mut self.classes,
             &mut self.listed,
+            &mut self.changes,
             entry,
-        )?;
-        Ok(())
+        )
     }
 
     /// Applies an entry. One that doesn't fit leaves the state as it is, and is counted. Its only
@@ -85,6 +92,7 @@ impl Snapshot {
             &mut self.book,
             &mut self.classes,
             &mut self.listed,
+            &mut self.changes,
             entry,
         )?;
         self.count = self.count.saturating_add(1);
@@ -138,5 +146,28 @@ impl Snapshot {
     {
         self.listed
             .terms_from(alloc, &self.classes, who, manifest, prefix)
+    }
+
+    /// How many changes the caller sees.
+    pub(crate) fn changes_seen(&self, who: &Who<'_>) -> usize
+        ensures count { result
+            ≡ length (seen_by (identity who.now) self.now.state.activities) }
+    {
+        count_seen(&self.classes, self.changes.as_slice(), who)
+    }
+
+    /// Those of them from `start` on, and at most `count`.
+    pub(crate) fn changes_from(
+        &self,
+        alloc: Global,
+        who: &Who<'_>,
+        start: usize,
+        count: usize,
+    ) -> Result<Vec<Seen>, AllocError>
+        ensures seen { IfOk result (λ seen. seen.items
+            ≡ take count (drop start (seen_by (identity who.now) self.now.state.activities))) }
+    {
+        let changes = self.changes.as_slice();
+        slice_seen(alloc, &self.classes, changes, who, start, count)
     }
 }
