@@ -38,7 +38,8 @@ abbrev pub activities_in : List FiledChange → List Activity
 activities_in changes = map (λ change. change.activity) changes
 
 -- the state's changes are kept in their order, each with its classes
-pub record AreChanges (s : State) (classes : List Audience) (changes : List FiledChange) : Type 0 where
+pub record AreChanges (s : State) (classes : List Audience)
+    (changes : List FiledChange) : Type 0 where
   pub activities : activities_in changes ≡ s.activities
   pub filed : All (IsChangeFiled classes) changes
 
