@@ -27,7 +27,6 @@ use Rattle.an_sqlite.specs.Table.{create_text, no_schema, cell_schema}
 use Rattle.an_sqlite.specs.Written.{written}
 use Rattle.an_sqlite.specs.Base.{HasCells}
 use Rattle.an_sqlite.specs.Cells.{table, shown_cell, ShowsCell}
-use Rattle.an_sqlite.specs.Place.{BeginsWith}
 use Rattle.an_sqlite.specs.Row.{Shows}
 use Rattle.an_sqlite.specs.Tells.{Rises}
 use Rattle.an_sqlite.specs.Tells.{Tells, cells_of}
@@ -103,10 +102,6 @@ makes_again old new (Err e) t h = tt
 makes_again old new (Ok count) t h =
     let same = (runs_as create_text [] old new cell_schema t.schema Nothing create_again_is create_again_plain count h).0 in
     (tells_still old new t same.0.now_is, cells_still old new same.0.now_is)
-
-pub begins_with : (s : State) (cells : List Cell) → BeginsWith s cells → HasCells s false cells
-begins_with s cells (inl h) = inl h
-begins_with s cells (inr h) = inr (refl, h.0, h.1)
 
 -- ---- a statement that fails
 

@@ -1,6 +1,7 @@
 ghost use Rattle.std.specs.Prelude.{◌≡◌};
 
 use crate::keeper::SqlKeeper;
+use crate::opens::HostFiles;
 use an_base::Text;
 use an_keep::{Cell, Change, KeepError, Keeper};
 use sqlite::{File, FileStore};
@@ -10,7 +11,7 @@ use std::rt::HostRuntime;
 /// another thread is shown in `proofs/Crossings.antt`, and whoever sends it cites that.
 #[derive(Drop)]
 pub struct FileKeeper {
-    keeper: SqlKeeper<FileStore<File>>,
+    keeper: SqlKeeper<FileStore<File>, HostFiles>,
 }
 
 impl FileKeeper {
@@ -20,7 +21,7 @@ impl FileKeeper {
         ensures { result.keeper.faults ≡ 0 }
     {
         FileKeeper {
-            keeper: SqlKeeper::at(rt, path),
+            keeper: SqlKeeper::at(HostFiles::new(rt), path),
         }
     }
 }

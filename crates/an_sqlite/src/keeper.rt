@@ -1,57 +1,57 @@
-ghost use Rattle.std.specs.Prelude.{[], ◌≡◌, ◌≤◌, ◌^◌, ◌⊎◌, IfOk, IfSome, IsSome, IsTrue, List, OnErr};
-ghost use Rattle.std.specs.Prelude.{OnOk, Some, false, nat_lt};
+ghost use Rattle.std.specs.Prelude.{[], ◌≡◌, ◌≤◌, ◌^◌, ◌⊎◌, IfOk, IfSome, IsSome, IsTrue, List};
+ghost use Rattle.std.specs.Prelude.{None, OnErr, OnOk, Some, false, nat_lt};
 ghost use Rattle.std.specs.List.{list_all};
 ghost use Rattle.an_base.specs.Faults.{Rises};
 ghost use Rattle.an_keep.specs.Cells.{Ascend, first_of, next_after, put_changes};
 ghost use Rattle.an_keep.specs.Keeper.{Stays, StaysOrBegins, Turns};
 ghost use Rattle.an_keep.specs.declared.cell.Cell.{Cell};
-ghost use Rattle.an_sqlite.specs.Place.{BeginsWith, HoldsCells, IsClean, IsOpen, connection_in};
-ghost use Rattle.an_sqlite.specs.Place.{is_telling, may_tell_in, told_in};
+ghost use Rattle.an_sqlite.specs.Place.{BeginsWith, Comes, HeldBefore, HoldsCells, IsClean, IsOpen};
+ghost use Rattle.an_sqlite.specs.Place.{came_in, connection_in, is_telling, may_tell_in, told_in};
 ghost use Rattle.an_sqlite.specs.Table.{no_schema};
 ghost use Rattle.an_sqlite.specs.Tells.{Tells, cells_of};
 ghost use Rattle.an_sqlite.specs.Told.{is_well};
 ghost use Rattle.sqlite.specs.Held.{state};
 
+use crate::opens::{NoFile, Opens};
 use crate::place::Place;
 use crate::teller::Teller;
 use an_base::Text;
 use an_keep::{Cell, Change, KeepError, Keeper};
-use sqlite::{Alter, Connection, File, FileStore};
-use std::rt::HostRuntime;
+use sqlite::{Alter, Connection};
 
 /// A keeper whose cells stand in the table `cell` of a database, which its first call makes where
 /// it isn't there. It tells its cells where the connection came with no table, no index and no
 /// view, or with exactly that table, whose rowids rise, and with no transaction open, as long as
-/// the disk returns what was written: over a connection from the beginning, and of a file from the
+/// the disk returns what was written: over a connection from the beginning, and of a path from the
 /// first call of `first` on.
 ///
 /// Each refused statement is a failure and counted, but for want of memory; so is a key above
 /// 2^63 - 1 that is to be put or taken, before any statement runs, and a row that is no cell, as a
-/// foreign table may have one. When it is dropped, the log of a file that it opened is copied into
-/// the file.
+/// foreign table may have one. When it is dropped, what it opened is closed by what opened it.
 #[derive(Drop)]
-pub struct SqlKeeper<S: Alter + Drop> {
-    place: Place<S>,
+pub struct SqlKeeper<S: Alter + Drop, O: Opens<Connection<S>>> {
+    place: Place<S, O>,
     faults: u64,
 }
 
-impl SqlKeeper<FileStore<File>> {
-    /// A keeper over the file at this path, which it opens, or makes, at its first call, and again
-    /// at the next where that is refused. Takes no memory.
-    pub fn at(rt: &HostRuntime, path: Text) -> SqlKeeper<FileStore<File>>
-        ensures { result.faults ≡ 0 }
+impl<S: Alter + Drop, O: Opens<Connection<S>>> SqlKeeper<S, O> {
+    /// A keeper over the database at this path, which is opened at its first call, and again at the
+    /// next where that is refused. Takes no memory.
+    pub fn at(opener: O, path: Text) -> SqlKeeper<S, O>
+        ensures faults { result.faults ≡ 0 }
+        ensures closed { came_in result.place ≡ None }
     {
         SqlKeeper {
-            place: Place::Closed(*rt, path),
+            place: Place::Closed(opener, path),
             faults: 0,
         }
     }
 }
 
-impl<S: Alter + Drop> SqlKeeper<S> {
+impl<S: Alter + Drop> SqlKeeper<S, NoFile> {
     /// A keeper over an open connection, of the cells that its table has. Takes no memory.
-    #[tactic(auto, using(crate::proofs::FirstLemmas::begins_with))]
-    pub fn adopt(connection: Connection<S>) -> SqlKeeper<S>
+    #[tactic(auto, using(crate::proofs::PlaceLemmas::begins_with))]
+    pub fn adopt(connection: Connection<S>) -> SqlKeeper<S, NoFile>
         ensures faults { result.faults ≡ 0 }
         ensures held { (cells : List Cell) → BeginsWith (state S.Store connection) cells
             → HoldsCells S.Store result.place cells }
@@ -75,7 +75,9 @@ impl<S: Alter + Drop> SqlKeeper<S> {
             faults: 0,
         }
     }
+}
 
+impl<S: Alter + Drop, O: Opens<Connection<S>>> SqlKeeper<S, O> {
     /// The connection that was adopted, as the last call left it. A keeper over a file of its own
     /// ends as it does where it is dropped, and gives none.
     pub fn into_connection(self) -> Option<Connection<S>>
@@ -123,7 +125,7 @@ fn counted<T>(faults: &mut u64, answer: Result<T, KeepError>) -> Result<T, KeepE
     }
 }
 
-impl<S: Alter + Drop> Keeper for SqlKeeper<S> {
+impl<S: Alter + Drop, O: Opens<Connection<S>>> Keeper for SqlKeeper<S, O> {
     ghost use Rattle.std.specs.Prelude.{false};
     ghost use Rattle.std.proofs.Common.{rules};
     ghost use Rattle.an_sqlite.specs.Place.{told_in};
@@ -139,17 +141,19 @@ impl<S: Alter + Drop> Keeper for SqlKeeper<S> {
 
     /// Does all of these changes, or none. With a key above 2^63 - 1 it fails, and asks nothing of
     /// the database.
+    #[tactic(auto, using(crate::proofs::PlaceLemmas::comes_same))]
     fn commit(&mut self, changes: &[Change]) -> Result<(), KeepError>
         ensures keys { list_all (λ change. nat_lt change.key (2 ^ 63)) changes.now ≡ false
             → (result ≡ Err KeepError.Failed) × (self.new.place ≡ self.old.place) }
+        ensures comes { Comes O.opens self.old.place self.new.place }
         ensures on { IsTrue (is_telling self.old.place) → IsTrue (is_telling self.new.place) }
 
-        // Of a connection that was adopted, where its store is clean behind the call.
+        // Of what it held before, or found as it opened, where the store is clean behind the call.
         ensures held { IsClean S.Store self.new.place → (cells : List Cell)
-            → HoldsCells S.Store self.old.place cells
+            → HeldBefore S.Store self.old.place self.new.place cells
             → OnOk result (HoldsCells S.Store self.new.place (put_changes changes.now cells)) }
         ensures kept { IsClean S.Store self.new.place → IsOpen S.Store self.new.place
-            → (cells : List Cell) → HoldsCells S.Store self.old.place cells
+            → (cells : List Cell) → HeldBefore S.Store self.old.place self.new.place cells
             → OnErr result (HoldsCells S.Store self.new.place cells) }
 
         // What each keeper ensures.
@@ -169,18 +173,19 @@ impl<S: Alter + Drop> Keeper for SqlKeeper<S> {
 
     #[tactic(auto, using(crate::proofs::PlaceLemmas::told_ascend))]
     fn first(&mut self) -> Result<Option<Cell>, KeepError>
+        ensures comes { Comes O.opens self.old.place self.new.place }
         ensures on { IsTrue (is_telling self.old.place) → IsTrue (is_telling self.new.place) }
         ensures begins { OnOk result (is_telling self.new.place ≡ may_tell_in self.new.place) }
 
-        // Of a connection that was adopted, where its store is clean behind the call.
+        // Of what it held before, or found as it opened, where the store is clean behind the call.
         ensures least { IsClean S.Store self.new.place → (cells : List Cell)
-            → HoldsCells S.Store self.old.place cells
+            → HeldBefore S.Store self.old.place self.new.place cells
             → IfOk result (λ cell. cell ≡ first_of cells) }
         ensures held { IsClean S.Store self.new.place → (cells : List Cell)
-            → HoldsCells S.Store self.old.place cells
+            → HeldBefore S.Store self.old.place self.new.place cells
             → OnOk result (HoldsCells S.Store self.new.place cells) }
         ensures kept { IsClean S.Store self.new.place → IsOpen S.Store self.new.place
-            → (cells : List Cell) → HoldsCells S.Store self.old.place cells
+            → (cells : List Cell) → HeldBefore S.Store self.old.place self.new.place cells
             → OnErr result (HoldsCells S.Store self.new.place cells) }
 
         // What each keeper ensures.
@@ -197,17 +202,18 @@ impl<S: Alter + Drop> Keeper for SqlKeeper<S> {
     }
 
     fn next_after(&mut self, tab: u8, key: u64) -> Result<Option<Cell>, KeepError>
+        ensures comes { Comes O.opens self.old.place self.new.place }
         ensures on { IsTrue (is_telling self.old.place) → IsTrue (is_telling self.new.place) }
 
-        // Of a connection that was adopted, where its store is clean behind the call.
+        // Of what it held before, or found as it opened, where the store is clean behind the call.
         ensures next { IsClean S.Store self.new.place → (cells : List Cell)
-            → HoldsCells S.Store self.old.place cells
+            → HeldBefore S.Store self.old.place self.new.place cells
             → IfOk result (λ cell. cell ≡ next_after tab key cells) }
         ensures held { IsClean S.Store self.new.place → (cells : List Cell)
-            → HoldsCells S.Store self.old.place cells
+            → HeldBefore S.Store self.old.place self.new.place cells
             → OnOk result (HoldsCells S.Store self.new.place cells) }
         ensures kept { IsClean S.Store self.new.place → IsOpen S.Store self.new.place
-            → (cells : List Cell) → HoldsCells S.Store self.old.place cells
+            → (cells : List Cell) → HeldBefore S.Store self.old.place self.new.place cells
             → OnErr result (HoldsCells S.Store self.new.place cells) }
 
         // What each keeper ensures.

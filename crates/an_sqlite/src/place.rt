@@ -2,43 +2,35 @@ ghost use Rattle.std.specs.Prelude.{◌≡◌, IfOk, IfSome, IsTrue, List, OnErr
 ghost use Rattle.an_keep.specs.Cells.{first_of, next_after, put_changes};
 ghost use Rattle.an_keep.specs.declared.cell.Cell.{Cell};
 ghost use Rattle.an_keep.specs.Keeper.{Stays, StaysOrBegins, Turns};
-ghost use Rattle.an_sqlite.specs.Place.{HoldsCells, IsClean, IsOpen, KeepsOpen};
+ghost use Rattle.an_sqlite.specs.Place.{Comes, HeldBefore, HoldsCells, IsClean, IsOpen, KeepsOpen};
 ghost use Rattle.an_sqlite.specs.Place.{connection_in, is_telling, may_tell_in, told_in};
 
-use crate::statements::refusal;
+use crate::opens::Opens;
 use crate::teller::Teller;
 use an_base::Text;
 use an_keep::{Cell, Change, KeepError};
-use sqlite::{Alter, Connection, File, FileStore};
-use std::rt::HostRuntime;
+use sqlite::{Alter, Connection};
 
 /// Where the table stands.
-pub(crate) enum Place<S: Alter + Drop> {
-    /// A file that isn't open yet.
-    Closed(HostRuntime, Text),
-    /// A file, and whether its cells are told, which `first` alone begins.
-    File(Teller<FileStore<File>>, bool),
+pub(crate) enum Place<S: Alter + Drop, O: Opens<Connection<S>>> {
+    /// A path that isn't open yet, and what opens it.
+    Closed(O, Text),
+    /// What was opened, and whether its cells are told, which `first` alone begins.
+    File(Teller<S>, bool),
     Adopted(Teller<S>),
 }
 
-impl<S: Alter + Drop> Drop for Place<S> {
-    // A plain drop of a file's connection would leave the last commits in its log.
+impl<S: Alter + Drop, O: Opens<Connection<S>>> Drop for Place<S, O> {
     fn drop(self) {
         match self {
             Place::Closed(_, _) => {}
-            Place::File(teller, _) => close(teller),
+            Place::File(teller, _) => O::close(teller.into_connection()),
             Place::Adopted(_) => {}
         }
     }
 }
 
-/// Copies the log into the database file, and closes both. Where that fails the two hold the cells
-/// together, as they do behind each commit.
-fn close(teller: Teller<FileStore<File>>) {
-    let _ = teller.into_connection().close();
-}
-
-impl<S: Alter + Drop> Place<S> {
+impl<S: Alter + Drop, O: Opens<Connection<S>>> Place<S, O> {
     /// The connection that was adopted.
     pub(crate) fn into_connection(self) -> Option<Connection<S>>
         ensures { result ≡ connection_in self }
@@ -46,19 +38,20 @@ impl<S: Alter + Drop> Place<S> {
         match self {
             Place::Closed(_, _) => None,
             Place::File(teller, _) => {
-                close(teller);
+                O::close(teller.into_connection());
                 None
             }
             Place::Adopted(teller) => Some(teller.into_connection()),
         }
     }
 
-    /// Opens the file, where there is one that isn't open.
+    /// Opens the path, where it isn't open.
     fn open(&mut self) -> Result<(), KeepError>
-        ensures { KeepsOpen S.Store self.old self.new }
+        ensures keeps { KeepsOpen S.Store self.old self.new }
+        ensures comes { Comes O.opens self.old self.new }
     {
         let opened = match self {
-            Place::Closed(rt, path) => Connection::open(rt, path.as_str()),
+            Place::Closed(opener, path) => opener.open(path),
             _ => return Ok(()),
         };
         match opened {
@@ -66,22 +59,24 @@ impl<S: Alter + Drop> Place<S> {
                 *self = Place::File(Teller::new(connection), false);
                 Ok(())
             }
-            Err(error) => Err(refusal(error)),
+            Err(error) => Err(error),
         }
     }
 
-    #[tactic(auto, using(crate::proofs::PlaceLemmas::same_told, crate::proofs::PlaceLemmas::goes_telling, crate::proofs::PlaceLemmas::turns_while, crate::proofs::PlaceLemmas::stays_while))]
+    #[tactic(auto, using(crate::proofs::PlaceLemmas::calls))]
     pub(crate) fn commit(&mut self, changes: &[Change]) -> Result<(), KeepError>
+        ensures comes { Comes O.opens self.old self.new }
         ensures on { IsTrue (is_telling self.old) → IsTrue (is_telling self.new) }
         ensures turns { OnOk result (Turns (put_changes changes.now)
             (told_in S.Store self.old) (told_in S.Store self.new)) }
         ensures stays { OnErr result (Stays (told_in S.Store self.old)
             (told_in S.Store self.new)) }
         ensures done { IsClean S.Store self.new → (cells : List Cell)
-            → HoldsCells S.Store self.old cells
+            → HeldBefore S.Store self.old self.new cells
             → OnOk result (HoldsCells S.Store self.new (put_changes changes.now cells)) }
         ensures still { IsClean S.Store self.new → IsOpen S.Store self.new → (cells : List Cell)
-            → HoldsCells S.Store self.old cells → OnErr result (HoldsCells S.Store self.new cells) }
+            → HeldBefore S.Store self.old self.new cells
+            → OnErr result (HoldsCells S.Store self.new cells) }
     {
         self.open()?;
         match self {
@@ -91,19 +86,23 @@ impl<S: Alter + Drop> Place<S> {
         }
     }
 
-    #[tactic(auto, using(crate::proofs::PlaceLemmas::same_told, crate::proofs::PlaceLemmas::goes_telling, crate::proofs::PlaceLemmas::begins_while))]
+    #[tactic(auto, using(crate::proofs::PlaceLemmas::calls))]
     pub(crate) fn first(&mut self) -> Result<Option<Cell>, KeepError>
+        ensures comes { Comes O.opens self.old self.new }
         ensures on { IsTrue (is_telling self.old) → IsTrue (is_telling self.new) }
         ensures begins { OnOk result (is_telling self.new ≡ may_tell_in self.new) }
         ensures gives { IfOk result (λ cell. IfSome (told_in S.Store self.new)
             (λ cells. cell ≡ first_of cells)) }
         ensures told { StaysOrBegins (told_in S.Store self.old) (told_in S.Store self.new) }
         ensures cell { IsClean S.Store self.new → (cells : List Cell)
-            → HoldsCells S.Store self.old cells → IfOk result (λ cell. cell ≡ first_of cells) }
+            → HeldBefore S.Store self.old self.new cells
+            → IfOk result (λ cell. cell ≡ first_of cells) }
         ensures stays { IsClean S.Store self.new → (cells : List Cell)
-            → HoldsCells S.Store self.old cells → OnOk result (HoldsCells S.Store self.new cells) }
+            → HeldBefore S.Store self.old self.new cells
+            → OnOk result (HoldsCells S.Store self.new cells) }
         ensures still { IsClean S.Store self.new → IsOpen S.Store self.new → (cells : List Cell)
-            → HoldsCells S.Store self.old cells → OnErr result (HoldsCells S.Store self.new cells) }
+            → HeldBefore S.Store self.old self.new cells
+            → OnErr result (HoldsCells S.Store self.new cells) }
     {
         self.open()?;
         match self {
@@ -116,19 +115,22 @@ impl<S: Alter + Drop> Place<S> {
         }
     }
 
-    #[tactic(auto, using(crate::proofs::PlaceLemmas::same_told, crate::proofs::PlaceLemmas::goes_telling, crate::proofs::PlaceLemmas::stays_while, crate::proofs::PlaceLemmas::gives_while))]
+    #[tactic(auto, using(crate::proofs::PlaceLemmas::calls))]
     pub(crate) fn next_after(&mut self, tab: u8, key: u64) -> Result<Option<Cell>, KeepError>
+        ensures comes { Comes O.opens self.old self.new }
         ensures on { IsTrue (is_telling self.old) → IsTrue (is_telling self.new) }
         ensures gives { IfOk result (λ cell. IfSome (told_in S.Store self.new)
             (λ cells. cell ≡ next_after tab key cells)) }
         ensures told { Stays (told_in S.Store self.old) (told_in S.Store self.new) }
         ensures cell { IsClean S.Store self.new → (cells : List Cell)
-            → HoldsCells S.Store self.old cells
+            → HeldBefore S.Store self.old self.new cells
             → IfOk result (λ cell. cell ≡ next_after tab key cells) }
         ensures stays { IsClean S.Store self.new → (cells : List Cell)
-            → HoldsCells S.Store self.old cells → OnOk result (HoldsCells S.Store self.new cells) }
+            → HeldBefore S.Store self.old self.new cells
+            → OnOk result (HoldsCells S.Store self.new cells) }
         ensures still { IsClean S.Store self.new → IsOpen S.Store self.new → (cells : List Cell)
-            → HoldsCells S.Store self.old cells → OnErr result (HoldsCells S.Store self.new cells) }
+            → HeldBefore S.Store self.old self.new cells
+            → OnErr result (HoldsCells S.Store self.new cells) }
     {
         self.open()?;
         match self {

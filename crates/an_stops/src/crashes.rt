@@ -2,7 +2,7 @@
 use crate::disks::{Crashes, Disk, Disks, close, crashed, new_disks, open};
 use crate::sending::{accepted, cells, states};
 use an_keep::Keeper;
-use an_sqlite::SqlKeeper;
+use an_sqlite::{NoFile, SqlKeeper};
 use sqlite::FileStore;
 use std::alloc::{AllocError, Global};
 
@@ -131,7 +131,7 @@ fn write(alloc: Global, disks: Disks, lines: &str) -> Result<Written, AllocError
 
 fn write_over(
     alloc: Global,
-    keeper: SqlKeeper<FileStore<Disk>>,
+    keeper: SqlKeeper<FileStore<Disk>, NoFile>,
     lines: &str,
 ) -> Result<Written, AllocError> {
     let mut keeper = keeper;

@@ -4,14 +4,14 @@ use an_base::Bytes;
 use an_keep::{Cell, KeepError, Keeper, MemKeeper};
 use an_lines::import;
 use an_shelf::Desk;
-use an_sqlite::SqlKeeper;
+use an_sqlite::{NoFile, SqlKeeper};
 use an_world::MemLink;
 use sqlite::{Connection, MemStore};
 use std::alloc::{AllocError, Global};
 use std::str::from_utf8;
 
 /// A keeper over a connection in memory.
-pub type MemSqlKeeper = SqlKeeper<MemStore>;
+pub type MemSqlKeeper = SqlKeeper<MemStore, NoFile>;
 
 /// How many bytes an import prints at most.
 const PRINTED: usize = 1_000;

@@ -3,7 +3,7 @@ use Rattle.sqlite.specs.Held.{state}
 use Rattle.an_keep.specs.Keeper.{Told}
 use Rattle.an_sqlite.proofs.FoundLemmas.{tells_none, tells_table, told_of, told_settled}
 use Rattle.an_sqlite.proofs.ToldLemmas.{told_first}
-use Rattle.an_sqlite.proofs.keeper.SqlKeeper.adopt.Goals as goal
+use Rattle.an_sqlite.proofs.keeper.SqlKeeper+S+NoFile.adopt.Goals as goal
 
 pub returns-clause-tells : goal.returns-clause-tells
 returns-clause-tells g c none settled well =
