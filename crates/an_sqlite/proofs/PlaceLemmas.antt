@@ -1,5 +1,5 @@
 -- What a place tells and holds while it is opened.
-use Rattle.std.proofs.Common.{◌≡◌, ◌&&◌, Bool, true, false, refl, inl, inr, sym, subst, List, Option, Some, Result, Ok, Err, IfOk, IfSome, IsTrue, OnOk, ap, ◌∙◌}
+use Rattle.std.proofs.Common.{◌≡◌, ◌&&◌, Bool, true, false, refl, inl, inr, sym, subst, List, Option, Result, Ok, Err, IfOk, IfSome, IsTrue, OnOk, ap, ◌∙◌}
 use Rattle.std.proofs.lemmas.Bool.{and_parts}
 use Rattle.sqlite_trees.specs.declared.store.Store.{Ghosts}
 use Rattle.sqlite.specs.Held.{Held, state}
