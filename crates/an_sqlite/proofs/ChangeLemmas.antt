@@ -95,6 +95,11 @@ turns_more first rest a b c p q = record { tells = q.tells; cells = q.cells ∙ 
 pub keeps_itself : (s : State) → KeepsCommit s s
 keeps_itself s = record { was_open = λ is. is; committed = λ _. refl }
 
+-- what one change needs, and what all of them do
+pub ruleset change = (change_put, change_take)
+
+pub ruleset changes = (turns_none, turns_more, keeps_then, keeps_itself)
+
 -- ---- a commit
 
 module _ {S : Type 0} (g : Ghosts S) where

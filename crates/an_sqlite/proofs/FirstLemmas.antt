@@ -1,5 +1,5 @@
 -- Which cell the first row shows, and what making the table does.
-use Rattle.std.proofs.Common.{◌≡◌, Bool, true, IsTrue, true≢false, inl, inr, ℕ, pos, List, [], Option, None, Some, Ok, Err, Result, IfOk, OnErr, OnOk, false, refl, sym, ap, subst, ◌∙◌}
+use Rattle.std.proofs.Common.{◌≡◌, ◌⊎◌, Bool, true, IsTrue, true≢false, inl, inr, ℕ, pos, List, [], Option, None, Some, Ok, Err, Result, IfOk, OnErr, OnOk, false, refl, sym, ap, subst, ◌∙◌}
 use Rattle.sqlite_schema.specs.declared.schema.Table.{Table}
 use Rattle.sqlite_schema.specs.declared.command.Command.TheVariants.{CreateTable, Nothing}
 use Rattle.sqlite_schema.specs.Rules.{Obeys}
@@ -35,6 +35,7 @@ use Rattle.an_sqlite.proofs.WriteLemmas.{went, same_value}
 use Rattle.an_sqlite.proofs.LeastLemmas.{finds_first}
 use Rattle.an_sqlite.proofs.NoneLemmas.{finds_nothing, first_nothing, first_unchanged}
 use Rattle.an_sqlite.proofs.ChangeLemmas.{cells_in, begins}
+use Rattle.an_sqlite.proofs.OpenLemmas.{executed}
 use Rattle.an_sqlite.proofs.TableLemmas.{first_cell}
 
 pub first_shows : (old new : State) (r : Result Row Error) → Tells old → QueriesRow first_text [] old new r → IfOk r (ShowsCell (first_of (cells_of old)))
@@ -133,6 +134,24 @@ unfolding QueriesRow
 first_failed old new e settled t (inl h) is_open = keeps_refused first_text [] old new e settled h is_open
 first_failed old new e settled t (inr h) is_open = (first_unchanged [] old new [] t.schema h.1).0.now_is
 
+-- it leaves no transaction open
+settles_failed : (sql : List ℕ) (params : Row) (old new : State) (e : Error) → Executes sql params old new (Err e) → old.in_transaction ≡ false → new.in_transaction ≡ false
+unfolding ExecutesIn IsNotRun
+settles_failed sql params old new e (inl (inl h)) settled = h.1.0.mode ∙ settled
+settles_failed sql params old new e (inl (inr h)) settled = h.3.autocommit
+settles_failed sql params old new e (inr h) settled = elim (cases_Bool (shows_rows false h.0)) [
+  | inl shows ↦ (rw shows at h.2).1.0.mode ∙ settled
+  | inr runs ↦ elim (rw runs at h.2) [ inl u ↦ u.1.0.mode ∙ settled | inr f ↦ f.3.autocommit ]
+]
+
+pub settles : (old new : State) (r : Result ℕ Error) → (old.now.schema ≡ no_schema) ⊎ Tells old → Executes create_text [] old new r → old.in_transaction ≡ false → new.in_transaction ≡ false
+settles old new (Err e) came h settled = settles_failed create_text [] old new e h settled
+settles old new (Ok count) (inl none) h settled = (runs_as create_text [] old new no_schema none CreateTable create_is create_plain count h).shown.mode ∙ settled
+settles old new (Ok count) (inr t) h settled = (runs_as create_text [] old new cell_schema t.schema Nothing create_again_is create_again_plain count h).0.0.mode ∙ settled
+
+-- what making the table needs
+pub ruleset making = (keeps_failed, executed)
+
 -- ---- one call behind the other
 
 -- what making the table leaves
@@ -148,6 +167,9 @@ made_before old new cells (inr h) is = absurd (true≢false h.0)
 pub still_holds : (old new : State) (is_made : Bool) (cells : List Cell) → HasCells old is_made cells → new.now ≡ old.now → HasCells new is_made cells
 still_holds old new is_made cells (inl h) is = inl (tells_still old new h.0 is, cells_still old new is ∙ h.1)
 still_holds old new is_made cells (inr h) is = inr (h.0, ap (λ (d : Database). d.schema) is ∙ h.1, h.2)
+
+-- what a base needs that makes it
+pub ruleset made = (made_cells, made_before, still_holds)
 
 pub commits : (mid new : State) (is_made : Bool) (changes : List Change) (cells : List Cell) → Tells mid × (cells_of mid ≡ cells)
     → (Tells mid → Tells new × (cells_of new ≡ put_changes changes (cells_of mid))) → HasCells new is_made (put_changes changes cells)

@@ -84,6 +84,10 @@ rise_from (row ∷ rows) rises =
 
 -- ---- a connection that comes
 
+pub told_true : (b : Bool) (all : List Cell) → IsSome (told_if b all) → b ≡ true
+told_true true all some = refl
+told_true false all some = absurd cc
+
 module _ (s : State) where
   pub blank_cells : s.now.schema ≡ no_schema → cells_in s ≡ []
   blank_cells is = rw (schemas_same s.now.schema no_schema is) refl
@@ -101,7 +105,7 @@ module _ (s : State) where
       and_from (not s.in_transaction) _ (not_from_false s.in_transaction settled)
       (or_right (same_schema s.now.schema no_schema) _ (and_from _ _ (schemas_same s.now.schema cell_schema tells.schema) (rise_from (s.now.trees 0) tells.rises)))
 
-  settled_from : may_tell s ≡ true → s.in_transaction ≡ false
+  pub settled_from : may_tell s ≡ true → s.in_transaction ≡ false
   unfolding may_tell
   settled_from may = elim (cases_Bool s.in_transaction) [
     | inl inside ↦ absurd (true≢false (sym (and_parts (not s.in_transaction) _ may).0 ∙ ap not inside))
@@ -125,12 +129,8 @@ module _ (s : State) where
   pub tells_table : Tells s → s.in_transaction ≡ false → IsTrue (is_well s) → told_if (may_tell s && is_well s) (cells_in s) ≡ Some (cells_of s)
   tells_table tells settled well = told_is (may_tell_table tells settled) well (cells_of s) (table_cells tells)
 
-  both_from : (b : Bool) (all : List Cell) → IsSome (told_if b all) → b ≡ true
-  both_from true all some = refl
-  both_from false all some = absurd cc
-
   both_parts : IsSome (told_if (may_tell s && is_well s) (cells_in s)) → (may_tell s ≡ true) × (is_well s ≡ true)
-  both_parts some = and_parts (may_tell s) (is_well s) (both_from (may_tell s && is_well s) (cells_in s) some)
+  both_parts some = and_parts (may_tell s) (is_well s) (told_true (may_tell s && is_well s) (cells_in s) some)
 
   pub told_of : IsLive s → IsSome (told_if (may_tell s && is_well s) (cells_in s)) → (s.now.schema ≡ no_schema) ⊎ Tells s
   told_of live some = let both = both_parts some in found_from (λ is_open. (live is_open).0) (and_parts _ s.is_open both.1).1 both.0

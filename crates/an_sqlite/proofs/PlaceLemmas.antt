@@ -1,5 +1,5 @@
 -- What a place tells and holds while it is opened.
-use Rattle.std.proofs.Common.{◌≡◌, ◌&&◌, Bool, true, false, refl, inl, inr, sym, subst, List, Option, Result, Ok, Err, IfOk, IfSome, IsTrue, OnOk, ap, ◌∙◌}
+use Rattle.std.proofs.Common.{◌≡◌, ◌&&◌, Bool, true, false, refl, inl, inr, sym, subst, List, Option, Result, Ok, Err, IfOk, IfSome, IsSome, IsTrue, OnOk, ap, ◌∙◌}
 use Rattle.std.proofs.lemmas.Bool.{and_parts}
 use Rattle.sqlite_trees.specs.declared.store.Store.{Ghosts}
 use Rattle.sqlite.specs.Held.{Held, state}
@@ -12,9 +12,9 @@ use Rattle.an_sqlite.specs.declared.place.Place.{Place}
 use Rattle.an_sqlite.specs.declared.place.Place.TheVariants.{Adopted, Closed, File}
 use Rattle.an_sqlite.specs.Base.{HasCells, Lists}
 use Rattle.an_sqlite.specs.Found.{may_tell}
-use Rattle.an_sqlite.specs.Place.{BeginsWith, Comes, HeldBefore, HoldsCells, KeepsOpen, came_in, is_telling, told_in, told_while}
+use Rattle.an_sqlite.specs.Place.{BeginsWith, Comes, HeldBefore, HoldsCells, IsSettled, KeepsOpen, came_in, is_telling, told_in, told_while}
 use Rattle.an_sqlite.specs.Told.{told_by}
-use Rattle.an_sqlite.proofs.ToldLemmas.{never_begins, told_ascends}
+use Rattle.an_sqlite.proofs.ToldLemmas.{never_begins, settled_by, told_ascends, untold}
 
 pub begins_with : (s : State) (cells : List Cell) → BeginsWith s cells → HasCells s false cells
 begins_with s cells (inl h) = inl h
@@ -78,6 +78,18 @@ module _ {S O : Type 0} (g : Ghosts S) where
   told_ascend (File teller true) = told_ascends g teller.came.value teller.base
   told_ascend (File teller false) = tt
   told_ascend (Closed opener path) = tt
+
+  -- where the cells are told no transaction is open
+  pub settled_in : (place : Place S O g) → IsSome (told_in g place) → IsSettled g place
+  settled_in (Adopted teller) some = settled_by g teller.came.value teller.base teller.known some
+  settled_in (File teller true) some = settled_by g teller.came.value teller.base teller.known some
+  settled_in (File teller false) some = absurd (untold some)
+  settled_in (Closed opener path) some = absurd (untold some)
+
+-- what the keeper needs of a place whose cells it tells
+pub ruleset telling = (told_ascend, settled_in)
+
+pub ruleset committing = (comes_same, settled_in)
 
 -- ---- a file whose cells are told, or aren't yet
 

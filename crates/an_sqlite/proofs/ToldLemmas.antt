@@ -1,6 +1,6 @@
 -- What a keeper tells before a call and behind it.
-use Rattle.std.proofs.Common.{◌≡◌, ◌==◌, ◌&&◌, inl, inr, Bool, true, false, cond, List, [], Option, Some, None, Result, Ok, Err, IfOk, IfSome, OnOk, OnErr, IsTrue, refl, sym, ap, subst, ◌∙◌, arith, true≢false}
-use Rattle.std.specs.Coded.{coded_list, coded_option}
+use Rattle.std.proofs.Common.{◌≡◌, ◌⊎◌, ◌==◌, ◌&&◌, inl, inr, Bool, true, false, cond, List, [], Option, Some, None, Result, Ok, Err, IfOk, IfSome, IsSome, OnOk, OnErr, IsTrue, refl, sym, ap, subst, ◌∙◌, arith, true≢false}
+use Rattle.std.specs.Coded.{coded_bool, coded_list, coded_option}
 use Rattle.std.proofs.Math.Logic.{∥∥₁_elim, ∥∥₁_map}
 use Rattle.std.proofs.lemmas.Bool.{and_parts, and_from}
 use Rattle.std.proofs.lemmas.Bool.Decides.{nat_tests}
@@ -17,10 +17,10 @@ use Rattle.an_sqlite.specs.declared.base.Base.{Base}
 use Rattle.an_sqlite.specs.Base.{Lists}
 use Rattle.an_sqlite.specs.Found.{may_tell, same_schema}
 use Rattle.an_sqlite.specs.Table.{no_schema}
-use Rattle.an_sqlite.specs.Tells.{cells_of}
+use Rattle.an_sqlite.specs.Tells.{Tells, cells_of}
 use Rattle.an_sqlite.specs.Told.{GoesOn, cells_in, is_well, told_if, told_by}
 use Rattle.an_sqlite.proofs.AheadLemmas.{cells_ascend}
-use Rattle.an_sqlite.proofs.FoundLemmas.{blank_cells, found_from, table_cells}
+use Rattle.an_sqlite.proofs.FoundLemmas.{blank_cells, found_from, settled_from, table_cells, told_true}
 
 -- ---- two cells of knowledge
 
@@ -38,6 +38,9 @@ pub never_begins : (old new : Told) → Stays old new → StaysOrBegins old new
 never_begins None new stays = tt
 never_begins (Some cells) new stays = stays
 
+pub untold : IsSome (told_if false []) → ⊥
+untold some = true≢false (sym (told_true false [] some))
+
 clean_parts : (s : State) → is_well s ≡ true → HasCleanDisk s × IsTrue s.is_open
 clean_parts s well = let parts = and_parts (doubt s.is_clean == 0) s.is_open well in (grind (arith, nat_tests), parts.1)
 
@@ -46,7 +49,7 @@ clean_from s clean is_open = and_from (doubt s.is_clean == 0) s.is_open (grind (
 
 module _ {S : Type 0} (g : Ghosts S) where
   abbrev Knows : Base S → Type 0
-  Knows base = IsTrue (is_well (state g base.conn)) → ∥ Lists g base (cells_in (state g base.conn)) ∥₁
+  Knows base = IsTrue (is_well (state g base.conn)) → ∥ Lists g base (cells_in (state g base.conn)) × ((state g base.conn).in_transaction ≡ false) ∥₁
 
   abbrev may : Held S → Bool
   may came = may_tell (state g came)
@@ -61,6 +64,11 @@ module _ {S : Type 0} (g : Ghosts S) where
   held_cells : (base : Base S) (held : List Cell) → Lists g base held → cells base ≡ held
   held_cells base held (inl has, next) = table_cells (state g base.conn) has.0 ∙ has.1
   held_cells base held (inr none, next) = blank_cells (state g base.conn) none.1 ∙ sym none.2
+
+  -- it has the table of cells, or no table yet
+  has_table : (base : Base S) (held : List Cell) → Lists g base held → ((state g base.conn).now.schema ≡ no_schema) ⊎ Tells (state g base.conn)
+  has_table base held (inl has, next) = inr has.0
+  has_table base held (inr none, next) = inl none.1
 
   ascends : (base : Base S) → Ascend (cells base)
   ascends base = by (same_schema (state g base.conn).now.schema no_schema)
@@ -91,12 +99,14 @@ module _ {S : Type 0} (g : Ghosts S) where
       knows_changed : Knows new
       knows_changed is =
           let parts = clean_parts (state g new.conn) is in
-          ∥∥₁_map (known (well_before is)) (λ holds. let now = does parts.0 parts.1 (cells old) holds in subst (Lists g new) (sym (held_cells new _ now)) now)
+          ∥∥₁_map (known (well_before is)) (λ both.
+          let now = does parts.0 parts.1 (cells old) both.0 in
+          (subst (Lists g new) (sym (held_cells new _ now)) now, goes.settled parts.0 (has_table old (cells old) both.0) both.1))
 
       changed_in : well new ≡ true → cells new ≡ change (cells old)
       changed_in is =
           let parts = clean_parts (state g new.conn) is in
-          ∥∥₁_elim (known (well_before is)) (Coded-set (coded_list the_row.coded) _ _) (λ holds. held_cells new _ (does parts.0 parts.1 (cells old) holds))
+          ∥∥₁_elim (known (well_before is)) (Coded-set (coded_list the_row.coded) _ _) (λ both. held_cells new _ (does parts.0 parts.1 (cells old) both.0))
 
   -- ---- a commit
 
@@ -154,7 +164,7 @@ module _ {S : Type 0} (g : Ghosts S) where
           let clean = (clean_parts (state g new.conn) parts.1).0 in
           let held = known parts.0 (well_before old new goes parts.1) in
           let same = changed_in old new goes (λ held. held) (known parts.0) (λ clean is_open. leaves clean) parts.1 in
-          let found : cell ≡ f (cells old) = ∥∥₁_elim held (Coded-set (coded_option the_row.coded) _ _) (λ holds. gives clean (cells old) holds) in
+          let found : cell ≡ f (cells old) = ∥∥₁_elim held (Coded-set (coded_option the_row.coded) _ _) (λ both. gives clean (cells old) both.0) in
           found ∙ ap f (sym same)
       by false both = tt
 
@@ -164,11 +174,20 @@ module _ {S : Type 0} (g : Ghosts S) where
       → told_by g came base ≡ told_if (may_tell (state g conn) && is_well (state g conn)) (cells_in (state g conn))
   told_first came conn base same is = rw (same, is) refl
 
-  -- what is told of a connection that comes is what it holds
+  -- what is told of a connection that comes is what it holds, and it has no transaction open
   pub knows_found : (base : Base S) → base.is_made ≡ false → base.ahead ≡ None → IsLive (state g base.conn) → IsTrue (may_tell (state g base.conn)) → Knows base
   knows_found base not_made none live is goes =
       let parts = clean_parts (state g base.conn) goes in
+      let settled = settled_from (state g base.conn) is in
       elim (found_from (state g base.conn) (λ is_open. (live is_open).0) parts.1 is) [
-        | inl blank ↦ ∣ (inr (not_made, blank, blank_cells (state g base.conn) blank), rw none tt) ∣₁
-        | inr tells ↦ ∣ (inl (tells, sym (table_cells (state g base.conn) tells)), rw none tt) ∣₁
+        | inl blank ↦ ∣ ((inr (not_made, blank, blank_cells (state g base.conn) blank), rw none tt), settled) ∣₁
+        | inr tells ↦ ∣ ((inl (tells, sym (table_cells (state g base.conn) tells)), rw none tt), settled) ∣₁
       ]
+
+  -- ---- between calls
+
+  -- where the cells are told no transaction is open
+  pub settled_by : (came : Held S) (base : Base S) → (IsTrue (may came) → Knows base) → IsSome (told_by g came base) → (state g base.conn).in_transaction ≡ false
+  settled_by came base known some =
+      let parts = and_parts (may came) (well base) (told_true (may came && well base) (cells base) some) in
+      ∥∥₁_elim (known parts.0 parts.1) (Coded-set coded_bool _ _) (λ both. both.1)

@@ -31,6 +31,12 @@ IsOpen g (Adopted teller) = IsTrue (state g teller.base.conn).is_open
 IsOpen g (File teller tells) = IsTrue (state g teller.base.conn).is_open
 IsOpen _ _ = ⊥
 
+-- no transaction is open
+abbrev pub IsSettled : {S O : Type 0} → (g : Ghosts S) → Place S O g → Type 0
+IsSettled g (Adopted teller) = (state g teller.base.conn).in_transaction ≡ false
+IsSettled g (File teller tells) = (state g teller.base.conn).in_transaction ≡ false
+IsSettled _ _ = ⊥
+
 -- the connection that was adopted
 abbrev pub connection_in : {S O : Type 0} {g : Ghosts S} → Place S O g → Option (Held S)
 connection_in (Adopted teller) = Some teller.base.conn

@@ -53,7 +53,7 @@ impl<S: Alter + Drop> Base<S> {
     }
 
     /// Makes the table, where this base hasn't yet.
-    #[tactic(auto, using(crate::proofs::FirstLemmas::made_cells, crate::proofs::FirstLemmas::made_before, crate::proofs::FirstLemmas::still_holds))]
+    #[tactic(auto, using(crate::proofs::FirstLemmas::made))]
     fn make(&mut self) -> Result<(), KeepError>
         ensures ahead { self.new.ahead ≡ self.old.ahead }
         ensures made { HasCleanDisk (state S.Store self.new.conn)
@@ -160,6 +160,8 @@ impl<S: Alter + Drop> Base<S> {
             → IsTrue (state S.Store self.old.conn).is_open }
         ensures clean { doubt (state S.Store self.old.conn).is_clean
             ≤ doubt (state S.Store self.new.conn).is_clean }
+        ensures settled { (state S.Store self.old.conn).in_transaction ≡ false
+            → (state S.Store self.new.conn).in_transaction ≡ false }
     {
         if let Some(cell) = self.next_ahead(tab, key)? {
             return Ok(Some(cell));
@@ -209,6 +211,8 @@ impl<S: Alter + Drop> Base<S> {
             → IsTrue (state S.Store self.old.conn).is_open }
         ensures clean { doubt (state S.Store self.old.conn).is_clean
             ≤ doubt (state S.Store self.new.conn).is_clean }
+        ensures settled { (state S.Store self.old.conn).in_transaction ≡ false
+            → (state S.Store self.new.conn).in_transaction ≡ false }
     {
         // The rows before these make room for them.
         drop(self.ahead.take());
@@ -232,6 +236,8 @@ fn rows_behind<S: Alter>(conn: &mut Connection<S>, tab: u8, key: u64) -> Result<
         → IsTrue (state S.Store conn.old).is_open }
     ensures clean { doubt (state S.Store conn.old).is_clean
         ≤ doubt (state S.Store conn.new).is_clean }
+    ensures settled { (state S.Store conn.old).in_transaction ≡ false
+        → (state S.Store conn.new).in_transaction ≡ false }
 {
     let rows = statements::later_in(conn, tab, key)?;
     if rows.is_empty() {

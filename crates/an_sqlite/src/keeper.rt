@@ -6,7 +6,8 @@ ghost use Rattle.an_keep.specs.Cells.{Ascend, first_of, next_after, put_changes}
 ghost use Rattle.an_keep.specs.Keeper.{Stays, StaysOrBegins, Turns};
 ghost use Rattle.an_keep.specs.declared.cell.Cell.{Cell};
 ghost use Rattle.an_sqlite.specs.Place.{BeginsWith, Comes, HeldBefore, HoldsCells, IsClean, IsOpen};
-ghost use Rattle.an_sqlite.specs.Place.{came_in, connection_in, is_telling, may_tell_in, told_in};
+ghost use Rattle.an_sqlite.specs.Place.{IsSettled, came_in, connection_in, is_telling};
+ghost use Rattle.an_sqlite.specs.Place.{may_tell_in, told_in};
 ghost use Rattle.an_sqlite.specs.Table.{no_schema};
 ghost use Rattle.an_sqlite.specs.Tells.{Tells, cells_of};
 ghost use Rattle.an_sqlite.specs.Told.{is_well};
@@ -141,7 +142,7 @@ impl<S: Alter + Drop, O: Opens<Connection<S>>> Keeper for SqlKeeper<S, O> {
 
     /// Does all of these changes, or none. With a key above 2^63 - 1 it fails, and asks nothing of
     /// the database.
-    #[tactic(auto, using(crate::proofs::PlaceLemmas::comes_same))]
+    #[tactic(auto, using(crate::proofs::PlaceLemmas::committing))]
     fn commit(&mut self, changes: &[Change]) -> Result<(), KeepError>
         ensures keys { list_all (λ change. nat_lt change.key (2 ^ 63)) changes.now ≡ false
             → (result ≡ Err KeepError.Failed) × (self.new.place ≡ self.old.place) }
@@ -155,6 +156,10 @@ impl<S: Alter + Drop, O: Opens<Connection<S>>> Keeper for SqlKeeper<S, O> {
         ensures kept { IsClean S.Store self.new.place → IsOpen S.Store self.new.place
             → (cells : List Cell) → HeldBefore S.Store self.old.place self.new.place cells
             → OnErr result (HoldsCells S.Store self.new.place cells) }
+
+        // No transaction is open where its cells are told.
+        ensures settled { IsSome (told_in S.Store self.new.place)
+            → IsSettled S.Store self.new.place }
 
         // What each keeper ensures.
         ensures done { OnOk result (Turns (put_changes changes.now)
@@ -171,7 +176,7 @@ impl<S: Alter + Drop, O: Opens<Connection<S>>> Keeper for SqlKeeper<S, O> {
         counted(&mut self.faults, done)
     }
 
-    #[tactic(auto, using(crate::proofs::PlaceLemmas::told_ascend))]
+    #[tactic(auto, using(crate::proofs::PlaceLemmas::telling))]
     fn first(&mut self) -> Result<Option<Cell>, KeepError>
         ensures comes { Comes O.opens self.old.place self.new.place }
         ensures on { IsTrue (is_telling self.old.place) → IsTrue (is_telling self.new.place) }
@@ -188,6 +193,10 @@ impl<S: Alter + Drop, O: Opens<Connection<S>>> Keeper for SqlKeeper<S, O> {
             → (cells : List Cell) → HeldBefore S.Store self.old.place self.new.place cells
             → OnErr result (HoldsCells S.Store self.new.place cells) }
 
+        // No transaction is open where its cells are told.
+        ensures settled { IsSome (told_in S.Store self.new.place)
+            → IsSettled S.Store self.new.place }
+
         // What each keeper ensures.
         ensures cell { IfOk result (λ cell. IfSome (told_in S.Store self.new.place)
             (λ cells. cell ≡ first_of cells)) }
@@ -201,6 +210,7 @@ impl<S: Alter + Drop, O: Opens<Connection<S>>> Keeper for SqlKeeper<S, O> {
         counted(&mut self.faults, answer)
     }
 
+    #[tactic(auto, using(crate::proofs::PlaceLemmas::settled_in))]
     fn next_after(&mut self, tab: u8, key: u64) -> Result<Option<Cell>, KeepError>
         ensures comes { Comes O.opens self.old.place self.new.place }
         ensures on { IsTrue (is_telling self.old.place) → IsTrue (is_telling self.new.place) }
@@ -215,6 +225,10 @@ impl<S: Alter + Drop, O: Opens<Connection<S>>> Keeper for SqlKeeper<S, O> {
         ensures kept { IsClean S.Store self.new.place → IsOpen S.Store self.new.place
             → (cells : List Cell) → HeldBefore S.Store self.old.place self.new.place cells
             → OnErr result (HoldsCells S.Store self.new.place cells) }
+
+        // No transaction is open where its cells are told.
+        ensures settled { IsSome (told_in S.Store self.new.place)
+            → IsSettled S.Store self.new.place }
 
         // What each keeper ensures.
         ensures cell { IfOk result (λ cell. IfSome (told_in S.Store self.new.place)

@@ -1,5 +1,5 @@
-ghost use Rattle.std.specs.Prelude.{[], ◌∷◌, ◌≡◌, ◌≤◌, ◌↔◌, ◌-◌, ◌^◌, min, pos, IfErr, IfOk};
-ghost use Rattle.std.specs.Prelude.{IsTrue, OnErr, OnOk, false};
+ghost use Rattle.std.specs.Prelude.{[], ◌∷◌, ◌≡◌, ◌≤◌, ◌↔◌, ◌⊎◌, ◌-◌, ◌^◌, min, pos, IfErr};
+ghost use Rattle.std.specs.Prelude.{IfOk, IsTrue, OnErr, OnOk, false};
 ghost use Rattle.an_keep.specs.Cells.{first_of, put_change, put_changes};
 ghost use Rattle.an_sqlite.specs.Cells.{ShowsIf};
 ghost use Rattle.an_sqlite.specs.Later.{ShowsFirst, in_later_text, is_in_later, is_later_in};
@@ -35,7 +35,7 @@ ORDER BY tab, key LIMIT 100";
 const IN_LATER: &str = "SELECT tab, key, val FROM cell WHERE tab > ?1 ORDER BY tab, key LIMIT 100";
 
 /// Makes the table where it isn't there, outside a transaction.
-#[tactic(auto, using(crate::proofs::FirstLemmas::keeps_failed, crate::proofs::OpenLemmas::executed))]
+#[tactic(auto, using(crate::proofs::FirstLemmas::making))]
 pub(crate) fn make<S: Alter>(conn: &mut Connection<S>) -> Result<(), KeepError>
     ensures made { HasCleanDisk (state S.Store conn.new)
         → (state S.Store conn.old).now.schema ≡ no_schema
@@ -50,6 +50,10 @@ pub(crate) fn make<S: Alter>(conn: &mut Connection<S>) -> Result<(), KeepError>
         → IsTrue (state S.Store conn.old).is_open }
     ensures clean { doubt (state S.Store conn.old).is_clean
         ≤ doubt (state S.Store conn.new).is_clean }
+    ensures settled { HasCleanDisk (state S.Store conn.new)
+        → ((state S.Store conn.old).now.schema ≡ no_schema) ⊎ Tells (state S.Store conn.old)
+        → (state S.Store conn.old).in_transaction ≡ false
+        → (state S.Store conn.new).in_transaction ≡ false }
 {
     if !conn.is_autocommit() {
         return Err(KeepError::Failed);
@@ -74,6 +78,8 @@ pub(crate) fn first<S: Alter>(conn: &mut Connection<S>) -> Result<Option<Row>, K
         → IsTrue (state S.Store conn.old).is_open }
     ensures clean { doubt (state S.Store conn.old).is_clean
         ≤ doubt (state S.Store conn.new).is_clean }
+    ensures settled { (state S.Store conn.old).in_transaction ≡ false
+        → (state S.Store conn.new).in_transaction ≡ false }
 {
     if !conn.is_autocommit() {
         return Err(KeepError::Failed);
@@ -103,6 +109,8 @@ pub(crate) fn later_in<S: Alter>(
         → IsTrue (state S.Store conn.old).is_open }
     ensures clean { doubt (state S.Store conn.old).is_clean
         ≤ doubt (state S.Store conn.new).is_clean }
+    ensures settled { (state S.Store conn.old).in_transaction ≡ false
+        → (state S.Store conn.new).in_transaction ≡ false }
 {
     if !conn.is_autocommit() {
         return Err(KeepError::Failed);
@@ -124,6 +132,8 @@ fn ask_later_in<S: Alter>(conn: &mut Connection<S>, tab: u8, key: i64) -> Result
         → IsTrue (state S.Store conn.old).is_open }
     ensures clean { doubt (state S.Store conn.old).is_clean
         ≤ doubt (state S.Store conn.new).is_clean }
+    ensures settled { (state S.Store conn.old).in_transaction ≡ false
+        → (state S.Store conn.new).in_transaction ≡ false }
 {
     conn.query_all(LATER_IN, params![u32::from(tab), key])
 }
@@ -142,6 +152,8 @@ pub(crate) fn in_later<S: Alter>(conn: &mut Connection<S>, tab: u8) -> Result<Ve
         → IsTrue (state S.Store conn.old).is_open }
     ensures clean { doubt (state S.Store conn.old).is_clean
         ≤ doubt (state S.Store conn.new).is_clean }
+    ensures settled { (state S.Store conn.old).in_transaction ≡ false
+        → (state S.Store conn.new).in_transaction ≡ false }
 {
     if !conn.is_autocommit() {
         return Err(KeepError::Failed);
@@ -163,6 +175,8 @@ fn ask_in_later<S: Alter>(conn: &mut Connection<S>, tab: u8) -> Result<Vec<Row>,
         → IsTrue (state S.Store conn.old).is_open }
     ensures clean { doubt (state S.Store conn.old).is_clean
         ≤ doubt (state S.Store conn.new).is_clean }
+    ensures settled { (state S.Store conn.old).in_transaction ≡ false
+        → (state S.Store conn.new).in_transaction ≡ false }
 {
     conn.query_all(IN_LATER, params![u32::from(tab)])
 }
@@ -182,6 +196,8 @@ pub(crate) fn commit<S: Alter>(
         → IsTrue (state S.Store conn.old).is_open }
     ensures clean { doubt (state S.Store conn.old).is_clean
         ≤ doubt (state S.Store conn.new).is_clean }
+    ensures settled { (state S.Store conn.old).in_transaction ≡ false
+        → (state S.Store conn.new).in_transaction ≡ false }
 {
     match do_all(conn, changes) {
         Ok(()) => Ok(()),
@@ -200,6 +216,8 @@ fn do_all<S: Alter>(conn: &mut Connection<S>, changes: &[Change]) -> Result<(), 
         → IsTrue (state S.Store conn.old).is_open }
     ensures clean { doubt (state S.Store conn.old).is_clean
         ≤ doubt (state S.Store conn.new).is_clean }
+    ensures settled { (state S.Store conn.old).in_transaction ≡ false
+        → (state S.Store conn.new).in_transaction ≡ false }
 {
     if !conn.is_autocommit() {
         return Err(Error::SqliteFailure(ErrorCode::TransactionState));
@@ -211,7 +229,7 @@ fn do_all<S: Alter>(conn: &mut Connection<S>, changes: &[Change]) -> Result<(), 
 }
 
 /// Does all of these changes, one after the other.
-#[tactic(auto, using(crate::proofs::ChangeLemmas::turns_none, crate::proofs::ChangeLemmas::turns_more, crate::proofs::ChangeLemmas::keeps_then, crate::proofs::ChangeLemmas::keeps_itself))]
+#[tactic(auto, using(crate::proofs::ChangeLemmas::changes))]
 fn change_all<S: Alter>(tx: &mut Transaction<'_, S>, changes: &[Change]) -> Result<(), Error>
     ensures same_reference { tx.new.conn.ghost_name ≡ tx.old.conn.ghost_name }
     ensures done { HasCleanDisk (state S.Store tx.new.conn.now)
@@ -236,7 +254,7 @@ fn change_all<S: Alter>(tx: &mut Transaction<'_, S>, changes: &[Change]) -> Resu
 }
 
 /// Does one change.
-#[tactic(auto, using(crate::proofs::ChangeLemmas::change_put, crate::proofs::ChangeLemmas::change_take))]
+#[tactic(auto, using(crate::proofs::ChangeLemmas::change))]
 fn change<S: Alter>(tx: &mut Transaction<'_, S>, change: &Change) -> Result<usize, Error>
     ensures same_reference { tx.new.conn.ghost_name ≡ tx.old.conn.ghost_name }
     ensures done { HasCleanDisk (state S.Store tx.new.conn.now)

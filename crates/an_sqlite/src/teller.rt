@@ -14,7 +14,8 @@ use sqlite::{Alter, Connection};
 use std::snapshot::Snapshot;
 
 /// A base that tells its cells, where the connection came with no table at all or with exactly the
-/// table of cells. Nothing is tested for that: contracts alone see how it came.
+/// table of cells, and then has no transaction open between calls. Nothing is tested for that:
+/// contracts alone see how it came.
 #[derive(Drop)]
 pub(crate) struct Teller<S: Alter + Drop> {
     base: Base<S>,
@@ -22,7 +23,8 @@ pub(crate) struct Teller<S: Alter + Drop> {
     came: Snapshot<Connection<S>>,
     ghost known: { IsTrue (may_tell (state S.Store came.value))
         → IsTrue (is_well (state S.Store base.conn))
-        → ∥ Lists S.Store base (cells_in (state S.Store base.conn)) ∥₁ },
+        → ∥ Lists S.Store base (cells_in (state S.Store base.conn))
+        × ((state S.Store base.conn).in_transaction ≡ false) ∥₁ },
 }
 
 impl<S: Alter + Drop> Teller<S> {
