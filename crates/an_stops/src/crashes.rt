@@ -1,9 +1,8 @@
 //! Lines that are written while a disk stops, which then crashes and is opened again.
 use crate::disks::{Crashes, Disk, Disks, close, crashed, new_disks, open};
 use crate::sending::{accepted, cells, states};
-use an_keep::Keeper;
-use an_sqlite::{NoFile, SqlKeeper};
-use sqlite::FileStore;
+use an_sqlite::SqlKeeper;
+use sqlite::{Alter, Connection, FileStore};
 use std::alloc::{AllocError, Global};
 
 /// The disk that stops.
@@ -120,7 +119,7 @@ fn is_as_due(states: &[String], accepted: usize, found: &Found) -> bool {
 /// Writes the lines, and then closes the database.
 fn write(alloc: Global, disks: Disks, lines: &str) -> Result<Written, AllocError> {
     match open(alloc, disks) {
-        Ok(connection) => write_over(alloc, SqlKeeper::adopt(connection), lines),
+        Ok(connection) => write_over(alloc, connection, lines),
         Err(disks) => Ok(Written {
             accepted: 0,
             is_whole: false,
@@ -131,21 +130,42 @@ fn write(alloc: Global, disks: Disks, lines: &str) -> Result<Written, AllocError
 
 fn write_over(
     alloc: Global,
-    keeper: SqlKeeper<FileStore<Disk>, NoFile>,
+    connection: Connection<FileStore<Disk>>,
     lines: &str,
 ) -> Result<Written, AllocError> {
-    let mut keeper = keeper;
-    let accepted = accepted(alloc, &mut keeper, lines);
+    let Through {
+        accepted,
+        connection,
+    } = write_through(alloc, connection, lines)?;
+    let (disks, is_closed) = close(connection);
+    Ok(Written {
+        accepted,
+        is_whole: is_closed && accepted == lines.lines().count(),
+        disks,
+    })
+}
+
+/// How many lines were accepted over a connection.
+#[derive(Drop)]
+struct Through<S: Alter + Drop> {
+    accepted: usize,
+    connection: Connection<S>,
+}
+
+// A keeper stands here and below over any store, since what a proof has to know of one over files
+// is too much for the functions that name them.
+fn write_through<S: Alter + Drop>(
+    alloc: Global,
+    connection: Connection<S>,
+    lines: &str,
+) -> Result<Through<S>, AllocError> {
+    let mut keeper = SqlKeeper::adopt(connection);
+    let accepted = accepted(alloc, &mut keeper, lines)?.unwrap_or(0);
     match keeper.into_connection() {
-        Some(connection) => {
-            let (disks, is_closed) = close(connection);
-            let accepted = accepted?.unwrap_or(0);
-            Ok(Written {
-                accepted,
-                is_whole: is_closed && accepted == lines.lines().count(),
-                disks,
-            })
-        }
+        Some(connection) => Ok(Through {
+            accepted,
+            connection,
+        }),
         None => Err(AllocError),
     }
 }
@@ -153,20 +173,22 @@ fn write_over(
 /// Opens the store again, and sends the lines again. None where the database isn't opened.
 fn look(alloc: Global, disks: Disks, lines: &str) -> Result<Option<Found>, AllocError> {
     match open(alloc, disks) {
-        Ok(connection) => {
-            let mut keeper = SqlKeeper::adopt(connection);
-            Ok(Some(look_at(alloc, &mut keeper, lines)?))
-        }
+        Ok(connection) => look_through(alloc, connection, lines),
         Err(_) => Ok(None),
     }
 }
 
-fn look_at<K: Keeper>(alloc: Global, keeper: &mut K, lines: &str) -> Result<Found, AllocError> {
-    let found = cells(alloc, keeper)?;
-    let accepted = accepted(alloc, keeper, lines)?;
-    Ok(Found {
+fn look_through<S: Alter + Drop>(
+    alloc: Global,
+    connection: Connection<S>,
+    lines: &str,
+) -> Result<Option<Found>, AllocError> {
+    let mut keeper = SqlKeeper::adopt(connection);
+    let found = cells(alloc, &mut keeper)?;
+    let accepted = accepted(alloc, &mut keeper, lines)?;
+    Ok(Some(Found {
         cells: found,
         accepted,
-        cells_at_end: cells(alloc, keeper)?,
-    })
+        cells_at_end: cells(alloc, &mut keeper)?,
+    }))
 }
