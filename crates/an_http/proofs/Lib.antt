@@ -7,3 +7,4 @@ pub mod NextLemmas
 pub mod TakeLemmas
 pub mod CutLemmas
 pub mod ShortLemmas
+pub mod ReplyLemmas

@@ -3,7 +3,7 @@ ghost use Rattle.an_base.specs.Faults.{Rises};
 ghost use Rattle.an_world.specs.Link.{Writes, WritesFront};
 ghost use Rattle.an_http.specs.Replies.{content_of, reply_bytes, memory_reply};
 
-use crate::reply::{Reply, first_lines, is_empty, last_lines};
+use crate::reply::{Reply, is_empty, push_first_lines, push_last_lines};
 use an_world::{Link, LinkFault, write_all};
 use std::alloc::{AllocError, Global};
 
@@ -68,6 +68,9 @@ pub fn put_memory_reply<L: Link>(link: &mut L) -> Result<(), LinkFault>
     )
 }
 
+/// How many bytes are taken at once for a head, which few heads go beyond.
+const HEAD_ROOM: usize = 512;
+
 /// The bytes of a reply.
 fn reply_bytes(
     alloc: Global,
@@ -77,13 +80,12 @@ fn reply_bytes(
 ) -> Result<Vec<u8>, AllocError>
     ensures bytes { IfOk result (λ v. v.items ≡ reply_bytes reply.now head_only close) }
 {
-    let first = first_lines(alloc, reply)?;
-    let last = last_lines(alloc, reply, close)?;
     let content = content_of(reply, head_only);
-    let mut bytes = first.into_bytes();
-    bytes.extend_from_slice(last.as_bytes())?;
-    bytes.extend_from_slice(content)?;
-    Ok(bytes)
+    let out = Vec::with_capacity(alloc, content.len().saturating_add(HEAD_ROOM))?;
+    let out = push_first_lines(out, reply)?;
+    let mut out = push_last_lines(out, reply, close)?;
+    out.extend_from_slice(content)?;
+    Ok(out)
 }
 
 fn content_of(reply: &Reply, head_only: bool) -> &[u8]

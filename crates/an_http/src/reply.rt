@@ -1,11 +1,11 @@
-ghost use Rattle.std.specs.Prelude.{◌≡◌, ◌++◌, codes, string_bytes, IfOk};
+ghost use Rattle.std.specs.Prelude.{◌≡◌, ◌++◌, IfOk};
 ghost use Rattle.an_http.specs.Replies.{methods_of, status_line, preflight_of, preflight_lines};
 ghost use Rattle.an_http.specs.Replies.{allow_line, close_line, is_empty, length_line, type_line};
 ghost use Rattle.an_http.specs.Replies.{extra_lines, first_lines, last_lines};
 
 use crate::status::Status;
-use an_base::Bytes;
-use std::alloc::{AllocError, Global};
+use an_base::{Bytes, push_number};
+use std::alloc::AllocError;
 
 /// The methods of a route, which a reply tells.
 #[derive(Clone, Copy, Debug, PartialEq, Eq)]
@@ -58,25 +58,50 @@ pub struct Reply {
     pub body: Bytes,
 }
 
-/// The lines up to `Allow`.
-pub(crate) fn first_lines(alloc: Global, reply: &Reply) -> Result<String, AllocError>
-    ensures lines { IfOk result (λ s. string_bytes s ≡ first_lines reply.now) }
+/// Writes the lines up to `Allow`.
+pub(crate) fn push_first_lines(out: Vec<u8>, reply: &Reply) -> Result<Vec<u8>, AllocError>
+    ensures lines { IfOk result (λ v. v.items ≡ out.items ++ first_lines reply.now) }
 {
-    let status = status_line(alloc, reply.status)?;
-    let preflight = preflight_lines(alloc, reply.extra, reply.allow)?;
-    let allow = allow_line(alloc, reply.allow)?;
-    format!(in alloc; "{status}{preflight}Access-Control-Allow-Origin: *\r\n{allow}")
+    let out = push_status(out, reply.status)?;
+    let out = push_preflight(out, reply.extra, reply.allow)?;
+    let out = push(out, "Access-Control-Allow-Origin: *\r\n")?;
+    let out = push(out, allow_line(reply.allow))?;
+    Ok(out)
 }
 
-/// The lines behind them, and the empty line that ends the head.
-pub(crate) fn last_lines(alloc: Global, reply: &Reply, close: bool) -> Result<String, AllocError>
-    ensures lines { IfOk result (λ s. string_bytes s ≡ last_lines reply.now close) }
+/// Writes the lines behind them, and the empty line that ends the head.
+pub(crate) fn push_last_lines(
+    out: Vec<u8>,
+    reply: &Reply,
+    close: bool,
+) -> Result<Vec<u8>, AllocError>
+    ensures lines { IfOk result (λ v. v.items ≡ out.items ++ last_lines reply.now close) }
 {
-    let close = close_line(close);
-    let length = length_line(alloc, is_empty(reply.status), reply.body.as_slice().len())?;
-    let media = type_line(reply.media);
-    let extra = extra_lines(reply.extra);
-    format!(in alloc; "{close}{length}{media}{extra}\r\n")
+    let out = push(out, close_line(close))?;
+    let out = push_length(out, is_empty(reply.status), reply.body.as_slice().len())?;
+    let out = push(out, type_line(reply.media))?;
+    let out = push(out, extra_lines(reply.extra))?;
+    let out = push(out, "\r\n")?;
+    Ok(out)
+}
+
+fn push(out: Vec<u8>, text: &str) -> Result<Vec<u8>, AllocError>
+    ensures { IfOk result (λ v. v.items ≡ out.items ++ text.now) }
+{
+    let mut out = out;
+    out.extend_from_slice(text.as_bytes())?;
+    Ok(out)
+}
+
+fn push_status(out: Vec<u8>, status: Status) -> Result<Vec<u8>, AllocError>
+    ensures line { IfOk result (λ v. v.items ≡ out.items ++ status_line status) }
+{
+    let out = push(out, "HTTP/1.1 ")?;
+    let out = push_number(out, u64::from(status.number()))?;
+    let out = push(out, " ")?;
+    let out = push(out, status.phrase())?;
+    let out = push(out, "\r\n")?;
+    Ok(out)
 }
 
 fn methods_of(allow: Allow) -> &'static str
@@ -90,52 +115,40 @@ fn methods_of(allow: Allow) -> &'static str
     }
 }
 
-fn status_line(alloc: Global, status: Status) -> Result<String, AllocError>
-    ensures line { IfOk result (λ s. string_bytes s ≡ status_line status) }
-{
-    let number = status.number();
-    let phrase = status.phrase();
-    format!(in alloc; "HTTP/1.1 {number} {phrase}\r\n")
-}
-
-fn preflight_lines(alloc: Global, extra: Extra, allow: Allow) -> Result<String, AllocError>
-    ensures lines { IfOk result (λ s. string_bytes s ≡ preflight_lines extra allow) }
+fn push_preflight(out: Vec<u8>, extra: Extra, allow: Allow) -> Result<Vec<u8>, AllocError>
+    ensures lines { IfOk result (λ v. v.items ≡ out.items ++ preflight_lines extra allow) }
 {
     match extra {
-        Extra::Preflight => preflight_of(alloc, methods_of(allow)),
-        Extra::Absent => Ok(String::new(alloc)),
-        Extra::Resource => Ok(String::new(alloc)),
-        Extra::Container => Ok(String::new(alloc)),
-        Extra::Bearer => Ok(String::new(alloc)),
+        Extra::Preflight => push_preflight_of(out, methods_of(allow)),
+        Extra::Absent => Ok(out),
+        Extra::Resource => Ok(out),
+        Extra::Container => Ok(out),
+        Extra::Bearer => Ok(out),
     }
 }
 
-fn preflight_of(alloc: Global, methods: &str) -> Result<String, AllocError>
-    ensures lines { IfOk result (λ s. string_bytes s
-        ≡ preflight_of methods.now) }
+fn push_preflight_of(out: Vec<u8>, methods: &str) -> Result<Vec<u8>, AllocError>
+    ensures lines { IfOk result (λ v. v.items ≡ out.items ++ preflight_of methods.now) }
 {
-    format!(in alloc;
-        "Access-Control-Allow-Headers: Authorization, Content-Type, Prefer\r\n\
-         Access-Control-Allow-Methods: {methods}\r\n"
-    )
+    let out = push(
+        out,
+        "Access-Control-Allow-Headers: Authorization, Content-Type, Prefer\r\n",
+    )?;
+    let out = push(out, "Access-Control-Allow-Methods: ")?;
+    let out = push(out, methods)?;
+    let out = push(out, "\r\n")?;
+    Ok(out)
 }
 
-fn allow_line(alloc: Global, allow: Allow) -> Result<String, AllocError>
-    ensures line { IfOk result (λ s. string_bytes s ≡ allow_line allow) }
+fn allow_line(allow: Allow) -> &'static str
+    ensures { result.now ≡ allow_line allow }
 {
     match allow {
-        Allow::Absent => Ok(String::new(alloc)),
-        Allow::Full => allow_of(alloc, methods_of(allow)),
-        Allow::ReadOnly => allow_of(alloc, methods_of(allow)),
-        Allow::WriteOnly => allow_of(alloc, methods_of(allow)),
+        Allow::Absent => "",
+        Allow::Full => "Allow: GET, HEAD, OPTIONS, PUT, DELETE\r\n",
+        Allow::ReadOnly => "Allow: GET, HEAD, OPTIONS\r\n",
+        Allow::WriteOnly => "Allow: OPTIONS, PUT, DELETE\r\n",
     }
-}
-
-fn allow_of(alloc: Global, methods: &str) -> Result<String, AllocError>
-    ensures line { IfOk result
-        (λ s. string_bytes s ≡ codes "Allow: " ++ (methods.now ++ codes "\r\n")) }
-{
-    format!(in alloc; "Allow: {methods}\r\n")
 }
 
 fn close_line(close: bool) -> &'static str
@@ -151,13 +164,16 @@ pub(crate) fn is_empty(status: Status) -> bool
     matches!(status, Status::NoContent)
 }
 
-fn length_line(alloc: Global, is_empty: bool, count: usize) -> Result<String, AllocError>
-    ensures line { IfOk result (λ s. string_bytes s ≡ length_line is_empty count) }
+fn push_length(out: Vec<u8>, is_empty: bool, count: usize) -> Result<Vec<u8>, AllocError>
+    ensures line { IfOk result (λ v. v.items ≡ out.items ++ length_line is_empty count) }
 {
     if is_empty {
-        return Ok(String::new(alloc));
+        return Ok(out);
     }
-    format!(in alloc; "Content-Length: {count}\r\n")
+    let out = push(out, "Content-Length: ")?;
+    let out = push_number(out, count as u64)?;
+    let out = push(out, "\r\n")?;
+    Ok(out)
 }
 
 fn type_line(media: Media) -> &'static str
