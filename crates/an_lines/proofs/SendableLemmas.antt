@@ -9,7 +9,7 @@ use Rattle.an_http.specs.declared.method.Method.TheVariants.{Get, Head, Options,
 use Rattle.an_http.specs.declared.reply.Allow.{Allow}
 use Rattle.an_state.specs.Commands.{is_sendable}
 use Rattle.an_state.specs.declared.command.Command.{Command}
-use Rattle.an_routes.specs.Commands.{command_of, is_sendable_route, is_sendable_write}
+use Rattle.an_routes.specs.Commands.{command_of, is_sendable_write}
 use Rattle.an_routes.specs.Routes.{route_of}
 use Rattle.an_routes.specs.declared.kinds.Route.{Route}
 use Rattle.an_routes.specs.declared.kinds.Route.TheVariants as route

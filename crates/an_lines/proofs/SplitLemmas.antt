@@ -1,8 +1,7 @@
 -- The lines of an input by its first line feed.
-use Rattle.std.proofs.Common.{◌≡◌, ℕ, suc, ◌+◌, ◌-◌, ◌<◌, ◌==◌, Bool, true, false, List, [], ◌∷◌, ◌++◌, length, take, drop, Some, None, refl, sym, ap, subst, ◌∙◌, arith, get_or, add-one, get_or-take, length-take-le, take-append-drop, All}
-use Rattle.std.proofs.Math.Seq.{drop-cons}
+use Rattle.std.proofs.Common.{◌≡◌, ℕ, suc, ◌+◌, ◌<◌, ◌==◌, Bool, true, false, List, [], ◌∷◌, ◌++◌, length, take, drop, Some, None, refl, sym, ap, subst, ◌∙◌, arith, get_or, add-one, get_or-take, length-take-le, take-append-drop, All}
+use Rattle.std.proofs.Math.Seq.{drop-cons, drop-length}
 use Rattle.std.proofs.lemmas.Bool.{eqb-true, cond-false}
-use Rattle.std.proofs.lemmas.List.{take_rest}
 use Rattle.std.proofs.lemmas.List.Elements.{All-from_get_or}
 use Rattle.std.proofs.lemmas.List.Splits.{slice_split_none, slice_split_at, length-slice_split}
 use Rattle.std.specs.List.{slice_split}
@@ -35,16 +34,17 @@ parts_at xs k low is =
 
 -- the first line feed ends the first line, as the code cuts it
 pub lines_of-some : (xs line : List ℕ) (k : ℕ) → line ≡ strip_carriage_return (take k xs) → IsFirstByte (is_byte 10) xs (Some k)
-    → lines_of xs ≡ line ∷ lines_of (take (length xs - (k + 1)) (drop (k + 1) xs))
+    → lines_of xs ≡ line ∷ lines_of (drop (k + 1) xs)
 lines_of-some xs line k is h =
     let short : length (take k xs) ≡ k = length-take-le k xs (omega (arith, h.0.high)) in
     let none : All (λ b. (b == 10) ≡ false) (take k xs) = All-from_get_or (λ b. (b == 10) ≡ false) (take k xs) 0 (λ j low.
     subst (λ b. (b == 10) ≡ false) (sym (get_or-take k xs j 0 (omega arith))) (not_true _ (h.0.before j (omega arith) (omega arith)))) in
-    rw (is, take_rest xs (k + 1))
+    rw is
     (ap lines_of (sym (parts_at xs k h.0.high (eqb-true _ _ h.1))) ∙ lines_of-feed (take k xs) (drop (k + 1) xs) none)
 
 -- with no line feed, all is one line
-pub lines_of-none : (xs : List ℕ) → false ≡ (length xs == 0) → IsFirstByte (is_byte 10) xs None → lines_of xs ≡ xs ∷ []
+pub lines_of-none : (xs : List ℕ) → false ≡ (length xs == 0) → IsFirstByte (is_byte 10) xs None → lines_of xs ≡ xs ∷ lines_of (drop (length xs) xs)
 lines_of-none xs some h =
     let none : All (λ b. (b == 10) ≡ false) xs = All-from_get_or (λ b. (b == 10) ≡ false) xs 0 (λ j low. not_true _ (h j (omega arith) low)) in
     ap lines_of_parts (slice_split_none (λ b. b == 10) xs none) ∙ cond-false (length xs == 0) [] (xs ∷ []) (sym some)
+    ∙ ap (λ left. xs ∷ lines_of left) (sym (drop-length xs))

@@ -9,7 +9,6 @@ use Rattle.an_http.specs.declared.method.Method.TheVariants.{Get}
 use Rattle.an_http.specs.declared.reply.Allow.{Allow}
 use Rattle.an_state.specs.Commands.{is_sendable}
 use Rattle.an_state.specs.declared.command.Command.{Command}
-use Rattle.an_state.specs.declared.command.Command.TheVariants as command
 use Rattle.an_lines.specs.Line.{Words, words_of, by_of}
 use Rattle.an_routes.specs.Commands.{command_of}
 use Rattle.an_routes.specs.Routes.{route_of}

@@ -8,6 +8,7 @@ ghost use Rattle.an_lines.specs.Status.{IsUnfailing, ReadsLittle};
 
 use crate::counts::{Counts, NO_COUNTS, counts_line};
 use crate::import_line::import_line;
+use crate::input::Input;
 use crate::lines::{INPUT_LIMIT, Report};
 use crate::split::first_line;
 use crate::status::Status;
@@ -45,7 +46,7 @@ pub fn import<L: Link, K: Keeper>(alloc: Global, link: &mut L, desk: &mut Desk<K
     ensures sure { IsTrue L.is_sure → IsUnfailing result }
 {
     match read_to(alloc, link, INPUT_LIMIT + 1) {
-        Ok(input) => match import_input(alloc, desk, input.as_slice()) {
+        Ok(input) => match import_input(alloc, desk, input) {
             Ok(report) => tell(link, report.status, report.text.as_slice()),
             Err(error) => match error {
                 KeepError::Failed => {
@@ -65,11 +66,11 @@ pub fn import<L: Link, K: Keeper>(alloc: Global, link: &mut L, desk: &mut Desk<K
 fn import_input<K: Keeper>(
     alloc: Global,
     desk: &mut Desk<K>,
-    input: &[u8],
+    input: Vec<u8>,
 ) -> Result<Report, KeepError>
-    ensures all { IfOk result (λ r. LeavesAll desk.old.state input.now
+    ensures all { IfOk result (λ r. LeavesAll desk.old.state input.items
         r.status r.text.items desk.new.state) }
-    ensures front { OnErr result (LeavesFront desk.old.state input.now desk.new.state) }
+    ensures front { OnErr result (LeavesFront desk.old.state input.items desk.new.state) }
     ensures counted { result ≡ Err KeepError.Failed
         → Rises desk.old.faults desk.new.faults }
     ensures faults_kept { desk.old.faults ≤ desk.new.faults }
@@ -84,11 +85,11 @@ fn import_input<K: Keeper>(
 fn import_whole<K: Keeper>(
     alloc: Global,
     desk: &mut Desk<K>,
-    input: &[u8],
+    input: Vec<u8>,
 ) -> Result<Imported, KeepError>
     ensures lines { IfOk result (λ i. shown_import desk.new.state i
-        ≡ imported_of desk.old.state input.now) }
-    ensures front { OnErr result (LeavesFront desk.old.state input.now desk.new.state) }
+        ≡ imported_of desk.old.state input.items) }
+    ensures front { OnErr result (LeavesFront desk.old.state input.items desk.new.state) }
     ensures counted { result ≡ Err KeepError.Failed
         → Rises desk.old.faults desk.new.faults }
     ensures faults_kept { desk.old.faults ≤ desk.new.faults }
@@ -107,11 +108,11 @@ fn import_whole<K: Keeper>(
 fn import_lines<K: Keeper>(
     alloc: Global,
     desk: &mut Desk<K>,
-    input: &[u8],
+    input: Vec<u8>,
 ) -> Result<Imported, KeepError>
     ensures lines { IfOk result (λ i. shown_import desk.new.state i
-        ≡ import_lines (lines_of input.now) 1 (start desk.old.state)) }
-    ensures front { OnErr result (LeavesFront desk.old.state input.now desk.new.state) }
+        ≡ import_lines (lines_of input.items) 1 (start desk.old.state)) }
+    ensures front { OnErr result (LeavesFront desk.old.state input.items desk.new.state) }
     ensures counted { result ≡ Err KeepError.Failed
         → Rises desk.old.faults desk.new.faults }
     ensures faults_kept { desk.old.faults ≤ desk.new.faults }
@@ -119,8 +120,8 @@ fn import_lines<K: Keeper>(
 {
     let mut counts = NO_COUNTS;
     let mut number = 1;
-    let mut left = input;
-    'lines: while let Some((line, rest)) = first_line(left) {
+    let mut left = Input::new(input);
+    'lines: while let Some((line, taken)) = first_line(left.as_slice()) {
         match import_line(alloc, desk, counts, line)? {
             Ok(more) => counts = more,
             Err(why) => {
@@ -130,7 +131,7 @@ fn import_lines<K: Keeper>(
                 });
             }
         }
-        left = rest;
+        left.pass(taken);
         number += 1;
     }
     Ok(Imported { counts, stop: None })

@@ -14,6 +14,7 @@ mod counts;
 mod exporting;
 mod import_line;
 mod importing;
+mod input;
 mod line;
 mod lines;
 mod split;

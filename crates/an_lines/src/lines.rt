@@ -6,6 +6,7 @@ ghost use Rattle.an_lines.specs.Shown.{shown};
 ghost use Rattle.an_lines.specs.Split.{lines_of};
 ghost use Rattle.an_lines.specs.Status.{Finds, IsUnfailing, ReadsLittle};
 
+use crate::input::Input;
 use crate::split::first_line;
 use crate::status::Status;
 use crate::stop::{Stop, TOO_LARGE, refusal_line};
@@ -48,7 +49,7 @@ pub fn find<L: Link>(alloc: Global, link: &mut L, settings: &Settings) -> Status
     ensures sure { IsTrue L.is_sure → IsUnfailing result }
 {
     match read_to(alloc, link, INPUT_LIMIT + 1) {
-        Ok(input) => match report_of(alloc, input.as_slice(), settings) {
+        Ok(input) => match report_of(alloc, input, settings) {
             Ok(report) => match write_all(link, report.text.as_slice()) {
                 Ok(_) => report.status,
                 Err(_) => Status::WriteFault,
@@ -67,9 +68,9 @@ pub fn find<L: Link>(alloc: Global, link: &mut L, settings: &Settings) -> Status
 
 /// What comes of an input.
 #[tactic(auto, unfolding(crate::specs::Find::report_of))]
-fn report_of(alloc: Global, input: &[u8], settings: &Settings) -> Result<Report, AllocError>
+fn report_of(alloc: Global, input: Vec<u8>, settings: &Settings) -> Result<Report, AllocError>
     ensures { IfOk result (λ r. record { status = r.status; text = r.text.items }
-        ≡ report_of settings.now input.now) }
+        ≡ report_of settings.now input.items) }
 {
     if input.len() > INPUT_LIMIT {
         let text = refusal_line(alloc, TOO_LARGE)?;
@@ -105,15 +106,15 @@ fn report_played(alloc: Global, played: Played) -> Result<Report, AllocError>
 }
 
 /// Plays all lines of an input, from the empty state.
-fn play(alloc: Global, input: &[u8], settings: &Settings) -> Result<Played, AllocError>
+fn play(alloc: Global, input: Vec<u8>, settings: &Settings) -> Result<Played, AllocError>
     ensures { IfOk result (λ played. shown played
-        ≡ play settings.now (lines_of input.now) 1 empty) }
+        ≡ play settings.now (lines_of input.items) 1 empty) }
 {
     let mut book = Book::new(alloc);
     let mut output = Vec::new(alloc);
     let mut number = 1;
-    let mut left = input;
-    'lines: while let Some((line, rest)) = first_line(left) {
+    let mut left = Input::new(input);
+    'lines: while let Some((line, taken)) = first_line(left.as_slice()) {
         match turn(alloc, &mut book, settings, line, &mut output)? {
             Some(why) => {
                 return Ok(Played {
@@ -123,7 +124,7 @@ fn play(alloc: Global, input: &[u8], settings: &Settings) -> Result<Played, Allo
             }
             None => {}
         }
-        left = rest;
+        left.pass(taken);
         number += 1;
     }
     Ok(Played { output, stop: None })

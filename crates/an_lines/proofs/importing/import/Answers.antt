@@ -5,9 +5,9 @@ use Rattle.an_lines.proofs.importing.import.Goals as goal
 
 pub returns-in-Ok-import_input-clause-imports : goal.returns-in-Ok-import_input-clause-imports
 returns-in-Ok-import_input-clause-imports g c =
-    let all = rw c.as_slice.ensures.value at c.in-Ok-import_input.ensures.all in
-    let front = rw c.as_slice-in-Ok-import_input.ensures.value at c.tell.ensures.front in
-    let told = rw c.as_slice-in-Ok-import_input.ensures.value at c.tell.ensures.tells in
+    let all = c.in-Ok-import_input.ensures.all in
+    let front = rw c.as_slice.ensures.value at c.tell.ensures.front in
+    let told = rw c.as_slice.ensures.value at c.tell.ensures.tells in
     let whole = whole_behind c.in-Ok.input.items _ _ _ (λ h. c.in-Ok.ensures.whole (omega arith)) front in
     Imports-told _ _ _ _ _ _ _ _ _ _ _ _ _ (comes_all _ _ _ _ _ _ _ _ whole all) c.in-Ok.ensures.bytes front
     (λ rose. stays_and_rises _ _ _ c.read_to.ensures.write_faults_kept rose c.tell.ensures.write_faults_kept) told
@@ -18,7 +18,7 @@ returns-in-Ok-import_input-clause-bounded g c = reads_little-front _ _ _ _ c.rea
 pub returns-in-Failed-clause-imports : goal.returns-in-Failed-clause-imports
 returns-in-Failed-clause-imports g c =
     let unkept = c.import_input.ensures.counted (c.in-Err-import_input.is ∙ ap Err c.in-Failed.is) in
-    let leaves = rw c.as_slice.ensures.value at c.in-Err-import_input.ensures.front in
+    let leaves = c.in-Err-import_input.ensures.front in
     let front = rw c.as_bytes.ensures.value at c.tell-in-Failed.ensures.front in
     let told = rw c.as_bytes.ensures.value at c.tell-in-Failed.ensures.tells in
     let whole = whole_behind c.in-Ok.input.items _ _ _ (λ h. c.in-Ok.ensures.whole (omega arith)) front in
@@ -28,9 +28,9 @@ returns-in-Failed-clause-imports g c =
 pub returns-in-Failed-clause-bounded : goal.returns-in-Failed-clause-bounded
 returns-in-Failed-clause-bounded g c = reads_little-front _ _ _ _ c.read_to.ensures.at_most c.tell-in-Failed.ensures.front
 
-pub returns-in-Ok-clause-imports : goal.returns-in-Ok-clause-imports
-returns-in-Ok-clause-imports g c =
-    let leaves = rw c.as_slice.ensures.value at c.in-Err-import_input.ensures.front in
+pub returns-in-Memory-clause-imports : goal.returns-in-Memory-clause-imports
+returns-in-Memory-clause-imports g c =
+    let leaves = c.in-Err-import_input.ensures.front in
     Imports-no_memory _ _ _ _ _ _ _ _ c.in-Ok.ensures.bytes leaves
 
 pub returns-in-ReadFault-clause-imports : goal.returns-in-ReadFault-clause-imports
@@ -46,7 +46,7 @@ returns-in-ReadFault-clause-imports g c =
 pub returns-in-ReadFault-clause-bounded : goal.returns-in-ReadFault-clause-bounded
 returns-in-ReadFault-clause-bounded g c = reads_little-front _ _ _ _ c.read_to.ensures.at_most c.tell-in-ReadFault.ensures.front
 
-pub returns-clause-imports : goal.returns-clause-imports
-returns-clause-imports g c =
+pub returns-in-Memory-error-clause-imports : goal.returns-in-Memory-error-clause-imports
+returns-in-Memory-error-clause-imports g c =
     let read = c.read_to.ensures.at_most in
     Imports-no_memory _ _ _ _ _ _ _ _ read.1 (leaves_none _ read.0)

@@ -4,17 +4,17 @@ use Rattle.an_lines.proofs.lines.find.Goals as goal
 
 pub returns-in-Ok-write_all-clause-finds : goal.returns-in-Ok-write_all-clause-finds
 returns-in-Ok-write_all-clause-finds g c =
-    let is = rw c.as_slice.ensures.value at c.in-Ok-report_of.ensures in
-    let whole = rw c.as_slice-in-Ok-report_of.ensures.value at c.in-Ok-write_all.ensures.whole in
+    let is = c.in-Ok-report_of.ensures in
+    let whole = rw c.as_slice.ensures.value at c.in-Ok-write_all.ensures.whole in
     Finds-reported _ _ _ c.in-Ok.input.items _ _ _ _ is c.in-Ok.ensures.bytes (λ h. c.in-Ok.ensures.whole (omega arith)) whole
 
 pub returns-in-Ok-write_all-clause-sure : goal.returns-in-Ok-write_all-clause-sure
-returns-in-Ok-write_all-clause-sure g c = λ _. report_unfailing c.args.settings.now c.as_slice.result.now _ c.in-Ok-report_of.ensures
+returns-in-Ok-write_all-clause-sure g c = λ _. report_unfailing c.args.settings.now c.in-Ok.input.items _ c.in-Ok-report_of.ensures
 
 pub returns-in-Ok-report_of-clause-finds : goal.returns-in-Ok-report_of-clause-finds
 returns-in-Ok-report_of-clause-finds g c =
-    let is = rw c.as_slice.ensures.value at c.in-Ok-report_of.ensures in
-    let front = rw c.as_slice-in-Ok-report_of.ensures.value at c.write_all.ensures.front in
+    let is = c.in-Ok-report_of.ensures in
+    let front = rw c.as_slice.ensures.value at c.write_all.ensures.front in
     Finds-part_told _ _ _ c.in-Ok.input.items _ _ _ _ is c.in-Ok.ensures.bytes (λ h. c.in-Ok.ensures.whole (omega arith)) front
     (stays_and_rises _ _ _ c.read_to.ensures.write_faults_kept c.in-Err-write_all.ensures.counted c.write_all.ensures.write_faults_kept)
 
