@@ -1,8 +1,9 @@
-ghost use Rattle.std.specs.Prelude.{◌≡◌, IsTrue, not, position};
+ghost use Rattle.std.specs.Prelude.{◌≡◌, IfOk, IsTrue, not, position};
 ghost use Rattle.an_base.specs.Outcome.{Gives, first_of};
 ghost use Rattle.an_base.specs.Name.{is_name_sign, name_refusals};
 
 use crate::copy::TryCopy;
+use crate::shared::Shared;
 use crate::text::Text;
 use std::alloc::{AllocError, Global};
 use std::marker::Model;
@@ -20,10 +21,10 @@ pub enum NameError {
 }
 
 /// The name of a reader, a manifest, an annotation or a group: 1 to 64 bytes of `a-z`, `0-9`, `-`
-/// and `_`, other than `-` alone. Contracts see the list of its bytes.
-#[derive(Debug, Drop, PartialEq, Eq)]
+/// and `_`, other than `-` alone. Its copies share the text. Contracts see the list of its bytes.
+#[derive(Debug, Drop)]
 pub struct Name {
-    text: Text,
+    text: Shared<Text>,
 }
 
 impl Model for Name {
@@ -49,7 +50,7 @@ impl Name {
         if let Some(refusal) = refusal_of(text) {
             return Err(refusal);
         }
-        match Text::new(alloc, text) {
+        match shared_text(alloc, text) {
             Ok(text) => Ok(Name { text }),
             Err(_) => Err(NameError::Memory),
         }
@@ -59,7 +60,7 @@ impl Name {
         ensures value { result.now ≡ self.now }
         ensures name { IsTrue (is_name self.now) }
     {
-        self.text.as_str()
+        self.text.get().as_str()
     }
 }
 
@@ -69,6 +70,32 @@ impl TryCopy for Name {
             text: self.text.copy()?,
         })
     }
+}
+
+impl PartialEq for Name {
+    ghost use Rattle.std.specs.Prelude.{bytes_eq};
+    ghost use Rattle.std.specs.Cmp.Lexicographic.{nat_list_eq_equiv};
+    ghost use Rattle.std.specs.Cmp as Cmp;
+
+    ghost eq = { bytes_eq };
+
+    ghost laws = { Cmp.partial_equiv_from_equiv nat_list_eq_equiv };
+
+    fn eq(&self, other: &Name) -> bool {
+        self.as_str() == other.as_str()
+    }
+}
+
+impl Eq for Name {
+    ghost use Rattle.std.specs.Cmp.Lexicographic.{nat_list_eq_equiv};
+
+    ghost laws = { nat_list_eq_equiv };
+}
+
+fn shared_text(alloc: Global, text: &str) -> Result<Shared<Text>, AllocError>
+    ensures { IfOk result (λ shared. shared ≡ text.now) }
+{
+    Shared::new(alloc, Text::new(alloc, text)?)
 }
 
 /// The first refusal of a text as a name.

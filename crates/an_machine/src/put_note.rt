@@ -18,7 +18,7 @@ use crate::versions::{is_behind, note_standing, unless_done};
 use an_base::{Moment, Name, Shared, Text, TryCopy};
 use an_keyed::Keyed;
 use an_policy::{Audience, Who, is_same_group};
-use an_state::{Activity, Book, LiveNote, ManifestRow, NoteRow, Row};
+use an_state::{Activity, Book, LiveNote, ManifestRow, NoteRow, Row, as_known};
 use std::alloc::{AllocError, Global};
 
 /// What a put of an annotation on this manifest changes; nothing where it was done already.
@@ -74,9 +74,55 @@ fn note_effect(
     ensures { IfOk result (λ effect. effect
         ≡ note_effect book.now.state (identity who.now) at (option_copied before.entry) put) }
 {
+    let put = with_kept_names(who, manifest, put)?;
     let activity = put_activity(alloc, book, who, at, before, manifest, &put)?;
     let row = new_row(alloc, who, at, before, put)?;
     change(alloc, !note_standing(before).live, Row::Note(row), activity)
+}
+
+/// The same put, whose names share the texts of the rows that stand: an owner's of the row of who
+/// writes, and a manifest's of its own row.
+fn with_kept_names(
+    who: &Who<'_>,
+    manifest: Option<&ManifestRow>,
+    put: NotePut,
+) -> Result<NotePut, AllocError>
+    ensures { IfOk result (λ same. same ≡ put) }
+{
+    let NotePut {
+        owner,
+        name,
+        version,
+        manifest: on,
+        group,
+        note,
+    } = put;
+    let owner = as_known(writer(who), owner)?;
+    let on = as_known(name_of_row(manifest), on)?;
+    Ok(NotePut {
+        owner,
+        name,
+        version,
+        manifest: on,
+        group,
+        note,
+    })
+}
+
+/// The name of who writes, where it is lent by a row.
+fn writer<'a>(who: &'a Who<'_>) -> Option<&'a Name> {
+    match who {
+        Who::Anonymous => None,
+        Who::Operator => None,
+        Who::Signed(reader) => Some(&reader.name),
+    }
+}
+
+fn name_of_row(manifest: Option<&ManifestRow>) -> Option<&Name> {
+    match manifest {
+        Some(row) => Some(row.name()),
+        None => None,
+    }
 }
 
 /// The change that a put of an annotation on this manifest is.

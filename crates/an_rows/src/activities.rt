@@ -12,7 +12,9 @@ ghost use Rattle.an_rows.specs.RowTree.{given, moment_tree, text_member, audienc
 ghost use Rattle.an_rows.specs.RowTree.{activity_members};
 ghost use Rattle.an_rows.specs.Valid.{is_public, is_inner, is_valid_audience};
 
-use crate::fields::{group_in, is_manifest_group, is_valid_group, moment_in, name_if, name_in};
+use crate::fields::{
+    group_in, is_manifest_group, is_valid_group, known_name_if, moment_in, name_if, name_in,
+};
 use crate::members::{push_group, push_moment, push_owner};
 use crate::refusal::RowError;
 use an_base::{Moment, Name, close_members, push_name, push_text_member};
@@ -150,7 +152,7 @@ fn activity_on(
 {
     let before = audience_if(alloc, owner.as_ref(), tree.get("before"))?;
     let after = audience_if(alloc, owner.as_ref(), tree.get("after"))?;
-    let by = name_if(alloc, tree, "by")?;
+    let by = known_name_if(alloc, tree, "by", owner.as_ref())?;
     if_seen(Activity {
         at,
         by,
@@ -196,7 +198,7 @@ fn audience_of(alloc: Global, owner: Option<&Name>, tree: &Value) -> Result<Audi
 {
     let inner = group_in(alloc, tree, "inner")?;
     let outer = group_in(alloc, tree, "outer")?;
-    let its_owner = name_if(alloc, tree, "owner")?;
+    let its_owner = known_name_if(alloc, tree, "owner", owner)?;
     if_audience(
         owner,
         Audience {

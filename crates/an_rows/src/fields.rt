@@ -19,6 +19,7 @@ ghost use Rattle.an_rows.specs.Valid.{is_manifest_group, is_tombstone_number};
 use crate::refusal::RowError;
 use an_base::{Moment, Name, NameError, Text, is_tree, text_in};
 use an_policy::{Group, group_named, is_user};
+use an_state::as_known;
 use serde_json::Value;
 use std::alloc::Global;
 
@@ -29,6 +30,25 @@ pub(crate) fn name_if(alloc: Global, tree: &Value, member: &str) -> Result<Optio
 {
     match text_in(tree, member) {
         Some(text) => name_of(alloc, text),
+        None => Ok(None),
+    }
+}
+
+/// The same, in the text of a name that is known where the member is that name.
+pub(crate) fn known_name_if(
+    alloc: Global,
+    tree: &Value,
+    member: &str,
+    known: Option<&Name>,
+) -> Result<Option<Name>, RowError>
+    ensures name { IfOk result (λ name. name ≡ name_in member.now (view tree.now)) }
+    ensures memory { IfErr result (λ e. e ≡ RowError.Memory) }
+{
+    match name_if(alloc, tree, member)? {
+        Some(name) => match as_known(known, name) {
+            Ok(name) => Ok(Some(name)),
+            Err(_) => Err(RowError::Memory),
+        },
         None => Ok(None),
     }
 }

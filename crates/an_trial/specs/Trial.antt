@@ -29,8 +29,12 @@ state_behind s write = elim (step s write.moment write.caller write.command) [
   | Err refusal ↦ s
 ]
 
+-- behind all writes
+unfoldable pub state_behind_all : State → ℕ → ℕ → State
+state_behind_all s count seed = fold state_behind s (writes count seed)
+
 unfoldable pub trial_state : ℕ → ℕ → State
-trial_state count seed = fold state_behind empty (writes count seed)
+trial_state count seed = state_behind_all empty count seed
 
 -- ---- what is counted in it
 

@@ -2,7 +2,7 @@
 ghost use Rattle.std.specs.Prelude.{◌≡◌, [], IfOk, IsSome, IsTrue, None, OnOk, fold};
 ghost use Rattle.an_state.specs.Commands.{is_sendable};
 ghost use Rattle.an_state.specs.State.{empty};
-ghost use Rattle.an_trial.specs.Trial.{state_behind, trial_state};
+ghost use Rattle.an_trial.specs.Trial.{state_behind, state_behind_all, trial_state};
 ghost use Rattle.an_trial.specs.Writes.{note_writes};
 
 use crate::draws::Generator;
@@ -12,17 +12,32 @@ use an_shelf::{Desk, OpenError, WriteError};
 use std::alloc::{AllocError, Global};
 
 /// A store with all that is written: the reader, the manifest, and so many annotations.
-#[tactic(auto, using(crate::proofs::WriteLemmas::trial_writes), unfolding(crate::specs::Trial::trial_state))]
+#[tactic(auto, unfolding(crate::specs::Trial::trial_state))]
 pub(crate) fn play(alloc: Global, count: u32, seed: u32) -> Result<Desk<SureKeeper>, AllocError>
     ensures state { IfOk result (λ desk. IsSome desk.told
         → desk.state ≡ trial_state count seed) }
     ensures nothing_waits { IfOk result (λ desk. desk.waiting ≡ None) }
 {
     let mut desk = open(alloc)?;
-    put(alloc, &mut desk, reader_write(alloc)?)?;
-    put(alloc, &mut desk, manifest_write(alloc)?)?;
-    put_notes(alloc, &mut desk, count, seed)?;
+    put_all(alloc, &mut desk, count, seed)?;
     Ok(desk)
+}
+
+/// Puts the reader, the manifest, and so many annotations.
+#[tactic(auto, using(crate::proofs::WriteLemmas::trial_writes), unfolding(crate::specs::Trial::state_behind_all))]
+fn put_all(
+    alloc: Global,
+    desk: &mut Desk<SureKeeper>,
+    count: u32,
+    seed: u32,
+) -> Result<(), AllocError>
+    ensures state { OnOk result (desk.new.state ≡ state_behind_all desk.old.state count seed) }
+    ensures nothing_waits { OnOk result (desk.new.waiting ≡ None) }
+    ensures told { IsSome desk.new.told → IsSome desk.old.told }
+{
+    put(alloc, desk, reader_write(alloc)?)?;
+    put(alloc, desk, manifest_write(alloc)?)?;
+    put_notes(alloc, desk, count, seed)
 }
 
 /// A store without a row.
