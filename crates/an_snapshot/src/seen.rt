@@ -1,15 +1,12 @@
-ghost use Rattle.std.specs.Prelude.{◌≡◌, ◌≤◌, All, IfOk, drop, is_some, length};
-ghost use Rattle.std.specs.Prelude.{option_map, take};
+ghost use Rattle.std.specs.Prelude.{◌≡◌, ◌≤◌, All, IfOk, drop, is_some, length, take};
 ghost use Rattle.std.specs.Option.{option_copied};
 ghost use Rattle.an_policy.specs.Audience.{identity};
 ghost use Rattle.an_policy.specs.Seen.{as_seen};
-ghost use Rattle.an_state.specs.View.{object_of_activity};
 ghost use Rattle.an_snapshot.specs.Changes.{IsChangeFiled, audience_in, kind_in, seen_in};
 
 use crate::change::{ClassChange, FiledChange};
-use an_base::TryCopy;
 use an_policy::{Audience, Classes, Kind, Who, as_seen};
-use an_state::{Activity, Object, Seen};
+use an_state::Seen;
 use std::alloc::{AllocError, Global};
 
 /// What changes of these classes are for a caller, if it sees them. It is judged once for changes
@@ -93,7 +90,7 @@ fn first_seen(
             return Ok(seen);
         }
         verdict = judge(classes, who, verdict, change);
-        if let Some(one) = seen_as(change.activity.get(), verdict.kind)? {
+        if let Some(one) = change.activity.get().seen_as(verdict.kind)? {
             seen.push(one)?;
         }
     }
@@ -160,37 +157,5 @@ fn audience_in(classes: &Classes, class: Option<usize>) -> Option<&Audience>
     match class {
         Some(class) => classes.as_slice().get(class),
         None => None,
-    }
-}
-
-/// An activity as a caller sees it, for whom it is of this kind.
-fn seen_as(activity: &Activity, kind: Option<Kind>) -> Result<Option<Seen>, AllocError>
-    ensures { IfOk result (λ seen. seen ≡ option_map (λ kind. record {
-      moment = activity.now.at;
-      object = object_of_activity activity.now;
-      kind = kind;
-    }) kind) }
-{
-    match kind {
-        Some(kind) => Ok(Some(Seen {
-            moment: activity.at,
-            object: object_of(activity)?,
-            kind,
-        })),
-        None => Ok(None),
-    }
-}
-
-/// What an activity changed.
-fn object_of(activity: &Activity) -> Result<Object, AllocError>
-    ensures { IfOk result (λ object. object ≡ object_of_activity activity.now) }
-{
-    let name = activity.name.copy()?;
-    match &activity.owner {
-        Some(owner) => Ok(Object::Note {
-            owner: owner.copy()?,
-            name,
-        }),
-        None => Ok(Object::Manifest(name)),
     }
 }

@@ -12,14 +12,17 @@ pub trait Opens<C>: Drop {
     // What is known of a connection as it is opened.
     ghost opens: { C → Type 0 };
 
+    /// A connection to the database at this path, which is made where there is none.
     fn open(&mut self, path: &Text) -> Result<C, KeepError>
         ensures { IfOk result opens };
 
+    /// Lets go of a connection that was opened.
     fn close(connection: C);
 }
 
 /// What is supposed of files, made anew each time that they are opened.
 pub trait Supposes: Start {
+    /// What is supposed of the files that are opened now.
     fn supposed() -> Self;
 }
 
@@ -37,6 +40,7 @@ pub struct SupposedFiles<U: Supposes> {
 }
 
 impl<U: Supposes> SupposedFiles<U> {
+    /// The files that this runtime reaches. Takes no memory.
     pub fn new(host: &HostRuntime) -> SupposedFiles<U> {
         SupposedFiles {
             host: *host,
@@ -76,6 +80,7 @@ pub struct HostFiles {
 }
 
 impl HostFiles {
+    /// The files that this runtime reaches. Takes no memory.
     pub fn new(host: &HostRuntime) -> HostFiles {
         HostFiles { host: *host }
     }

@@ -6,15 +6,13 @@ ghost use Rattle.an_policy.specs.Seen.{as_seen};
 ghost use Rattle.an_state.specs.State.{who_of, reader_row, reader_with_token, manifest_row};
 ghost use Rattle.an_state.specs.State.{note_row, manifests_are_distinct, notes_are_distinct};
 ghost use Rattle.an_state.specs.Terms.{places_with_term, terms_with_prefix};
-ghost use Rattle.an_state.specs.View.{readable_places, seen_by, seen_as};
-ghost use Rattle.an_state.specs.View.{object_of_activity, last_kind};
+ghost use Rattle.an_state.specs.View.{last_kind, readable_places, seen_as, seen_by};
 
 use crate::activity::{Activity, Seen};
 use crate::book::Book;
-use crate::command::Object;
 use crate::readable::{readable_in, terms_from_in, with_term_in};
 use crate::row::{ManifestRow, NoteRow, shared_row};
-use an_base::{Name, Shared, Steps, TermTotal, TryCopy};
+use an_base::{Name, Shared, Steps, TermTotal};
 use an_keyed::{Keyed, Log};
 use an_policy::{Caller, Kind, Reader, Who, as_seen};
 use std::alloc::{AllocError, Global};
@@ -254,14 +252,7 @@ fn sees(activity: &Shared<Activity>, who: &Who<'_>) -> bool
 fn seen_as(activity: &Activity, who: &Who<'_>) -> Result<Option<Seen>, AllocError>
     ensures { IfOk result (λ seen. seen ≡ seen_as (identity who.now) activity.now) }
 {
-    match kind_of(activity, who) {
-        Some(kind) => Ok(Some(Seen {
-            moment: activity.at,
-            object: object_of(activity)?,
-            kind,
-        })),
-        None => Ok(None),
-    }
+    activity.seen_as(kind_of(activity, who))
 }
 
 /// What the last change of an object was that the caller sees, among the changes of the object
@@ -290,20 +281,6 @@ fn kind_of(activity: &Activity, who: &Who<'_>) -> Option<Kind>
     ensures { result ≡ as_seen (identity who.now) activity.now.before activity.now.after }
 {
     as_seen(who, activity.before.as_ref(), activity.after.as_ref())
-}
-
-/// What an activity changed.
-fn object_of(activity: &Activity) -> Result<Object, AllocError>
-    ensures { IfOk result (λ object. object ≡ object_of_activity activity.now) }
-{
-    let name = activity.name.copy()?;
-    match &activity.owner {
-        Some(owner) => Ok(Object::Note {
-            owner: owner.copy()?,
-            name,
-        }),
-        None => Ok(Object::Manifest(name)),
-    }
 }
 
 fn lent(reader: Option<&Reader>) -> Option<Who<'_>>
