@@ -1,11 +1,10 @@
 -- One hash more in an index.
-use Rattle.std.proofs.Common.{◌≡◌, ◌≢◌, ℕ, ◌<◌, ◌≤◌, zero, suc, List, [], ◌∷◌, ◌++◌, length, take, get_or, Option, Some, None, slice_get, nat_eq, cond, sym, subst, ⊎_elim, ap, ◌∙◌, refl, arith, length-append}
-use Rattle.std.proofs.lemmas.Bool.{cond_both, cases_lt, eqb-true, eqb-false}
+use Rattle.std.proofs.Common.{◌≡◌, ◌≢◌, ℕ, ◌<◌, ◌≤◌, zero, suc, List, [], ◌∷◌, ◌++◌, length, take, get_or, Option, Some, None, slice_get, nat_eq, cond, sym, subst, ◌∙◌, refl, arith, length-append}
+use Rattle.std.proofs.lemmas.Bool.{cond_both, eqb-true, eqb-false}
 use Rattle.std.proofs.lemmas.Grind.{common_steps}
 use Rattle.std.proofs.Math.ListN.{get_or-append}
 use Rattle.std.proofs.Math.Seq.{get_or-append_seam}
 use Rattle.std.proofs.lemmas.List.{take-append-le, take_all}
-use Rattle.std.proofs.lemmas.Option.{slice_get_within, same_Some}
 use Rattle.std.specs.HashMap.{HashMap, get, Updates}
 use Rattle.an_keyed.specs.Hashes.{IsLast, IsIndex}
 
@@ -34,35 +33,42 @@ IsLast-push hash added hashes place last =
     (λ same. subst (λ (x : ℕ). IsLast hash (hashes ++ x ∷ []) (Some (length hashes))) (sym (eqb-true added hash same)) (IsLast-push-same hash hashes))
     (λ other. IsLast-push-other hash added hashes place (eqb-false added hash other) last)
 
-module _ {S : Type 0} (m n : HashMap ℕ ℕ S) (links : List (Option ℕ)) (hashes : List ℕ) (hash : ℕ) (old : Option ℕ) where
+module _ {S T : Type 0} (m n : HashMap ℕ ℕ S) (e f : HashMap ℕ ℕ T) (hashes : List ℕ) (hash : ℕ) (old : Option ℕ) where
   -- the links of the places that were there
-  link-within : IsIndex m links hashes → (p : ℕ) (place : Option ℕ) → p < length hashes → slice_get (links ++ old ∷ []) p ≡ Some place → IsLast (get_or (hashes ++ hash ∷ []) p 0) (take p (hashes ++ hash ∷ [])) place
-  link-within index p place within is =
-      let short : p < length links = omega (arith, index.long) in
+  link-within : IsIndex m e hashes → (p : ℕ) → p < length hashes → IsLast (get_or (hashes ++ hash ∷ []) p 0) (take p (hashes ++ hash ∷ [])) (get nat_eq e p)
+  link-within index p within =
       let below : p ≤ length hashes = omega arith in
-      rw (get_or-append hashes (hash ∷ []) 0 p within, take-append-le p hashes (hash ∷ []) below) (index.before p place (sym (slice_get-push-within links old p short) ∙ is))
+      rw (get_or-append hashes (hash ∷ []) 0 p within, take-append-le p hashes (hash ∷ []) below) (index.earlier p within)
 
   -- the link of the new place
-  link-last : IsIndex m links hashes → old ≡ get nat_eq m hash → IsLast (get_or (hashes ++ hash ∷ []) (length hashes) 0) (take (length hashes) (hashes ++ hash ∷ [])) old
+  link-last : IsIndex m e hashes → old ≡ get nat_eq m hash → IsLast (get_or (hashes ++ hash ∷ []) (length hashes) 0) (take (length hashes) (hashes ++ hash ∷ [])) old
   link-last index was =
       let whole : length hashes ≤ length hashes = omega arith in
       rw (get_or-append_seam hashes hash [] 0, take-append-le (length hashes) hashes (hash ∷ []) whole, take_all, was) (index.newest hash)
 
-  link_after : IsIndex m links hashes → old ≡ get nat_eq m hash → (p : ℕ) (place : Option ℕ) → slice_get (links ++ old ∷ []) p ≡ Some place → IsLast (get_or (hashes ++ hash ∷ []) p 0) (take p (hashes ++ hash ∷ [])) place
-  link_after index was p place is =
-      ⊎_elim
-      (λ (within : p < length hashes). link-within index p place within is)
-      (λ (past : length hashes ≤ p).
-      let short : p < length (links ++ old ∷ []) = slice_get_within _ p place is in
-      let last : p ≡ length hashes = omega (arith, length-append links (old ∷ []), index.long) in
-      let same : old ≡ place = same_Some old place (sym (slice_get-push-last links old) ∙ ap (λ k. slice_get (links ++ old ∷ []) k) (index.long ∙ sym last) ∙ is) in
-      rw (last, ← same) (link-last index was))
-      (cases_lt p (length hashes))
+  module _ (linked : (p : ℕ) → get nat_eq f p ≡ cond (nat_eq (length hashes) p) old (get nat_eq e p)) where
+    link_after : IsIndex m e hashes → old ≡ get nat_eq m hash → (p : ℕ) → p < length (hashes ++ hash ∷ []) → IsLast (get_or (hashes ++ hash ∷ []) p 0) (take p (hashes ++ hash ∷ [])) (get nat_eq f p)
+    link_after index was p short =
+        rw (linked p)
+        (cond_both (nat_eq (length hashes) p) old (get nat_eq e p) (IsLast (get_or (hashes ++ hash ∷ []) p 0) (take p (hashes ++ hash ∷ [])))
+        (λ same. rw (← eqb-true (length hashes) p same) (link-last index was))
+        (λ other.
+        let differ : length hashes ≢ p = eqb-false (length hashes) p other in
+        let within : p < length hashes = grind (arith, common_steps, length-append hashes (hash ∷ []), differ, short) in
+        link-within index p within))
+
+    beyond_after : IsIndex m e hashes → (p : ℕ) → length (hashes ++ hash ∷ []) ≤ p → get nat_eq f p ≡ None
+    beyond_after index p past =
+        let far : length hashes < p = grind (arith, common_steps, length-append hashes (hash ∷ []), past) in
+        let none : get nat_eq e p ≡ None = index.beyond p (omega arith) in
+        linked p ∙ grind (arith, common_steps, far, none)
 
   -- the index of a list, when a hash was put behind it
-  pub IsIndex-push : (place : ℕ) → IsIndex m links hashes → old ≡ get nat_eq m hash → place ≡ length hashes → Updates nat_eq m n hash (Some place) → IsIndex n (links ++ old ∷ []) (hashes ++ hash ∷ [])
-  IsIndex-push place index was last updates = record {
-    newest = λ h. rw (updates.0 h, last) (IsLast-push h hash hashes (get nat_eq m h) (index.newest h));
-    before = link_after index was;
-    long = grind (arith, common_steps, index.long);
-  }
+  pub IsIndex-push : (place : ℕ) → IsIndex m e hashes → old ≡ get nat_eq m hash → place ≡ length hashes → Updates nat_eq m n hash (Some place) → ((p : ℕ) → get nat_eq f p ≡ cond (nat_eq place p) old (get nat_eq e p)) → IsIndex n f (hashes ++ hash ∷ [])
+  IsIndex-push place index was last updates linked =
+      let here : (p : ℕ) → get nat_eq f p ≡ cond (nat_eq (length hashes) p) old (get nat_eq e p) = λ p. rw (← last) (linked p) in
+      record {
+        newest = λ h. rw (updates.0 h, last) (IsLast-push h hash hashes (get nat_eq m h) (index.newest h));
+        earlier = link_after here index was;
+        beyond = beyond_after here index;
+      }

@@ -1,5 +1,5 @@
 -- Where a key stands in a list of keys, and the walk along the places of its hash.
-use Rattle.std.proofs.Common.{◌≡◌, ◌≢◌, ℕ, ◌+◌, ◌<◌, ◌≤◌, Bool, true, false, not, List, [], ◌∷◌, ◌++◌, length, get_or, Some, None, slice_get, sym, ap, ◌∙◌, ⊎_elim, refl, arith, length-append}
+use Rattle.std.proofs.Common.{◌≡◌, ◌≢◌, ℕ, ◌<◌, ◌≤◌, Bool, true, false, not, List, [], ◌∷◌, ◌++◌, length, get_or, Some, None, slice_get, sym, ap, ◌∙◌, ⊎_elim, refl, arith, length-append}
 use Rattle.std.specs.List.{position_or_len, position}
 use Rattle.std.proofs.lemmas.Bool.{false_from_ne_true, cases_eq, cases_lt}
 use Rattle.std.proofs.lemmas.List.{length-map, get_or-map, map-append}

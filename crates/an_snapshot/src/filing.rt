@@ -7,7 +7,7 @@ ghost use Rattle.an_snapshot.specs.Changes.{added_by_row};
 
 use crate::change::{ClassChange, FiledChange};
 use crate::changes::Changes;
-use an_base::{Shared, TryCopy};
+use an_base::{Shared, TryCopy, to_u32};
 use an_policy::{Audience, Classes};
 use an_state::{Activity, Entry, Row};
 use std::alloc::{AllocError, Global};
@@ -131,14 +131,15 @@ fn classes_of(classes: &mut Classes, activity: &Activity) -> Result<ClassChange,
     Ok(ClassChange { before, after })
 }
 
-/// The class of an audience, if there is one, which has one then.
-fn class_of(classes: &mut Classes, audience: Option<&Audience>) -> Result<Option<usize>, AllocError>
+/// The class of an audience, if there is one, which has one then. Want of memory is its only error,
+/// which more than 2^32 classes are answered with too.
+fn class_of(classes: &mut Classes, audience: Option<&Audience>) -> Result<Option<u32>, AllocError>
     ensures grows { Grows classes.old classes.new }
     ensures class { IfOk result
         (λ class. IsClassOf classes.new (option_copied audience.entry) class) }
 {
     match audience {
-        Some(audience) => Ok(Some(classes.add(audience)?)),
+        Some(audience) => Ok(Some(to_u32(classes.add(audience)?)?)),
         None => Ok(None),
     }
 }

@@ -151,11 +151,11 @@ fn kind_in(classes: &Classes, who: &Who<'_>, change: ClassChange) -> Option<Kind
 }
 
 /// The audience of a class.
-fn audience_in(classes: &Classes, class: Option<usize>) -> Option<&Audience>
+fn audience_in(classes: &Classes, class: Option<u32>) -> Option<&Audience>
     ensures { option_copied result ≡ audience_in classes.now class }
 {
     match class {
-        Some(class) => classes.as_slice().get(class),
+        Some(class) => classes.as_slice().get(class as usize),
         None => None,
     }
 }
