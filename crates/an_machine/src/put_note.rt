@@ -17,7 +17,7 @@ use crate::effect::{Effect, change, moments};
 use crate::versions::{is_behind, note_standing, unless_done};
 use an_base::{Moment, Name, Shared, Text, TryCopy};
 use an_keyed::Keyed;
-use an_policy::{Audience, Who, is_same_group};
+use an_policy::{Audience, Who, is_same_group, user_of};
 use an_state::{Activity, Book, LiveNote, ManifestRow, NoteRow, Row, as_known};
 use std::alloc::{AllocError, Global};
 
@@ -218,27 +218,31 @@ fn new_row(
 }
 
 /// A live annotation keeps its creator.
-fn creator_of(alloc: Global, who: &Who<'_>, row: Option<&NoteRow>) -> Result<Text, AllocError>
+fn creator_of(
+    alloc: Global,
+    who: &Who<'_>,
+    row: Option<&NoteRow>,
+) -> Result<Shared<Text>, AllocError>
     ensures { IfOk result (λ creator. creator
         ≡ creator_of (identity who.now) (live_in (option_copied row.entry))) }
 {
     match row {
         Some(row) => match row.live() {
             Some(before) => before.creator.copy(),
-            None => user_of(alloc, who),
+            None => writer_iri(alloc, who),
         },
-        None => user_of(alloc, who),
+        None => writer_iri(alloc, who),
     }
 }
 
 /// The IRI of who writes.
-fn user_of(alloc: Global, who: &Who<'_>) -> Result<Text, AllocError>
+fn writer_iri(alloc: Global, who: &Who<'_>) -> Result<Shared<Text>, AllocError>
     ensures { IfOk result (λ user. user ≡ user_of (identity who.now)) }
 {
     match who {
-        Who::Anonymous => Ok(Text::from_string(String::new(alloc))),
-        Who::Operator => Ok(Text::from_string(String::new(alloc))),
-        Who::Signed(reader) => Ok(reader.user.copy()?),
+        Who::Anonymous => user_of(alloc, ""),
+        Who::Operator => user_of(alloc, ""),
+        Who::Signed(reader) => reader.user.copy(),
     }
 }
 

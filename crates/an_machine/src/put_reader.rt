@@ -71,7 +71,7 @@ fn is_same_reader(one: &Reader, other: &Reader) -> bool
 {
     one.token == other.token
         && is_same_role(one.role, other.role)
-        && one.user == other.user
+        && one.user.get() == other.user.get()
         && one.groups == other.groups
 }
 

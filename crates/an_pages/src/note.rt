@@ -103,7 +103,7 @@ fn shown_live(
     ensures { IfOk result (λ body. body ≡ shown_live settings.now row.now (lent_note live.now)) }
 {
     let iri = note_iri(alloc, settings.base(), row.owned_by(), row.name())?;
-    let creator = live.creator.as_str();
+    let creator = live.creator.get().as_str();
     let text = push_shown(
         Vec::new(alloc),
         live.tree,

@@ -9,7 +9,7 @@ ghost use Rattle.an_policy.specs.Reader.{user_in, group_in, groups_in, groups_of
 ghost use Rattle.an_policy.specs.Reader.{reader_of};
 
 use crate::permission::is_among;
-use an_base::{List, Name, NameError, Text, TryCopy, is_token, text_in};
+use an_base::{List, Name, NameError, Shared, Text, TryCopy, is_token, text_in};
 use serde_json::Value;
 use std::alloc::{AllocError, Global};
 
@@ -25,15 +25,15 @@ pub enum Role {
 }
 
 /// Somebody who may sign requests.
-#[derive(Debug, Drop, PartialEq, Eq)]
+#[derive(Debug, Drop)]
 pub struct Reader {
     pub name: Name,
     pub version: u32,
     /// What its requests are signed with: 8 to 64 letters, digits, `-` and `_`.
     pub token: Text,
     pub role: Role,
-    /// The IRI that its annotations name as their creator.
-    pub user: Text,
+    /// The IRI that its annotations name as their creator, which they share.
+    pub user: Shared<Text>,
     /// The groups that it is a member of.
     pub groups: List<Name>,
 }
@@ -93,17 +93,24 @@ pub fn read_reader(
     })
 }
 
-fn own_both(alloc: Global, token: &str, user: &str) -> Result<(Text, Text), ReaderError>
+fn own_both(alloc: Global, token: &str, user: &str) -> Result<(Text, Shared<Text>), ReaderError>
     ensures ok { IfOk result (λ texts. (texts.0 ≡ token.now) × (texts.1 ≡ user.now)) }
     ensures err { IfErr result (λ e. e ≡ ReaderError.Memory) }
 {
     let Ok(token) = Text::new(alloc, token) else {
         return Err(ReaderError::Memory);
     };
-    let Ok(user) = Text::new(alloc, user) else {
+    let Ok(user) = user_of(alloc, user) else {
         return Err(ReaderError::Memory);
     };
     Ok((token, user))
+}
+
+/// A user's IRI, for copies to share.
+pub fn user_of(alloc: Global, iri: &str) -> Result<Shared<Text>, AllocError>
+    ensures value { IfOk result (λ user. user ≡ iri.now) }
+{
+    Shared::new(alloc, Text::new(alloc, iri)?)
 }
 
 fn token_in(tree: &Value) -> Option<&str>

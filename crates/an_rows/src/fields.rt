@@ -17,8 +17,8 @@ ghost use Rattle.an_rows.specs.RowRead.{manifest_group_in, creator_in, tree_in};
 ghost use Rattle.an_rows.specs.Valid.{is_manifest_group, is_tombstone_number};
 
 use crate::refusal::RowError;
-use an_base::{Moment, Name, NameError, Text, is_tree, text_in};
-use an_policy::{Group, group_named, is_user};
+use an_base::{Moment, Name, NameError, Shared, Text, is_tree, text_in};
+use an_policy::{Group, group_named, is_user, user_of};
 use an_state::as_known;
 use serde_json::Value;
 use std::alloc::Global;
@@ -224,7 +224,7 @@ fn is_group_name(name: &Name) -> bool
 }
 
 /// Who wrote an annotation.
-pub(crate) fn creator_in(alloc: Global, tree: &Value) -> Result<Text, RowError>
+pub(crate) fn creator_in(alloc: Global, tree: &Value) -> Result<Shared<Text>, RowError>
     ensures creator { Gives (λ t. t) RowError.Memory result
         (ok_or (creator_in (view tree.now)) RowError.Bytes) }
 {
@@ -234,15 +234,15 @@ pub(crate) fn creator_in(alloc: Global, tree: &Value) -> Result<Text, RowError>
     }
 }
 
-fn creator_of(alloc: Global, text: &str) -> Result<Text, RowError>
+fn creator_of(alloc: Global, text: &str) -> Result<Shared<Text>, RowError>
     ensures { Gives (λ t. t) RowError.Memory result
         (ok_or (only_if is_user text.now) RowError.Bytes) }
 {
     if !is_user(text) {
         return Err(RowError::Bytes);
     }
-    match Text::new(alloc, text) {
-        Ok(text) => Ok(text),
+    match user_of(alloc, text) {
+        Ok(user) => Ok(user),
         Err(_) => Err(RowError::Memory),
     }
 }

@@ -19,7 +19,7 @@ use crate::fields::{
 };
 use crate::members::{push_flag, push_group, push_modified, push_moment, push_tree, push_version};
 use crate::refusal::RowError;
-use an_base::{Moment, Name, Text, push_text_member};
+use an_base::{Moment, Name, Shared, Text, push_text_member};
 use an_keyed::Keyed;
 use an_model::{KeptNote, NoteError, read_note};
 use an_policy::Group;
@@ -43,7 +43,7 @@ fn push_live(out: Vec<u8>, row: &NoteRow, live: &LiveNote<'_>) -> Result<Vec<u8>
         ≡ out.items ++ commas (live_note_members row.now (lent_note live.now))) }
 {
     let out = push_moment(out, "created", live.created)?;
-    let out = push_text_member(out, "creator", live.creator.as_str())?;
+    let out = push_text_member(out, "creator", live.creator.get().as_str())?;
     let out = push_group(out, "group", live.group)?;
     let out = push_from_flag(out, row, live)?;
     Ok(out)
@@ -123,7 +123,7 @@ fn push_tombstone(out: Vec<u8>, row: &NoteRow) -> Result<Vec<u8>, AllocError>
 pub(crate) struct ReadNote {
     pub(crate) manifest: Name,
     pub(crate) group: Group,
-    pub(crate) creator: Text,
+    pub(crate) creator: Shared<Text>,
     pub(crate) created: Moment,
     pub(crate) modified: Option<Moment>,
     pub(crate) tree: KeptNote,
@@ -244,7 +244,7 @@ fn live_note_on(
     tree: &Value,
     manifest: Name,
     group: Group,
-    creator: Text,
+    creator: Shared<Text>,
 ) -> Result<ReadNote, RowError>
     ensures live { Gives note_read RowError.Memory result
         (live_note_on manifest group creator (view tree.now)) }

@@ -61,7 +61,7 @@ fn push_signature(out: Vec<u8>, row: &ReaderRow, reader: &Reader) -> Result<Vec<
 {
     let out = push_text_member(out, "role", role_text(reader.role))?;
     let out = push_text_member(out, "token", reader.token.as_str())?;
-    let out = push_text_member(out, "user", reader.user.as_str())?;
+    let out = push_text_member(out, "user", reader.user.get().as_str())?;
     let out = push_version(out, row.version())?;
     Ok(out)
 }

@@ -45,7 +45,7 @@ fn push_live(
         ≡ out.items ++ compact_text (listed_live base.now row.now (lent_note live.now))) }
 {
     let iri = note_iri(alloc, base, row.owned_by(), row.name())?;
-    let creator = live.creator.as_str();
+    let creator = live.creator.get().as_str();
     let out = push_dressed(
         out,
         live.tree,

@@ -225,7 +225,7 @@ pub(crate) fn fits_but_terms(live: &LiveNote<'_>, wanted: &Wanted) -> bool
     has_iris(live.tree, wanted.iris.as_slice())
         && fits_motivations(live.tree, wanted.motivations.as_slice())
         && fits_ranges(wanted.ranges.as_slice(), live.created)
-        && fits_users(wanted.users.as_slice(), live.creator)
+        && fits_users(wanted.users.as_slice(), live.creator.get())
 }
 
 fn has_iris(note: &KeptNote, iris: &[Text]) -> bool

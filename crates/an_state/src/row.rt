@@ -181,7 +181,7 @@ pub struct NoteRow {
     pub live: bool,
     pub manifest: Option<Name>,
     pub group: Option<Group>,
-    pub creator: Option<Text>,
+    pub creator: Option<Shared<Text>>,
     pub created: Option<Moment>,
     pub modified: Option<Moment>,
     pub tree: Option<KeptNote>,
@@ -229,7 +229,7 @@ pub struct LiveNote<'a> {
     pub manifest: &'a Name,
     pub group: &'a Group,
     /// The IRI of who wrote it.
-    pub creator: &'a Text,
+    pub creator: &'a Shared<Text>,
     pub created: Moment,
     pub modified: Option<Moment>,
     pub tree: &'a KeptNote,
