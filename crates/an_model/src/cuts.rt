@@ -7,19 +7,19 @@ ghost use Rattle.an_base.specs.Tree.{ascend, names};
 ghost use Rattle.an_base.specs.Write.{commas};
 ghost use Rattle.an_model.specs.Served.{HasCuts};
 
-use an_base::{close_members, push_members, push_members_above};
+use an_base::{close_members, push_members, push_members_above, to_u32};
 use serde_json::{Map, Value};
 use std::alloc::{AllocError, Global};
 
 /// How many bytes of an annotation's members stand before the place of each member that the
-/// server writes.
+/// server writes. Members of 4 GiB are refused as want of memory.
 #[derive(Clone, Copy, Debug)]
 pub(crate) struct Cuts {
-    pub(crate) context: usize,
-    pub(crate) created: usize,
-    pub(crate) creator: usize,
-    pub(crate) id: usize,
-    pub(crate) modified: usize,
+    pub(crate) context: u32,
+    pub(crate) created: u32,
+    pub(crate) creator: u32,
+    pub(crate) id: u32,
+    pub(crate) modified: u32,
 }
 
 /// The text of an annotation, with its cuts.
@@ -33,9 +33,9 @@ pub(crate) struct CutText {
 #[derive(Drop)]
 struct Front {
     text: Vec<u8>,
-    context: usize,
-    created: usize,
-    creator: usize,
+    context: u32,
+    created: u32,
+    creator: u32,
 }
 
 /// The compact text of an object, with its cuts.
@@ -69,11 +69,11 @@ fn write_front(alloc: Global, members: &Map<String, Value>) -> Result<Front, All
         ≡ cut (codes "creator") (members_view members.now.entries)) }
 {
     let text = push_members(alloc, Vec::new(alloc), members, "", "@context")?;
-    let context = text.len();
+    let context = to_u32(text.len())?;
     let text = push_members(alloc, text, members, "@context", "created")?;
-    let created = text.len();
+    let created = to_u32(text.len())?;
     let text = push_members(alloc, text, members, "created", "creator")?;
-    let creator = text.len();
+    let creator = to_u32(text.len())?;
     Ok(Front {
         text,
         context,
@@ -105,9 +105,9 @@ fn write_rest(
         creator,
     } = front;
     let text = push_members(alloc, text, members, "creator", "id")?;
-    let id = text.len();
+    let id = to_u32(text.len())?;
     let text = push_members(alloc, text, members, "id", "modified")?;
-    let modified = text.len();
+    let modified = to_u32(text.len())?;
     let text = push_members_above(alloc, text, members, "modified")?;
     let text = close_members(text, 0)?;
     Ok(CutText {

@@ -27,7 +27,9 @@ pub fn push_dressed(
 {
     let start = out.len();
     let cuts = note.cuts();
-    let out = note.kept_tree().push_between(out, 0, cuts.created)?;
+    let out = note
+        .kept_tree()
+        .push_between(out, 0, cuts.created as usize)?;
     let out = push_served(out, note, id, creator, created, modified)?;
     let out = close_members(out, start)?;
     Ok(out)
@@ -67,9 +69,9 @@ fn push_context(
         ++ (member_text (codes "@context") (string context.now)
         ++ commas (below (codes "created") (above (codes "@context") (members_in tree.now)))))) }
 {
-    let out = tree.push_between(out, 0, cuts.context)?;
+    let out = tree.push_between(out, 0, cuts.context as usize)?;
     let out = push_text_member(out, "@context", context)?;
-    let out = tree.push_between(out, cuts.context, cuts.created)?;
+    let out = tree.push_between(out, cuts.context as usize, cuts.created as usize)?;
     Ok(out)
 }
 
@@ -108,7 +110,7 @@ fn push_creation(
         ++ member_text (codes "creator") (string creator.now)))) }
 {
     let out = push_moment(out, "created", created)?;
-    let out = tree.push_between(out, cuts.created, cuts.creator)?;
+    let out = tree.push_between(out, cuts.created as usize, cuts.creator as usize)?;
     let out = push_text_member(out, "creator", creator)?;
     Ok(out)
 }
@@ -125,7 +127,7 @@ fn push_id(
     ensures text { IfOk result (λ v. v.items ≡ out.items
         ++ spliced (codes "creator") (id_member id.now modified) (members_in tree.now)) }
 {
-    let out = tree.push_between(out, cuts.creator, cuts.id)?;
+    let out = tree.push_between(out, cuts.creator as usize, cuts.id as usize)?;
     let out = push_text_member(out, "id", id)?;
     let out = push_modified(out, tree, cuts, modified)?;
     Ok(out)
@@ -144,7 +146,7 @@ fn push_modified(
 {
     match modified {
         Some(modified) => push_change(out, tree, cuts, modified),
-        None => tree.push_above(out, cuts.id),
+        None => tree.push_above(out, cuts.id as usize),
     }
 }
 
@@ -160,9 +162,9 @@ fn push_change(
         ++ (member_text (codes "modified") (moment_string modified)
         ++ commas (above (codes "modified") (members_in tree.now))))) }
 {
-    let out = tree.push_between(out, cuts.id, cuts.modified)?;
+    let out = tree.push_between(out, cuts.id as usize, cuts.modified as usize)?;
     let out = push_moment(out, "modified", modified)?;
-    let out = tree.push_above(out, cuts.modified)?;
+    let out = tree.push_above(out, cuts.modified as usize)?;
     Ok(out)
 }
 

@@ -16,7 +16,7 @@ returns c =
     up_to_next (codes "created") (codes "creator") ms _ _ c.requires.order refl created c.in_ok-text-3.ensures.text in
     record {
       text = creator;
-      context = c.len-context.ensures ∙ c.in_ok-text.text.ok.0 ∙ ap length context;
-      created = c.len-created.ensures ∙ c.in_ok-text-2.text.ok.0 ∙ ap length created;
-      creator = c.len-creator.ensures ∙ c.in_ok-text-3.text.ok.0 ∙ ap length creator;
+      context = c.in_ok-context.ensures.value ∙ c.len.ensures ∙ c.in_ok-text.text.ok.0 ∙ ap length context;
+      created = c.in_ok-created.ensures.value ∙ c.len-2.ensures ∙ c.in_ok-text-2.text.ok.0 ∙ ap length created;
+      creator = c.in_ok-creator.ensures.value ∙ c.len-3.ensures ∙ c.in_ok-text-3.text.ok.0 ∙ ap length creator;
     }

@@ -19,7 +19,7 @@ returns c =
         context = c.requires.context;
         created = c.requires.created;
         creator = c.requires.creator;
-        id = c.len-id.ensures ∙ c.in_ok-text.text.ok.0 ∙ ap length id;
-        modified = c.len-modified.ensures ∙ c.in_ok-text-2.text.ok.0 ∙ ap length modified;
+        id = c.in_ok-id.ensures.value ∙ c.len.ensures ∙ c.in_ok-text.text.ok.0 ∙ ap length id;
+        modified = c.in_ok-modified.ensures.value ∙ c.len-2.ensures ∙ c.in_ok-text-2.text.ok.0 ∙ ap length modified;
       };
     }
