@@ -1,7 +1,6 @@
 //! Requests at a desk and at a store of one seat, whose keeper fails a call.
 ghost use Rattle.std.specs.Prelude.{◌≡◌, ◌<◌, length};
 
-use crate::case::noon;
 use crate::play::{fresh_link, with_lines};
 use crate::stores::cells;
 use an_app::{session, session_at_desk};
@@ -10,14 +9,15 @@ use an_keep::MemKeeper;
 use an_search::{Settings, read_settings};
 use an_shelf::Desk;
 use an_store::{Naming, Opened, Seat, Store, open_store};
+use an_tables::noon;
 use an_world::{MemLink, SetClock};
 use std::alloc::Global;
 use std::marker::Brand;
 use std::str::from_utf8;
 use std::sync::Wait;
 
-/// Answers rows by the requests of a case at a store into which its lines were imported, each over a
-/// link of its own, and sent once more where the keeper failed: `desk 7` or `store 7`, where the
+/// Answers rows by the requests of a case at a store into which its lines were imported, each over
+/// a link of its own, and sent once more where the keeper failed: `desk 7` or `store 7`, where the
 /// seventh call of the keeper fails, counted from the first of the import. It is answered with the
 /// statuses, and whether the cells at the end are those of no failing call.
 #[derive(Drop)]

@@ -2,23 +2,19 @@
 //! them, and prints those that come out otherwise.
 #![tactic(auto)]
 
-mod case;
 mod failing;
 mod play;
-mod rows;
 mod stores;
 mod sure_runs;
-mod table;
 
 use an_report::{report, wrong_with};
-use case::Case;
+use an_tables::{Case, Table};
 use play::play;
 use std::process::ExitCode;
 use std::rt::Files;
 use std::sync::Wait;
 use std::thread::Threads;
 use std::{fs, io};
-use table::Table;
 
 /// Plays the table on standard input, and ends with 0 where each case came out as it is due.
 fn main(rt: HostRuntime) -> ExitCode {

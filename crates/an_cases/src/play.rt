@@ -3,9 +3,7 @@ ghost use Rattle.an_world.specs.Memory.{traffic_of};
 ghost use Rattle.an_session.specs.Session.{line};
 ghost use Rattle.an_door.specs.Ends.{IsFresh};
 
-use crate::case::{Case, Kind};
 use crate::failing::Failing;
-use crate::rows::answer_rows;
 use crate::stores::Stores;
 use crate::sure_runs::SureRuns;
 use an_app::{AtStores, Finished, MemDoor, import, run};
@@ -14,6 +12,7 @@ use an_calls::{Answers, TwinRows};
 use an_keep::{Cell, Change, KeepError, Keeper, MemKeeper};
 use an_report::Outcome;
 use an_shelf::Desk;
+use an_tables::{Case, Kind, answer_rows};
 use an_world::{MemLink, SetClock, SureLink};
 use std::alloc::{AllocError, Global};
 use std::sync::Wait;

@@ -1,10 +1,10 @@
-use crate::case::noon;
 use an_app::{Status, import, session_at_desk};
 use an_base::Bytes;
 use an_calls::{Answers, RowError, cell_shown, look_at, number, two_parts, two_words};
 use an_keep::{Cell, Change, KeepError, Keeper, MemKeeper};
 use an_search::read_settings;
 use an_shelf::{Desk, OpenError};
+use an_tables::noon;
 use an_world::{MemLink, SetClock};
 use std::alloc::{AllocError, Global};
 use std::str::from_utf8;
@@ -29,9 +29,8 @@ impl Stores {
 
 /// Of a store that is gone a row is `new`. Of a closed one it is `open`, `cells`, which shows them
 /// all, `put 1 0 | {}`, which puts a cell, or `faults`, which counts the calls of its keeper that
-/// failed. Of an open one it is `close`, a look at its state, as `length 1`, `row 1 0` or
-/// `changes 1 0 | {}`, `import TEXT`, whose lines end in `\n`, or `session TEXT`, whose lines end in
-/// `\r\n`.
+/// failed. Of an open one it is `close`, a look at its state, as `length 1`, `row 1 0` or `changes
+/// 1 0 | {}`, `import TEXT`, whose lines end in `\n`, or `session TEXT`, whose lines end in `\r\n`.
 impl Answers for Stores {
     fn answer(&mut self, alloc: Global, argument: &str) -> Result<String, RowError> {
         match argument {

@@ -139,8 +139,8 @@ impl Table {
         Ok(())
     }
 
-    /// Adds a line to the text, the input, the link, the output or the rows above it: of HTTP behind
-    /// `>`, of anything else behind `|`.
+    /// Adds a line to the text, the input, the link, the output or the rows above it: of HTTP
+    /// behind `>`, of anything else behind `|`.
     fn add_ended(&mut self, line: &str, end: &str) -> Result<(), LineError> {
         self.add(line.as_bytes())?;
         self.add(end.as_bytes())
