@@ -113,8 +113,8 @@ fn shown_reply(alloc: Global, allow: Allow, shown: Result<Shown, Code>) -> Resul
     }
 }
 
-/// What is shown of what is read, or why it isn't. An annotation is an LDP resource, and a container
-/// an LDP container.
+/// What is shown of what is read, or why it isn't. An annotation is an LDP resource, and a
+/// container an LDP container.
 fn shown_to<T: Look, L: Ledger>(
     alloc: Global,
     look: &T,

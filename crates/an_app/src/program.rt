@@ -18,14 +18,14 @@ use std::alloc::Global;
 use std::sync::Wait;
 use std::thread::Threads;
 
-/// Does what the words say. They are those of a form, each behind a word that names the store, whose
-/// cells the keeper has: `import`, which writes lines to the store; `export`, which prints what the
-/// reader of a name sees of it; with the base of all IRIs and how many items a page has,
-/// `find`, which plays lines over a state of its own, or `session`, which serves one connection over
-/// the link, or, with a port, how many are served at once and how many in all, `serve`, which serves
-/// the connections that come in at the door; or, with how many annotations and a seed, `trial`,
-/// which plays a generated input. The run ends as misunderstood for other words, where nothing is
-/// read. The door may not be bound yet.
+/// Does what the words say. They are those of a form, each behind a word that names the store,
+/// whose cells the keeper has: `import`, which writes lines to the store; `export`, which prints
+/// what the reader of a name sees of it; with the base of all IRIs and how many items a page has,
+/// `find`, which plays lines over a state of its own, or `session`, which serves one connection
+/// over the link, or, with a port, how many are served at once and how many in all, `serve`, which
+/// serves the connections that come in at the door; or, with how many annotations and a seed,
+/// `trial`, which plays a generated input. The run ends as misunderstood for other words, where
+/// nothing is read. The door may not be bound yet.
 pub fn run<
     R: Threads + Wait + Sync,
     K: Keeper + Send,

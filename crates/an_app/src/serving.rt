@@ -101,8 +101,9 @@ fn serve_opened<
 }
 
 /// Serves the connections that come in at a door, at as many of them at once as there are seats of
-/// the store, until the door has ended and each of them is handed in, and prints `served N`, N being
-/// their number. Where the door fails a call it prints `door failed`. Then the store is closed.
+/// the store, until the door has ended and each of them is handed in, and prints `served N`, N
+/// being their number. Where the door fails a call it prints `door failed`. Then the store is
+/// closed.
 pub fn serve<
     J: Naming + Send + Sync,
     R: Threads + Wait + Sync,

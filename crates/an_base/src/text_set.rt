@@ -2,7 +2,8 @@ ghost use Rattle.std.specs.Prelude.{◌≡◌, ◌≤◌, ◌<◌, ◌++◌, ◌
 ghost use Rattle.std.specs.List.{prefix_len, starts_with};
 ghost use Rattle.std.specs.Prelude.{bytes_eq, nat_eq, slice_range, string_bytes, true, IfOk};
 ghost use Rattle.std.specs.Str.{is_utf8};
-ghost use Rattle.an_base.specs.TextSet.{Ascend, are_ends, ascending, has_text, is_below, pieces, start_of};
+ghost use Rattle.an_base.specs.TextSet.{Ascend, are_ends, ascending, has_text};
+ghost use Rattle.an_base.specs.TextSet.{is_below, pieces, start_of};
 
 use crate::copy::TryCopy;
 use crate::text::Text;

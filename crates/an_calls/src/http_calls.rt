@@ -1,5 +1,5 @@
-//! Rows on requests of HTTP, and on the reply for want of memory. In their texts `\r` and `\n` stand
-//! for the two signs that end a line.
+//! Rows on requests of HTTP, and on the reply for want of memory. In their texts `\r` and `\n`
+//! stand for the two signs that end a line.
 use crate::rows::RowError;
 use an_base::Bytes;
 use an_http::{Auth, Buffer, LinkError, Next, Request, next_request, put_memory_reply};

@@ -1,6 +1,7 @@
-//! Rows of cases: calls of the crates below the server, each an argument and the answer that is due.
-//! They show definitions, by values from the standards and from the rules, and that calls which take
-//! memory succeed where there is enough. What a contract says in full, and a line shows, has no row.
+//! Rows of cases: calls of the crates below the server, each an argument and the answer that is
+//! due. They show definitions, by values from the standards and from the rules, and that calls
+//! which take memory succeed where there is enough. What a contract says in full, and a line shows,
+//! has no row.
 #![tactic(auto)]
 
 pub use call::{Call, call_named};

@@ -24,8 +24,8 @@ pub fn parts(alloc: Global, text: &str) -> Result<String, RowError> {
     Ok(parts_shown(alloc, &note)?)
 }
 
-/// Each part stands behind its mark: motivations, texts, body IRIs, targets with the number of their
-/// selectors and their region, and the words of the texts with their terms.
+/// Each part stands behind its mark: motivations, texts, body IRIs, targets with the number of
+/// their selectors and their region, and the words of the texts with their terms.
 fn parts_shown(alloc: Global, note: &Note) -> Result<String, AllocError> {
     let mut found = String::new(alloc);
     add_texts(&mut found, "m", note.motivations())?;

@@ -47,8 +47,8 @@ impl Rounds {
 }
 
 /// A line in a round, for an object. For `<k>` stands the number of the object, for `<+2>` that of
-/// its second write in the round, and for `<heron|swan|gull>` one of the words, the next one for the
-/// next object and in the next round.
+/// its second write in the round, and for `<heron|swan|gull>` one of the words, the next one for
+/// the next object and in the next round.
 pub fn line_in(
     alloc: Global,
     line: &str,

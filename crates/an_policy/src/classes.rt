@@ -5,7 +5,8 @@ ghost use Rattle.an_base.specs.Outcome.{passes};
 ghost use Rattle.an_keyed.specs.Index.{IsHashed};
 ghost use Rattle.an_policy.specs.Audience.{identity, may};
 ghost use Rattle.an_policy.specs.AudienceHash.{audience_hash};
-ghost use Rattle.an_policy.specs.Classes.{class_of, classes_are_distinct, same_audience, with_class};
+ghost use Rattle.an_policy.specs.Classes.{class_of, classes_are_distinct};
+ghost use Rattle.an_policy.specs.Classes.{same_audience, with_class};
 ghost use Rattle.an_policy.specs.Classes.{Grows};
 
 use crate::audience::{has_parts, hash_of, hash_of_parts};

@@ -11,9 +11,9 @@ pub struct Row<'a> {
     pub due: &'a str,
 }
 
-/// Reads a line of a table, with the text of lines that stands above it, and answers the row that it
-/// is. It is a comment behind `#`; `lines`, which begins another text of lines; a line of that text
-/// behind `| `; or a row, with ` -> ` before the answer that is due.
+/// Reads a line of a table, with the text of lines that stands above it, and answers the row that
+/// it is. It is a comment behind `#`; `lines`, which begins another text of lines; a line of that
+/// text behind `| `; or a row, with ` -> ` before the answer that is due.
 pub fn read_row<'a>(lines: &mut String, line: &'a str) -> Result<Option<Row<'a>>, AllocError> {
     if let Some(line) = line.strip_prefix("| ") {
         lines.push_str(line)?;

@@ -15,8 +15,8 @@ pub trait Service<C> {
     // By what it answers, in this context.
     ghost rules: { C → Rules Entry };
 
-    // What it may stand for: a list of entries, those of them that are its connection's own, and how
-    // many faults its answers met.
+    // What it may stand for: a list of entries, those of them that are its connection's own, and
+    // how many faults its answers met.
     ghost stands: { Self → Known Entry → Type 0 };
 
     // What stays of it, whatever it answers.

@@ -1,5 +1,5 @@
-//! A store: a keeper's cells, the state that they stand for, and the look that requests are answered
-//! from.
+//! A store: a keeper's cells, the state that they stand for, and the look that requests are
+//! answered from.
 #![tactic(auto)]
 
 pub use closing::reopen;

@@ -46,7 +46,8 @@ fn words_of<R: Env + AllocGlobal>(rt: &R) -> io::Result<Vec<String>> {
 }
 
 /// Does what the words say. The first is the store: `-` is an empty one in memory, and any other is
-/// the path of a file. The handles to threads and to ports come beside the runtime that opens files.
+/// the path of a file. The handles to threads and to ports come beside the runtime that opens
+/// files.
 fn run_words<R: Threads + Wait + Net<Listener = TcpListener, Stream = TcpStream> + Sync>(
     rt: &R,
     host: &HostRuntime,

@@ -12,8 +12,8 @@ pub struct ToldKeeper {
 }
 
 impl ToldKeeper {
-    /// The cells that are read when the store at this path is opened are always told, and the writes
-    /// that are kept where this says so.
+    /// The cells that are read when the store at this path is opened are always told, and the
+    /// writes that are kept where this says so.
     pub fn at(host: &HostRuntime, path: Text, are_writes_told: bool) -> ToldKeeper {
         let now = second_now(host);
         ToldKeeper {

@@ -101,8 +101,8 @@ const TRIES: u32 = 500;
 /// How many seconds a read or a write of a connection may take.
 const PATIENCE: u64 = 30;
 
-/// The next connection, if the system gives one in time. That too many descriptors are open, or that
-/// a connection is gone before it is taken, is no fault of the door.
+/// The next connection, if the system gives one in time. That too many descriptors are open, or
+/// that a connection is gone before it is taken, is no fault of the door.
 fn stream_of<B: Binder>(binder: &B, listener: &Option<TcpListener>) -> Option<TcpStream> {
     let listener = listener.as_ref()?;
     for _ in 0..TRIES {
