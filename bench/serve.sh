@@ -1,7 +1,8 @@
 #!/usr/bin/env bash
-# serve.sh [SECONDS [ANNOTATIONS]]: times a server of a store on a file over loopback, for SECONDS
-# (4) a row, with ANNOTATIONS (100,000) of 32 words in it, and nginx beside it, which serves files
-# of the same bytes in the same minutes:
+# serve.sh [SECONDS [ANNOTATIONS [THREADS]]]: times a server of a store on a file over loopback, for
+# SECONDS (4) a row, with ANNOTATIONS (100,000) of 32 words in it, and nginx beside it, which serves
+# files of the same bytes in the same minutes, each asked by THREADS (1) threads, or by as many as
+# there are connections where these are fewer:
 # - an annotation, a manifest of 900 canvases, and a search page of ten, each over 1, 8 and 64
 #   connections that are kept: requests a second, and microseconds of a processor a request;
 # - the same over 8 with a writer at full speed beside: what is left of the requests a second, and
@@ -10,8 +11,8 @@
 #   standard input and output: microseconds of a processor each;
 # - the memory of the server, beside that of the process of the import.
 # The store stands in TMPDIR; its import waits for the disk once a line, so a slow disk takes long.
-# Asks by wrk, which takes a processor of its own. Installs by apt-get, where they aren't there:
-# wrk, nginx-light, curl.
+# Asks by wrk, of which a thread takes a processor of its own. Installs by apt-get, where they
+# aren't there: wrk, nginx-light, curl.
 set -eu
 . "$(dirname "$0")/measure.sh"
 . "$(dirname "$0")/inputs.sh"
@@ -19,6 +20,7 @@ set -eu
 need wrk:wrk nginx:nginx-light curl:curl
 seconds=${1:-4}
 annotations=${2:-100000}
+threads=${3:-1}
 base=http://a.example
 port=$((20000 + RANDOM % 20000))
 files=$((port + 1))
@@ -41,7 +43,7 @@ each() { awk -v t="$1" '/requests in/ { printf "%.1f", $1 ? t / $1 : 0 }' "$2"; 
 ask() {
   local process=$1 url=$2 before
   before=$(taken "$process")
-  wrk -t 1 -c "$3" -d "${seconds}s" --latency "$url" >"$work/wrk"
+  wrk -t $(($3 < threads ? $3 : threads)) -c "$3" -d "${seconds}s" --latency "$url" >"$work/wrk"
   rate=$(awk '/Requests\/sec/ { printf "%d", $2 }' "$work/wrk")
   slowest=$(awk '$1 == "99%" { print $2 }' "$work/wrk")
   cost=$(each "$(($(taken "$process") - before))" "$work/wrk")
