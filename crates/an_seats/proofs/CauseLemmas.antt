@@ -7,7 +7,7 @@ use Rattle.an_session.specs.Session.{Ends, Line, Moves, Stops}
 use Rattle.an_session.specs.Trail.{Item, texts}
 use Rattle.an_session.specs.declared.ended.Ended.{Ended}
 use Rattle.an_session.specs.declared.ended.Ended.TheVariants as ended
-use Rattle.an_store.specs.Lists.{Seated}
+use Rattle.an_published.specs.Lists.{Seated}
 use Rattle.an_world.specs.Link.{Traffic}
 use Rattle.an_door.specs.Ends.{EndsWith, IsCaused}
 use Rattle.an_seats.specs.Seats.{Sitting}

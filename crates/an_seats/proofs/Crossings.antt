@@ -6,7 +6,7 @@ use denote.Param.SendFields.{declared_sync}
 use Rattle.an_keep.specs.declared.keeper.Keeper as Keeper
 use Rattle.an_search.specs.contracts.settings.Settings as Settings
 use Rattle.an_search.proofs.settings.Settings.TheSendSync as settings
-use Rattle.an_store.specs.declared.view.Naming as Naming
+use Rattle.an_published.specs.declared.view.Naming as Naming
 use Rattle.an_store.specs.contracts.store.Store as Store
 use Rattle.an_store.proofs.Crossings.{store_sync}
 use Rattle.an_seats.specs.contracts.server.Server as Server

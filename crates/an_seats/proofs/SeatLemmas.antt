@@ -8,7 +8,6 @@ use Rattle.an_code.specs.declared.code.Code.TheVariants as code
 use Rattle.an_http.specs.declared.reply.Allow.{Allow}
 use Rattle.an_http.specs.declared.reply.Reply.{Reply}
 use Rattle.an_http.specs.declared.request.Request.{Request}
-use Rattle.an_keep.specs.Keeper.{Told}
 use Rattle.an_laws.specs.Events.{Event, IsLegal, added_by, state_at, wrote}
 use Rattle.an_machine.specs.Legal.{Write}
 use Rattle.an_machine.specs.Step.{step}
@@ -40,10 +39,9 @@ use Rattle.an_shelf.specs.declared.error.WriteError.{WriteError}
 use Rattle.an_shelf.specs.declared.error.WriteError.TheVariants as failed
 use Rattle.an_state.specs.State.{State}
 use Rattle.an_state.specs.declared.command.Command.{Command}
-use Rattle.an_state.specs.declared.entry.Entry.{Entry}
-use Rattle.an_store.specs.Lists.{Seated}
+use Rattle.an_published.specs.Lists.{Seated}
 use Rattle.an_store.specs.Writing.{Missed, WasRefused, Wrote}
-use Rattle.an_store.proofs.Lists.{prefix_self, prefix_trans}
+use Rattle.an_published.proofs.Lists.{prefix_self, prefix_trans}
 use Rattle.an_seats.specs.Coming.{IsKnownAt, Looked, Rested, SeatComes, SeatLoses}
 use Rattle.an_seats.specs.Seats.{Sitting, known_at, store_rules}
 

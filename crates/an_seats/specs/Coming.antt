@@ -9,7 +9,7 @@ use Rattle.an_search.specs.Site.{Site}
 use Rattle.an_serve.specs.AtDesk.{IsAnswer}
 use Rattle.an_serve.specs.declared.responding.Response.{Response}
 use Rattle.an_session.specs.Trail.{Known}
-use Rattle.an_store.specs.Lists.{Seated}
+use Rattle.an_published.specs.Lists.{Seated}
 use Rattle.an_seats.specs.Seats.{known_at}
 
 -- a seat stands for what is known there

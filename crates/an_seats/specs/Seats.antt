@@ -7,7 +7,7 @@ use Rattle.an_serve.specs.AtDesk.{Answered}
 use Rattle.an_session.specs.Session.{Line, Session}
 use Rattle.an_session.specs.Trail.{Known, Rules}
 use Rattle.an_session.specs.declared.ended.Ended.{Ended}
-use Rattle.an_store.specs.Lists.{Seated}
+use Rattle.an_published.specs.Lists.{Seated}
 
 -- by what a store answers that others write to meanwhile
 abbrev pub store_rules : Type 0 → (ℤ → Bool) → Site → Rules Event

@@ -1,7 +1,7 @@
 ghost use Rattle.std.specs.Prelude.{◌≡◌, ◌≤◌, IsTrue};
 ghost use Rattle.an_laws.specs.Events.{IsLegal};
 ghost use Rattle.an_session.specs.Session.{ReadsRequests, line};
-ghost use Rattle.an_store.specs.Lists.{Stands};
+ghost use Rattle.an_published.specs.Lists.{Stands};
 ghost use Rattle.an_seats.specs.Seats.{Sitting};
 
 use crate::guest::Guest;

@@ -1,67 +1,17 @@
--- That threads may share a store. What a command holds goes through JSON values, which hold
--- themselves, so no crossing of it is known by itself: here each part is shown once, and then cited.
+-- That threads may share a store.
 use denote.RattleType.{RattleType}
-use denote.Param.Send.{IsSend, IsSync, view_send, sendable}
-use denote.Param.SendFields.{as_row_send, declared_send, declared_sync, variants_send}
-use Rattle.std.proofs.Crossing as heap
-use Rattle.std.proofs.MapsCrossing as maps
+use denote.Param.Send.{IsSend, IsSync, view_send}
+use denote.Param.SendFields.{as_row_send, declared_send, declared_sync}
 use Rattle.std.proofs.marker.PhantomData.TheSendSync as phantom
 use Rattle.std.proofs.option.Option.TheSendSync as option
 use Rattle.std.proofs.sync.Mutex.TheSendSync as mutex
-use Rattle.std.specs.contracts.alloc.Global as Global
-use Rattle.std.specs.contracts.impls.GlobalAllocator.TheImpl as in_heap
-use Rattle.serde_json.proofs.value.Value.TheLaws.TheKnot as value
 use Rattle.logbook.proofs.word.Word.TheSendSync as word
-use Rattle.left_right.specs.contracts.writer.Writer as Writer
-use Rattle.left_right.proofs.writer.Writer.TheSendSync as writer
-use Rattle.an_base.specs.contracts.tree.Tree as Tree
-use Rattle.an_base.proofs.list.List.TheSendSync as list
-use Rattle.an_base.proofs.moment.Moment.TheSendSync as moment
-use Rattle.an_base.proofs.name.Name.TheSendSync as name
-use Rattle.an_base.proofs.shared.Shared.TheSendSync as shared
 use Rattle.an_keep.specs.declared.keeper.Keeper as Keeper
-use Rattle.an_policy.proofs.group.Group.TheSendSync as group
-use Rattle.an_state.specs.contracts.command.Command as Command
-use Rattle.an_state.specs.contracts.entry.Entry as Entry
-use Rattle.an_state.proofs.activity.Activity.TheSendSync as activity
 use Rattle.an_state.proofs.book.Book.TheSendSync as book
-use Rattle.an_state.proofs.entry.Row.TheSendSync as row
-use Rattle.an_store.specs.declared.view.Naming as Naming
-use Rattle.an_store.specs.contracts.published.Addition as Addition
-use Rattle.an_store.specs.contracts.published.Published as Published
-use Rattle.an_store.specs.contracts.published.PublishedAbsorbAddition.TheImpl as absorb
-use Rattle.an_store.specs.contracts.published.Shared as State
+use Rattle.an_published.specs.declared.view.Naming as Naming
 use Rattle.an_store.specs.contracts.side.Side as Side
 use Rattle.an_store.specs.contracts.store.Store as Store
-use Rattle.an_store.specs.contracts.view.OneList as OneList
-use Rattle.an_store.specs.contracts.view.OneListProtocolPublishedView.TheImpl as rule
-use Rattle.an_store.specs.contracts.view.View as View
-use Rattle.an_store.proofs.history.Mark.TheSendSync as mark
-use Rattle.an_store.proofs.published.Published.TheSendSync as published
-
--- ---- a tree
-
-tree_send : IsSend Tree.the_row
-tree_send = search (maps.crosses, heap.crosses, value.crosses, sendable) depth 60 fits 20000
-
-tree_sync : IsSync Tree.the_row
-tree_sync = search (maps.crosses, heap.crosses, value.crosses, sendable) depth 60 fits 20000
-
--- ---- what is added to a store
-
-command_send : IsSend Command.the_row
-command_send = search (tree_send, tree_sync, shared.the_send, name.the_send, group.the_send, variants_send, as_row_send, sendable) depth 40 fits 20000
-
-entry_send : IsSend Entry.the_row
-entry_send = search (command_send, moment.the_send, name.the_send, option.the_send, row.the_send, activity.the_send, activity.the_sync, shared.the_send, list.the_send, variants_send, as_row_send, sendable) depth 40 fits 20000
-
-addition_send : IsSend Addition.the_row
-addition_send = search (entry_send, mark.the_send, declared_send)
-
--- ---- a store
-
-writer_send : IsSend (Writer.the_row Published.the_row Addition.the_row View.the_row OneList.the_row Global.the_row State.the_row absorb.ghosts rule.ghosts in_heap.ghosts)
-writer_send = writer.the_send Published.the_row Addition.the_row View.the_row OneList.the_row Global.the_row State.the_row absorb.ghosts rule.ghosts in_heap.ghosts published.the_send addition_send heap.send published.the_sync heap.sync heap.frees
+use Rattle.an_published.proofs.Crossings.{addition_send, writer_send}
 
 module _ (K J : RattleType) (k : Keeper.Ghosts K.Denot) (j : Naming.Ghosts J.Denot) where
   side_send : IsSend K → IsSend J → IsSend (Side.the_row K J k j)

@@ -5,15 +5,15 @@ use Rattle.an_keep.specs.Keeper.{Told}
 use Rattle.an_state.specs.State.{State}
 use Rattle.an_shelf.specs.Store as shelf
 use Rattle.an_laws.specs.Events.{Event, Opened, IsLegal, Keeps, state_at, told_at}
-use Rattle.an_store.specs.History.{head_of}
-use Rattle.an_store.specs.Known.{Known, newcomer}
+use Rattle.an_published.specs.History.{head_of}
+use Rattle.an_published.specs.Known.{Known, newcomer}
 use Rattle.an_store.specs.Opening.{Begun}
-use Rattle.an_store.specs.Rule.{IsOneList, Ready, Shows, accepted, notice}
+use Rattle.an_published.specs.Rule.{IsOneList, Ready, Shows, accepted, notice}
 use Rattle.an_store.specs.Side.{Sided, stock_of}
-use Rattle.an_store.specs.declared.published.Published.{Published}
-use Rattle.an_store.specs.declared.published.Addition.{Addition}
+use Rattle.an_published.specs.declared.published.Published.{Published}
+use Rattle.an_published.specs.declared.published.Addition.{Addition}
 use Rattle.an_store.proofs.Sides.{keeps-itself}
-use Rattle.an_store.proofs.Steps.{begins}
+use Rattle.an_published.proofs.Steps.{begins}
 
 -- an opening alone is legal, where the cells told are those of the state
 pub legal-opened : (list : List Event) (s : State) (told : Told) → list ≡ Opened s told ∷ [] → shelf.Stands told s → IsLegal list

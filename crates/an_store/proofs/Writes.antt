@@ -1,5 +1,5 @@
 -- What a seat learns by a write.
-use Rattle.std.proofs.Common.{◌≡◌, ℤ, true, false, List, [], ◌∷◌, ◌++◌, Option, Some, None, Result, Ok, Err, refl, sym, ap, subst, ◌∙◌, inl, inr}
+use Rattle.std.proofs.Common.{◌≡◌, ℤ, true, false, List, [], ◌∷◌, ◌++◌, Option, Some, None, Result, Ok, sym, ap, subst, ◌∙◌, inl, inr}
 use Rattle.std.proofs.lemmas.Bool.{false≢true}
 use Rattle.std.proofs.lemmas.List.{append-nil}
 use mathlib.Core.List.{IsPrefix}
@@ -20,11 +20,11 @@ use Rattle.an_shelf.proofs.ClosingLemmas.{stand-for}
 use Rattle.an_shelf.proofs.WritingLemmas.{decided-by, repeat-none}
 use Rattle.an_laws.specs.Events.{Event, IsLegal, added_by, state_at, wrote}
 use Rattle.an_laws.specs.Events as event
-use Rattle.an_store.specs.Lists.{Seated, Stands, last_of}
+use Rattle.an_published.specs.Lists.{Seated, Stands, last_of}
 use Rattle.an_store.specs.Opening.{Closes}
 use Rattle.an_store.specs.Stock.{Stock, Stocked, LacksOne, Settled, Took}
 use Rattle.an_store.specs.Writing.{Wrote, WasRefused}
-use Rattle.an_store.proofs.Lists.{prefix_more, prefix_self, prefix_trans, stands_longer, last_of-push}
+use Rattle.an_published.proofs.Lists.{prefix_more, prefix_self, prefix_trans, stands_longer, last_of-push}
 
 -- ---- whether a write adds something
 

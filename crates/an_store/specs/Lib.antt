@@ -1,7 +1,3 @@
-pub mod History
-pub mod Lists
-pub mod Known
-pub mod Rule
 pub mod Stock
 pub mod Side
 pub mod Writing

@@ -8,12 +8,12 @@ use Rattle.an_state.specs.State.{State}
 use Rattle.an_shelf.specs.Opening.{StandFor}
 use Rattle.an_shelf.specs.Store.{Stands}
 use Rattle.an_laws.specs.Events.{Event, Opened, IsLegal, state_at}
-use Rattle.an_store.specs.History.{head_of}
-use Rattle.an_store.specs.Known.{Known}
-use Rattle.an_store.specs.Lists.{Seated, newly_seated}
-use Rattle.an_store.specs.Rule.{notice}
-use Rattle.an_store.specs.declared.published.Published.{Published}
-use Rattle.an_store.specs.declared.published.Addition.{Addition}
+use Rattle.an_published.specs.History.{head_of}
+use Rattle.an_published.specs.Known.{Known}
+use Rattle.an_published.specs.Lists.{Seated, newly_seated}
+use Rattle.an_published.specs.Rule.{notice}
+use Rattle.an_published.specs.declared.published.Published.{Published}
+use Rattle.an_published.specs.declared.published.Addition.{Addition}
 
 -- the history that names the store, the list that is published, its seats, the state, the cells
 -- where the keeper tells them, and how often the keeper failed

@@ -4,11 +4,11 @@ use Rattle.logbook.specs.Pages.{Book, Named}
 use Rattle.an_keep.specs.Keeper.{Told}
 use Rattle.an_state.specs.State.{State}
 use Rattle.an_laws.specs.Events.{state_at}
-use Rattle.an_store.specs.History.{head_of}
-use Rattle.an_store.specs.Rule.{ComeBehind, accepted}
+use Rattle.an_published.specs.History.{head_of}
+use Rattle.an_published.specs.Rule.{ComeBehind, accepted}
 use Rattle.an_store.specs.Stock.{Stock, Stocked}
-use Rattle.an_store.specs.declared.published.Published.{Published}
-use Rattle.an_store.specs.declared.published.Addition.{Addition}
+use Rattle.an_published.specs.declared.published.Published.{Published}
+use Rattle.an_published.specs.declared.published.Addition.{Addition}
 
 -- a stock of these parts
 abbrev pub stock_of : Published → List Addition → State → Told → ℕ → Stock

@@ -12,7 +12,7 @@ use Rattle.an_shelf.specs.Writing.{IsToKeep}
 use Rattle.an_shelf.specs.declared.error.WriteError.{WriteError}
 use Rattle.an_shelf.specs.declared.error.WriteError.TheVariants.{Refused, Keeper, Memory}
 use Rattle.an_laws.specs.Events.{Event, IsLegal, added_by, state_at, wrote}
-use Rattle.an_store.specs.Lists.{Seated}
+use Rattle.an_published.specs.Lists.{Seated}
 
 -- The write was decided at this list, which goes on from the one that the seat saw. What it adds
 -- there was kept, as the keeper told then; it is the seat's own, and the seat saw it.

@@ -2,19 +2,11 @@
 //! writes at a time.
 #![tactic(auto)]
 
+pub use an_published::{Naming, Seat, Shown};
 pub use opened::{Opened, open_store};
-pub use seat::{Seat, Shown};
 pub use side::Side;
 pub use store::Store;
-pub use view::Naming;
 
-mod copy;
-mod event;
-mod history;
-mod lock;
 mod opened;
-mod published;
-mod seat;
 mod side;
 mod store;
-mod view;

@@ -9,19 +9,14 @@ ghost use Rattle.an_shelf.specs.Opening.{StandFor, WasDamagedBy};
 ghost use Rattle.an_shelf.specs.Store.{Stands};
 ghost use Rattle.an_state.specs.Sound.{is_sound};
 ghost use Rattle.an_laws.specs.Events.{Opened as Begins, IsLegal};
-ghost use Rattle.an_store.specs.Lists.{newly_seated};
+ghost use Rattle.an_published.specs.Lists.{newly_seated};
 ghost use Rattle.an_store.specs.Opening.{Begun, IsStart};
-ghost use Rattle.an_store.specs.Rule.{notice};
+ghost use Rattle.an_published.specs.Rule.{Ready, Shows, notice};
 
-use crate::copy::look_at;
-use crate::history::{Head, begin};
-use crate::lock::{StoreWriter, publish};
-use crate::published::Published;
-use crate::seat::Seat;
 use crate::side::Side;
 use crate::store::Store;
-use crate::view::Naming;
 use an_keep::Keeper;
+use an_published::{Head, Naming, Published, Seat, StoreWriter, begin, look_at, publish};
 use an_shelf::{Loaded, OpenError, load};
 use an_snapshot::Snapshot;
 use an_state::Book;
@@ -126,7 +121,14 @@ fn begin_store<K: Keeper, R: Wait>(
         (λ seat. seat ≡ newly_seated store.book store.list) store.seats) }
 {
     let Loaded { book, snapshot } = loaded;
-    let (head, mut writer) = begin_writer(rt, alloc, &keeper, &book, snapshot, seats)?;
+    let (head, mut writer) = match begin_writer(rt, alloc, &keeper, &book, snapshot, seats) {
+        Ok(begun) => begun,
+        Err(error) => {
+            drop(book);
+            drop(keeper);
+            return Err(error);
+        }
+    };
     match make_seats(alloc, &mut writer, seats) {
         Ok(seats) => Ok(Opened {
             book,
@@ -137,6 +139,8 @@ fn begin_store<K: Keeper, R: Wait>(
         }),
         Err(error) => {
             drop(writer.take(rt));
+            drop(book);
+            drop(keeper);
             Err(error)
         }
     }
@@ -159,7 +163,13 @@ fn begin_writer<K: Keeper, R: Wait>(
         (drop made.1.behind made.1.log.items) made.1.desk.shown.value
         book.now.state (K.told keeper.now)) }
 {
-    let other = look_at(alloc, book)?;
+    let other = match look_at(alloc, book) {
+        Ok(other) => other,
+        Err(error) => {
+            drop(snapshot);
+            return Err(error);
+        }
+    };
     let (head, mark) = begin(book, keeper);
     let first = Published {
         snapshot,
@@ -170,9 +180,19 @@ fn begin_writer<K: Keeper, R: Wait>(
         mark,
     };
     let writer = StoreWriter::new(alloc, first, second, seats as usize)?;
-    let (writer, published) = publish(writer, rt);
-    match published {
-        Ok(()) => Ok((head, writer)),
+    Ok((head, shown(rt, writer)?))
+}
+
+/// The writer, which has published what pends. It is ended where memory runs out.
+fn shown<R: Wait>(rt: &R, mut writer: StoreWriter) -> Result<StoreWriter, AllocError>
+    requires ready { Ready writer.desk.shown.value (drop writer.behind writer.log.items) }
+    ensures shown { IfOk result (λ its. Shows writer.desk.shown.value
+        (drop writer.behind writer.log.items) its.desk.shown.value) }
+    ensures none_pends { IfOk result (λ its. drop its.behind its.log.items ≡ []) }
+    ensures knows { IfOk result (λ its. view its.desk.place ≡ notice its.desk.shown.value) }
+{
+    match publish(rt, &mut writer) {
+        Ok(()) => Ok(writer),
         Err(error) => {
             drop(writer.take(rt));
             Err(error)

@@ -6,25 +6,19 @@ ghost use Rattle.an_base.specs.Faults.{Rises};
 ghost use Rattle.an_machine.specs.Step.{step};
 ghost use Rattle.an_machine.specs.declared.command.Decided.{Decided};
 ghost use Rattle.an_state.specs.Commands.{is_sendable, is_write};
-ghost use Rattle.an_store.specs.Lists.{Stands};
+ghost use Rattle.an_published.specs.Lists.{Stands};
 ghost use Rattle.an_store.specs.Side.{Sided, stock_of};
 ghost use Rattle.an_laws.specs.Events.{added_by, wrote};
 ghost use Rattle.an_store.specs.Stock.{Fails, Rests, Stocked, Took};
 ghost use Rattle.an_store.specs.Writing.{Missed, Wrote};
 
-use crate::event::Kept;
-use crate::history::{Head, extend};
-use crate::lock::{StoreWriter, align, earn, publish};
-use crate::published::Addition;
-use crate::seat::Seat;
-use crate::view::Naming;
 use an_base::Moment;
 use an_keep::Keeper;
 use an_machine::{Decided, Refused, WriteReply};
 use an_policy::Caller;
+use an_published::{Addition, Head, Kept, Naming, Seat, StoreWriter, align, earn, extend, publish};
 use an_shelf::{WriteError, decide, put};
 use an_state::{Book, Command, Entry, typed_writes};
-use core::mem::replace_with;
 use std::alloc::{AllocError, Global};
 use std::marker::{Model, PhantomData};
 use std::sync::Wait;
@@ -87,13 +81,15 @@ impl<K: Keeper, J: Naming> Side<K, J> {
         ensures stocked { Stocked self }
     {
         let Side {
-            book: _,
+            book,
             keeper,
             head: _,
             writer,
-            waiting: _,
+            waiting,
             of: _,
         } = self;
+        drop(book);
+        drop(waiting);
         drop(writer.take(rt));
         keeper
     }
@@ -235,6 +231,7 @@ impl<K: Keeper, J: Naming> Side<K, J> {
         ensures sure { IsTrue K.is_sure → ¬ (result ≡ Err WriteError.Keeper) }
     {
         let Some(next) = self.writer.published().mark.next() else {
+            drop(entry);
             return Err(WriteError::Memory);
         };
         let copy = put(alloc, &mut self.keeper, &mut self.book, entry)?;
@@ -257,7 +254,7 @@ impl<K: Keeper, J: Naming> Side<K, J> {
         if !self.writer.has_pending_operations() {
             return Ok(());
         }
-        replace_with(&mut self.writer, rt, publish::<R>)?;
+        publish(rt, &mut self.writer)?;
         Ok(())
     }
 }
@@ -277,7 +274,7 @@ fn append(writer: &mut StoreWriter, waiting: &mut Option<Addition>) -> Result<()
         Some(addition) => match writer.append(addition) {
             Ok(()) => Ok(()),
             Err(addition) => {
-                *waiting = Some(addition);
+                wait(waiting, addition);
                 Err(AllocError)
             }
         },
@@ -288,5 +285,5 @@ fn append(writer: &mut StoreWriter, waiting: &mut Option<Addition>) -> Result<()
 fn wait(waiting: &mut Option<Addition>, addition: Addition)
     ensures { waiting.new ≡ Some addition }
 {
-    *waiting = Some(addition);
+    drop(waiting.replace(addition));
 }

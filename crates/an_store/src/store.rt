@@ -5,13 +5,12 @@ ghost use Rattle.an_state.specs.Commands.{is_sendable};
 ghost use Rattle.an_store.specs.Opening.{Closes};
 ghost use Rattle.an_store.specs.Writing.{Missed, Wrote};
 
-use crate::seat::Seat;
 use crate::side::Side;
-use crate::view::Naming;
 use an_base::Moment;
 use an_keep::Keeper;
 use an_machine::{Refused, WriteReply};
 use an_policy::Caller;
+use an_published::{Naming, Seat};
 use an_shelf::WriteError;
 use an_state::Command;
 use std::alloc::Global;

@@ -1,5 +1,5 @@
 use Rattle.std.proofs.Common.{ap, ◌∙◌}
-use Rattle.an_store.specs.declared.published.Published.{Published}
+use Rattle.an_published.specs.declared.published.Published.{Published}
 use Rattle.an_store.proofs.Opens.{one-list}
 use Rattle.an_store.proofs.opened.begin_writer.Goals as goal
 

@@ -1,6 +1,6 @@
 use Rattle.std.proofs.Common.{◌≡◌, length, All}
 use Rattle.left_right.specs.Sides.{view}
-use Rattle.an_store.specs.Lists.{newly_seated}
+use Rattle.an_published.specs.Lists.{newly_seated}
 use Rattle.an_store.proofs.opened.make_seats.Given as goal
 
 abbrev pub invariant-loop : goal.invariant-loop

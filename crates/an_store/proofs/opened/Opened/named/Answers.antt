@@ -1,5 +1,5 @@
 use Rattle.std.proofs.Common.{ap, ◌∙◌}
-use Rattle.an_store.specs.Lists.{newly_seated}
+use Rattle.an_published.specs.Lists.{newly_seated}
 use Rattle.an_store.specs.Opening.{Start}
 use Rattle.an_store.proofs.Opens.{sided-opened}
 use Rattle.an_store.proofs.opened.Opened.named.Goals as goal

@@ -8,10 +8,10 @@ use Rattle.an_state.specs.State.{State}
 use Rattle.an_state.specs.declared.entry.Entry.{Entry}
 use Rattle.an_shelf.proofs.WritingLemmas.{entry-settled}
 use Rattle.an_laws.specs.Events.{Event, Wrote}
-use Rattle.an_store.specs.Rule.{accepted}
+use Rattle.an_published.specs.Rule.{accepted}
 use Rattle.an_store.specs.Side.{Sided, stock_of}
-use Rattle.an_store.specs.declared.published.Published.{Published}
-use Rattle.an_store.specs.declared.published.Addition.{Addition}
+use Rattle.an_published.specs.declared.published.Published.{Published}
+use Rattle.an_published.specs.declared.published.Addition.{Addition}
 use Rattle.an_store.proofs.Sides.{still, waits, waits-behind, put-fails, settle-fails}
 use Rattle.an_store.proofs.side.Side.carry_out.Goals as goal
 

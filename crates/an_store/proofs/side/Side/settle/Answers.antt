@@ -1,6 +1,6 @@
 use Rattle.std.proofs.Common.{◌≡◌, List, [], drop, ap, sym, ◌∙◌}
-use Rattle.an_store.specs.Rule.{accepted}
-use Rattle.an_store.specs.declared.published.Addition.{Addition}
+use Rattle.an_published.specs.Rule.{accepted}
+use Rattle.an_published.specs.declared.published.Addition.{Addition}
 use Rattle.an_store.proofs.Sides.{all-pend, none-pend, same}
 use Rattle.an_store.proofs.side.Side.settle.Goals as goal
 
@@ -21,12 +21,12 @@ returns-then-not-has_pending_operations-clause-published g c =
     ap (λ d. d.shown.value.mark.list) c.in_ok-append.ensures.desk
     ∙ (ap (accepted c.self.inside.writer.desk.shown.value) (sym none ∙ c.in_ok-append.ensures.appended) ∙ ap (λ s. s.accepted) c.self.view_is)
 
-pub invariant_of-self-in_err-replace_with : goal.invariant_of-self-in_err-replace_with
-invariant_of-self-in_err-replace_with g c =
-    let more = all-pend _ _ _ c.in_ok-append.ensures.none_waits (c.in_err-replace_with.ensures.1.1.1.1 ∙ c.in_ok-append.ensures.appended) in
-    same _ _ _ _ _ _ _ _ _ c.self.invariant (c.in_err-replace_with.ensures.1.1.1.0 ∙ ap (λ d. d.shown.value) c.in_ok-append.ensures.desk) more
+pub invariant_of-self-in_err-publish : goal.invariant_of-self-in_err-publish
+invariant_of-self-in_err-publish g c =
+    let more = all-pend _ _ _ c.in_ok-append.ensures.none_waits (c.in_err-publish.ensures.pends ∙ c.in_ok-append.ensures.appended) in
+    same _ _ _ _ _ _ _ _ _ c.self.invariant (c.in_err-publish.ensures.same ∙ ap (λ d. d.shown.value) c.in_ok-append.ensures.desk) more
 
-pub returns-in_err-replace_with-clause-stocked : goal.returns-in_err-replace_with-clause-stocked
-returns-in_err-replace_with-clause-stocked g c =
-    let more = all-pend _ _ _ c.in_ok-append.ensures.none_waits (c.in_err-replace_with.ensures.1.1.1.1 ∙ c.in_ok-append.ensures.appended) in
-    (same _ _ _ _ _ _ _ _ _ c.self.invariant (c.in_err-replace_with.ensures.1.1.1.0 ∙ ap (λ d. d.shown.value) c.in_ok-append.ensures.desk) more).stocked
+pub returns-in_err-publish-clause-stocked : goal.returns-in_err-publish-clause-stocked
+returns-in_err-publish-clause-stocked g c =
+    let more = all-pend _ _ _ c.in_ok-append.ensures.none_waits (c.in_err-publish.ensures.pends ∙ c.in_ok-append.ensures.appended) in
+    (same _ _ _ _ _ _ _ _ _ c.self.invariant (c.in_err-publish.ensures.same ∙ ap (λ d. d.shown.value) c.in_ok-append.ensures.desk) more).stocked

@@ -1,6 +1,6 @@
 use Rattle.std.proofs.Common.{sym, ap, subst, ◌∙◌}
 use mathlib.Core.List.{IsPrefix}
-use Rattle.an_store.specs.Lists.{Seated, Stands}
+use Rattle.an_published.specs.Lists.{Seated, Stands}
 use Rattle.an_store.specs.Stock.{Stock}
 use Rattle.an_store.proofs.Writes.{earns-last, wrote-again, wrote-earned}
 use Rattle.an_store.proofs.side.Side.write.Goals as goal

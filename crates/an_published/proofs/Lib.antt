@@ -1,0 +1,5 @@
+pub mod Lists
+pub mod Adding
+pub mod Steps
+pub mod Copies
+pub mod Crossings

@@ -1,0 +1,4 @@
+pub mod History
+pub mod Lists
+pub mod Known
+pub mod Rule

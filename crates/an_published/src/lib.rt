@@ -1,0 +1,19 @@
+//! What is published of a store that threads share: the history of its writes, a snapshot of the
+//! state behind each beginning of it, and the seats from which readers look.
+#![tactic(auto)]
+
+pub use copy::look_at;
+pub use event::Kept;
+pub use history::{Head, Mark, begin, extend};
+pub use lock::{StoreWriter, align, earn, publish};
+pub use published::{Addition, Published};
+pub use seat::{Seat, Shown};
+pub use view::Naming;
+
+mod copy;
+mod event;
+mod history;
+mod lock;
+mod published;
+mod seat;
+mod view;

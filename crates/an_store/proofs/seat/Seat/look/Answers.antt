@@ -1,5 +1,0 @@
-use Rattle.an_store.proofs.Steps.{looks}
-use Rattle.an_store.proofs.seat.Seat.look.Goals as goal
-
-pub enter_as-requires : goal.enter_as-requires
-enter_as-requires c = looks _ _
