@@ -103,23 +103,39 @@ fn at_desk(
     settings: &Settings,
     requests: &[Vec<u8>],
 ) -> Result<Played, RowError> {
-    let Ok(desk) = Desk::open(alloc, keeper) else {
-        return Err(RowError::Form);
-    };
-    let mut desk = Box::new(alloc, desk)?;
+    match Desk::open(alloc, keeper) {
+        Ok(mut desk) => {
+            let statuses = ask_all_at_desk(alloc, &mut desk, settings, requests);
+            what_is_left(alloc, statuses, desk.into_keeper())
+        }
+        Err(_) => Err(RowError::Form),
+    }
+}
+
+fn what_is_left(
+    alloc: Global,
+    statuses: Result<String, RowError>,
+    mut keeper: MemKeeper,
+) -> Result<Played, RowError> {
+    let cells = cells(alloc, &mut keeper);
+    drop(keeper);
+    Ok(Played {
+        statuses: statuses?,
+        cells: cells?,
+    })
+}
+
+fn ask_all_at_desk(
+    alloc: Global,
+    desk: &mut Desk<MemKeeper>,
+    settings: &Settings,
+    requests: &[Vec<u8>],
+) -> Result<String, RowError> {
     let mut statuses = String::new(alloc);
     for request in requests {
-        ask_desk(
-            alloc,
-            &mut statuses,
-            &mut desk,
-            settings,
-            request.as_slice(),
-        )?;
+        ask_desk(alloc, &mut statuses, desk, settings, request.as_slice())?;
     }
-    let mut keeper = Box::into_inner(desk).into_keeper();
-    let cells = cells(alloc, &mut keeper)?;
-    Ok(Played { statuses, cells })
+    Ok(statuses)
 }
 
 fn ask_desk(
@@ -166,11 +182,11 @@ fn at_opened<J: Naming, R: Wait>(
 {
     let (store, mut seats) = opened.named::<J>();
     let seat = seats.remove(0);
+    drop(seats);
     let (mut seat, statuses) = ask_all(rt, alloc, &store, seat, settings, requests);
-    let mut keeper = store.close(rt, &mut seat);
-    let statuses = statuses?;
-    let cells = cells(alloc, &mut keeper)?;
-    Ok(Played { statuses, cells })
+    let keeper = store.close(rt, &mut seat);
+    drop(seat);
+    what_is_left(alloc, statuses, keeper)
 }
 
 fn ask_all<J: Naming, R: Wait>(

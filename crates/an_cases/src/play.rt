@@ -147,20 +147,14 @@ pub(crate) fn with_lines(
     if lines.is_empty() {
         return Ok(keeper);
     }
+    let mut link = SureLink::new(Bytes::new(alloc, lines)?, Vec::new(alloc));
     match Desk::open(alloc, keeper) {
-        Ok(desk) => import_all(alloc, desk, lines),
+        Ok(mut desk) => {
+            import(alloc, &mut link, &mut desk);
+            Ok(desk.into_keeper())
+        }
         Err(_) => Ok(MemKeeper::new(Vec::new(alloc), Vec::new(alloc))),
     }
-}
-
-fn import_all(
-    alloc: Global,
-    mut desk: Desk<MemKeeper>,
-    lines: &[u8],
-) -> Result<MemKeeper, AllocError> {
-    let mut link = SureLink::new(Bytes::new(alloc, lines)?, Vec::new(alloc));
-    import(alloc, &mut link, &mut desk);
-    Ok(desk.into_keeper())
 }
 
 /// A call that is to fail puts nothing.

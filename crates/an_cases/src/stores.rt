@@ -57,7 +57,7 @@ impl Stores {
         let keeper = self.keeper.take().ok_or(RowError::Form)?;
         match open_desk(alloc, keeper)? {
             Ok(desk) => {
-                self.desk = Some(desk);
+                drop(self.desk.replace(desk));
                 shown(alloc, "opened")
             }
             Err(error) => Ok(format!(in alloc; "{error:?}")?),

@@ -1,6 +1,7 @@
 //! Lines that are written while a disk stops, which then crashes and is opened again.
 use crate::disks::{Crashes, Disk, Disks, close, crashed, new_disks, open};
 use crate::sending::{accepted, cells, states};
+use an_keep::Keeper;
 use an_sqlite::SqlKeeper;
 use sqlite::{Alter, Connection, FileStore};
 use std::alloc::{AllocError, Global};
@@ -160,7 +161,13 @@ fn write_through<S: Alter + Drop>(
     lines: &str,
 ) -> Result<Through<S>, AllocError> {
     let mut keeper = SqlKeeper::adopt(connection);
-    let accepted = accepted(alloc, &mut keeper, lines)?.unwrap_or(0);
+    let accepted = match accepted(alloc, &mut keeper, lines) {
+        Ok(accepted) => accepted.unwrap_or(0),
+        Err(error) => {
+            drop(keeper);
+            return Err(error);
+        }
+    };
     match keeper.into_connection() {
         Some(connection) => Ok(Through {
             accepted,
@@ -184,11 +191,17 @@ fn look_through<S: Alter + Drop>(
     lines: &str,
 ) -> Result<Option<Found>, AllocError> {
     let mut keeper = SqlKeeper::adopt(connection);
-    let found = cells(alloc, &mut keeper)?;
-    let accepted = accepted(alloc, &mut keeper, lines)?;
-    Ok(Some(Found {
+    let found = find(alloc, &mut keeper, lines);
+    drop(keeper);
+    Ok(Some(found?))
+}
+
+fn find<K: Keeper>(alloc: Global, keeper: &mut K, lines: &str) -> Result<Found, AllocError> {
+    let found = cells(alloc, keeper)?;
+    let accepted = accepted(alloc, keeper, lines)?;
+    Ok(Found {
         cells: found,
         accepted,
-        cells_at_end: cells(alloc, &mut keeper)?,
-    }))
+        cells_at_end: cells(alloc, keeper)?,
+    })
 }

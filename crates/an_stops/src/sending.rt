@@ -151,8 +151,13 @@ fn import_over(
         Ok(mut desk) => {
             let printed = printed(alloc, &mut desk, lines);
             let mut keeper = desk.into_keeper();
-            tell_import(alloc, &mut keeper, printed, due, told)?;
-            Ok(Some(keeper))
+            match tell_import(alloc, &mut keeper, printed, due, told) {
+                Ok(()) => Ok(Some(keeper)),
+                Err(error) => {
+                    drop(keeper);
+                    Err(error)
+                }
+            }
         }
         Err(_error) => {
             told.push_str("not opened")?;

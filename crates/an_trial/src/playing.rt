@@ -19,8 +19,13 @@ pub(crate) fn play(alloc: Global, count: u32, seed: u32) -> Result<Desk<SureKeep
     ensures nothing_waits { IfOk result (λ desk. desk.waiting ≡ None) }
 {
     let mut desk = open(alloc)?;
-    put_all(alloc, &mut desk, count, seed)?;
-    Ok(desk)
+    match put_all(alloc, &mut desk, count, seed) {
+        Ok(()) => Ok(desk),
+        Err(error) => {
+            drop(desk);
+            Err(error)
+        }
+    }
 }
 
 /// Puts the reader, the manifest, and so many annotations.
