@@ -1,6 +1,6 @@
 //! The history of a store, which only grows. Its memory is one word: the events are there for
 //! contracts alone.
-ghost use Rattle.std.specs.Prelude.{◌≡◌, ◌+◌, ◌<◌, ◌^◌, [], ◌∷◌, ◌++◌, length, true, IfSome};
+ghost use Rattle.std.specs.Prelude.{◌≡◌, ◌≤◌, ◌^◌, [], ◌∷◌, ◌++◌, length, true, IfSome, None};
 ghost use Rattle.an_laws.specs.Events.{Opened};
 ghost use Rattle.an_published.specs.History.{head_of};
 
@@ -123,7 +123,8 @@ impl Mark {
 
     /// How many there are behind the first with one more, where a word can count them.
     pub fn next(&self) -> Option<u64>
-        ensures { IfSome result (λ next. next ≡ length self.now.list) }
+        ensures next { IfSome result (λ next. next ≡ length self.now.list) }
+        ensures beyond { result ≡ None → 2 ^ 64 ≤ length self.now.list }
     {
         self.count.checked_add(1)
     }
