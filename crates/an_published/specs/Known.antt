@@ -1,4 +1,4 @@
--- For private clauses: what a seat knows.
+-- What a seat knows.
 use Rattle.std.specs.Prelude.{◌≡◌, List, [], Option, None, Some}
 use Rattle.logbook.specs.Pages.{Book}
 use Rattle.an_laws.specs.Events.{Event, IsLegal}

@@ -1,5 +1,4 @@
--- For private clauses: the rule of a store over what is published and what each seat knows, and
--- what its steps tell.
+-- The rule of a store over what is published and what each seat knows, and what its steps tell.
 use Rattle.std.specs.Prelude.{◌≡◌, ℕ, List, [], ◌∷◌, ◌++◌, Some, IfSome, IsTrue, ⊤}
 use mathlib.Core.Option.{some}
 use mathlib.Core.List.{IsPrefix}
