@@ -1,6 +1,5 @@
 -- Terms with their numbers, and those of them that begin with a prefix.
-use Rattle.std.proofs.Common.{◌≡◌, ℕ, zero, suc, ◌+◌, ◌<◌, ◌≤◌, List, [], ◌∷◌, ◌++◌, Bool, true, false, cond, ◌&&◌, drop, eqb, filter, get_or, length, map, nat_eq, inl, inr, refl, sym, ap, ap₂, ◌∙◌, arith, Less, Equal, Greater, Ordering, pred}
-use Rattle.std.specs.Cmp.Lexicographic.{slice_cmp}
+use Rattle.std.proofs.Common.{◌≡◌, ℕ, zero, suc, ◌+◌, ◌<◌, ◌≤◌, List, [], ◌∷◌, ◌++◌, Bool, true, false, cond, ◌&&◌, drop, eqb, filter, get_or, length, map, nat_eq, inl, inr, refl, sym, ap, ◌∙◌, arith, Less, Equal, Greater, Ordering}
 use Rattle.std.specs.List.{AllByRecursion, prefix_len, starts_with}
 use Rattle.std.specs.List.Sorted.{IsStrictlySortedBy}
 use Rattle.std.specs.Ordering.{nat_cmp, is_le, is_lt, ordering_reverse, ordering_then}

@@ -1,14 +1,14 @@
 -- How often terms occur among terms: what becomes of totals where terms are added.
-use Rattle.std.proofs.Common.{◌≡◌, ℕ, zero, suc, ◌+◌, ◌-◌, ◌^◌, min, ◌<◌, ◌≤◌, List, [], ◌∷◌, ◌++◌, Bool, true, false, cond, ◌&&◌, ◌||◌, bytes_eq, count_by, drop, filter, fold, get_or, length, map, nat_eq, zero-add, inl, inr, refl, sym, ap, ap₂, ◌∙◌, subst, arith, Ordering, Less, Equal, Greater, String, string_bytes}
+use Rattle.std.proofs.Common.{◌≡◌, ℕ, suc, ◌+◌, ◌<◌, List, [], ◌∷◌, ◌++◌, Bool, true, false, cond, ◌&&◌, ◌||◌, bytes_eq, count_by, drop, filter, fold, get_or, length, map, nat_eq, zero-add, inl, inr, refl, sym, ap, ap₂, ◌∙◌, subst, arith, Ordering, Less, Equal, Greater, String, string_bytes}
 use Rattle.std.specs.Prelude.{string_cmp, unwrap_or}
 use Rattle.std.specs.BTreeMap.{insert_entry, is_at}
 use Rattle.std.specs.BTreeSet.{insert_key}
 use Rattle.std.specs.Cmp.Lexicographic.{slice_cmp}
-use Rattle.std.specs.List.{AllByRecursion, prefix_len, starts_with}
+use Rattle.std.specs.List.{starts_with}
 use Rattle.std.specs.List.Sorted.{IsStrictlySortedBy}
 use Rattle.std.specs.Map.{keys_of, lookup}
-use Rattle.std.specs.Ordering.{nat_cmp, is_eq, is_le, match_ordering, ordering_reverse}
-use Rattle.std.proofs.lemmas.Bool.{both_ways, cases_Bool, or_parts, or_from}
+use Rattle.std.specs.Ordering.{nat_cmp, is_eq, match_ordering, ordering_reverse}
+use Rattle.std.proofs.lemmas.Bool.{both_ways, cases_Bool, or_parts}
 use Rattle.std.proofs.lemmas.Cmp.{nat_list_cmp_total}
 use Rattle.std.proofs.lemmas.List.Folds.{list_any-append}
 use Rattle.std.proofs.lemmas.List.Kept.{IsStrictlySortedBy-filter}
@@ -16,8 +16,8 @@ use Rattle.std.proofs.lemmas.List.Sums.{fold_push, sum_by-append, sum_by_push, s
 use Rattle.std.proofs.lemmas.Map.Lookups.{exact_bytes}
 use Rattle.std.proofs.lemmas.Map.Text.{is_eq-slice_cmp}
 use Rattle.std.proofs.lemmas.Slice.Eq.{bytes_eq-Decides}
-use Rattle.an_base.specs.TextSet.{Ascend, ascending, has_text, is_below}
-use Rattle.an_base.specs.Totals.{Adds, capped, counted, counted_from, total_among, total_of, totals_of, with_prefix, with_total}
+use Rattle.an_base.specs.TextSet.{Ascend, ascending, has_text}
+use Rattle.an_base.specs.Totals.{Adds, capped, counted, counted_from, total_among, totals_of, with_prefix, with_total}
 use Rattle.an_base.specs.declared.span.TermTotal.{TermTotal}
 use Rattle.an_base.proofs.NumberedLemmas.{drop_at}
 use Rattle.an_base.proofs.TextSetLemmas.{ascend-texts}
@@ -252,7 +252,7 @@ module _ {Y : Type 0} where
   abbrev pub shown : List (String Y × ℕ) → List TermTotal
   shown es = map (λ e. record { term = string_bytes e.0; total = e.1 }) es
 
-  pub shown-insert : (es : List (String Y × ℕ)) (key : String Y) (n : ℕ) → shown (insert_entry string_cmp es key n) ≡ with_total (shown es) (string_bytes key) n
+  shown-insert : (es : List (String Y × ℕ)) (key : String Y) (n : ℕ) → shown (insert_entry string_cmp es key n) ≡ with_total (shown es) (string_bytes key) n
   shown-insert [] key n = refl
   shown-insert (e ∷ es) key n =
       elim (string_cmp key e.0) as (λ o.
@@ -263,12 +263,20 @@ module _ {Y : Type 0} where
         | Greater ↦ ap (λ ts. record { term = string_bytes e.0; total = e.1 } ∷ ts) (shown-insert es key n)
       ]
 
-  pub shown-lookup : (es : List (String Y × ℕ)) (term : List ℕ) → unwrap_or (lookup (is_at (λ k. slice_cmp nat_cmp term (string_bytes k))) es) 0 ≡ total_among (shown es) term
+  shown-lookup : (es : List (String Y × ℕ)) (term : List ℕ) → unwrap_or (lookup (is_at (λ k. slice_cmp nat_cmp term (string_bytes k))) es) 0 ≡ total_among (shown es) term
   shown-lookup [] term = refl
   shown-lookup (e ∷ es) term = elim (cases_Bool (bytes_eq term (string_bytes e.0))) [
     | inl is ↦ rw (is_eq-slice_cmp term (string_bytes e.0), is) refl
     | inr isnt ↦ rw (is_eq-slice_cmp term (string_bytes e.0), isnt) (shown-lookup es term)
   ]
+
+  -- the entry of a term takes so many times more
+  pub shown-count : (es new : List (String Y × ℕ)) (key : String Y) (n : ℕ)
+      → new ≡ insert_entry string_cmp es key (capped (unwrap_or (lookup (is_at (string_cmp key)) es) 0 + n))
+      → shown new ≡ counted (shown es) (string_bytes key) n
+  shown-count es new key n is =
+      ap shown is ∙ shown-insert es key _
+      ∙ ap (λ total. with_total (shown es) (string_bytes key) (capped (total + n))) (shown-lookup es (string_bytes key))
 
   terms-shown : (es : List (String Y × ℕ)) → map (λ e. e.term) (shown es) ≡ map string_bytes (keys_of es)
   terms-shown [] = refl

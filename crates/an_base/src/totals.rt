@@ -1,5 +1,6 @@
-ghost use Rattle.std.specs.Prelude.{◌≡◌, ◌∷◌, [], List, ℕ, IfOk, OnOk};
-ghost use Rattle.an_base.specs.Totals.{Adds, counted, counted_from, total_among, totals_of};
+ghost use Rattle.std.specs.Prelude.{◌≡◌, ◌+◌, ◌∷◌, [], List, ℕ, IfOk, OnOk, string_cmp, unwrap_or};
+ghost use Rattle.std.specs.BTreeMap.{get, insert_entry};
+ghost use Rattle.an_base.specs.Totals.{Adds, capped, counted, counted_from, totals_of};
 ghost use Rattle.an_base.specs.Totals.{with_prefix};
 
 use crate::span::TermTotal;
@@ -100,19 +101,18 @@ impl TermTotals {
     fn count(&mut self, term: &str, times: u64) -> Result<(), AllocError>
         ensures { OnOk result (self.new ≡ counted self.old term.now times) }
     {
-        let total = self.total(term).saturating_add(times);
         let term = String::from_str(self.alloc, term)?;
-        self.terms.insert(term, total)?;
-        Ok(())
+        count_in(&mut self.terms, term, times)
     }
+}
 
-    /// How often the term occurred.
-    fn total(&self, term: &str) -> u64
-        ensures { result ≡ total_among self.now term.now }
-    {
-        match self.terms.get(term) {
-            Some(total) => *total,
-            None => 0,
-        }
-    }
+/// The entry of the term, where there is none one of no times, takes so many times more.
+#[tactic(auto, unfolding(crate::specs::Totals::capped))]
+fn count_in(terms: &mut BTreeMap<String, u64>, term: String, times: u64) -> Result<(), AllocError>
+    ensures { OnOk result (terms.new.entries ≡ insert_entry string_cmp terms.old.entries term
+        (capped (unwrap_or (get string_cmp terms.old term) 0 + times))) }
+{
+    let total = terms.entry(term)?.or_insert(0);
+    *total = total.saturating_add(times);
+    Ok(())
 }

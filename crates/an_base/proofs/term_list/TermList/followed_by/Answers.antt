@@ -1,4 +1,4 @@
-use Rattle.std.proofs.Common.{◌≡◌, ◌++◌, ◌∷◌, [], map, sym, ap, ap₂, subst, ◌∙◌}
+use Rattle.std.proofs.Common.{◌++◌, ◌∷◌, [], map, sym, ap, ap₂, subst, ◌∙◌}
 use Rattle.an_base.specs.TextSet.{Ascend}
 use Rattle.an_base.specs.Totals.{numbered}
 use Rattle.an_base.proofs.NumberedLemmas.{numbered-push, terms-numbered}

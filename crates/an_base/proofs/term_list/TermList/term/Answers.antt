@@ -1,4 +1,4 @@
-use Rattle.std.proofs.Common.{◌≡◌, [], get_or, length, map, sym, ap, ◌∙◌, arith}
+use Rattle.std.proofs.Common.{[], get_or, length, map, sym, ap, ◌∙◌, arith}
 use Rattle.an_base.proofs.NumberedLemmas.{length-numbered, terms-numbered}
 use Rattle.an_base.proofs.term_list.TermList.term.Goals as goal
 

@@ -1,4 +1,4 @@
-use Rattle.std.proofs.Common.{◌≡◌, [], get_or, length, sym, ap, ap₂, ◌∙◌, arith}
+use Rattle.std.proofs.Common.{[], get_or, length, sym, ap, ap₂, ◌∙◌, arith}
 use Rattle.std.specs.Str.{is_utf8}
 use Rattle.an_base.specs.TextSet.{pieces}
 use Rattle.an_base.proofs.TextSetLemmas.{length-pieces, utf8-at}

@@ -1,4 +1,4 @@
-use Rattle.std.proofs.Common.{◌≡◌, [], bytes_eq, get_or, length, sym, ap, ◌∙◌, arith}
+use Rattle.std.proofs.Common.{[], bytes_eq, get_or, sym, ap, ◌∙◌, arith}
 use Rattle.std.proofs.lemmas.Bool.{le-ltb}
 use Rattle.an_base.proofs.AscendLemmas.{at-place, past-place}
 use Rattle.an_base.proofs.text_set.TextSet.has.Goals as goal

@@ -1,4 +1,4 @@
-use Rattle.std.proofs.Common.{◌≡◌, [], fold, map, sym, ap, ap₂, ◌∙◌, string_bytes}
+use Rattle.std.proofs.Common.{[], map, sym, ap, ap₂, ◌∙◌, string_bytes}
 use Rattle.std.specs.BTreeSet.{insert_key}
 use Rattle.std.proofs.lemmas.List.Sums.{fold_more}
 use Rattle.an_base.proofs.AscendLemmas.{by_bytes}

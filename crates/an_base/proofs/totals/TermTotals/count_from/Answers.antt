@@ -1,6 +1,6 @@
-use Rattle.std.proofs.Common.{◌≡◌, drop, length, sym, ap, ap₂, ◌∙◌, arith}
+use Rattle.std.proofs.Common.{drop, sym, ap, ap₂, ◌∙◌, arith}
 use Rattle.an_base.specs.Totals.{counted, counted_from}
-use Rattle.an_base.proofs.TotalLemmas.{add_entry, counted-next, fold-nothing}
+use Rattle.an_base.proofs.TotalLemmas.{counted-next, fold-nothing}
 use Rattle.an_base.proofs.NumberedLemmas.{starting-from, starting-none}
 use Rattle.an_base.proofs.totals.TermTotals.count_from.Goals as goal
 

@@ -1,4 +1,4 @@
-use Rattle.std.proofs.Common.{◌++◌, ◌∷◌, [], map, sym, ap, ap₂, subst, ◌∙◌, string_bytes}
+use Rattle.std.proofs.Common.{◌++◌, ◌∷◌, [], map, sym, ap₂, subst, ◌∙◌, string_bytes}
 use Rattle.an_base.specs.TextSet.{Ascend}
 use Rattle.an_base.proofs.TextSetLemmas.{ascend-next}
 use Rattle.an_base.proofs.NumberedLemmas.{terms-append}
