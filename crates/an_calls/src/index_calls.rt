@@ -7,7 +7,6 @@ use crate::numbers::number;
 use crate::policy_calls::{name, owned_audience};
 use crate::rows::{RowError, two_words};
 use an_base::{Name, TermTotal};
-use an_counts::Counts;
 use an_policy::Classes;
 use an_postings::Postings;
 use std::alloc::{AllocError, Global};
@@ -65,7 +64,7 @@ fn add_place(
 ) -> Result<(), RowError> {
     let (class, place) = two_numbers(numbers)?;
     postings.room_add(manifest, term, class, 1)?;
-    postings.add(manifest, term, class, place);
+    postings.add(manifest, term, class, place, 0);
     Ok(())
 }
 
@@ -110,7 +109,7 @@ fn tell_classes(
 /// heron 0 1` tells how often it is counted in two classes, and `terms m1 he 0 1` the terms that
 /// begin so.
 pub fn counts(alloc: Global, argument: &str) -> Result<String, RowError> {
-    let mut counts = Counts::new(alloc);
+    let mut counts = Postings::new(alloc);
     let mut told = String::new(alloc);
     for step in argument.split("; ") {
         count_step(alloc, &mut counts, &mut told, step)?;
@@ -120,7 +119,7 @@ pub fn counts(alloc: Global, argument: &str) -> Result<String, RowError> {
 
 fn count_step(
     alloc: Global,
-    counts: &mut Counts,
+    counts: &mut Postings,
     told: &mut String,
     step: &str,
 ) -> Result<(), RowError> {
@@ -140,28 +139,24 @@ fn count_step(
     }
 }
 
-/// Counts a term more often, which is counted less often than 64 bits can say.
-#[tactic(auto, unfolding(an_base::specs::Totals::capped))]
+/// Counts a term more often, in a list with the place 0.
 fn add_count(
-    counts: &mut Counts,
+    counts: &mut Postings,
     manifest: &Name,
     term: &str,
     numbers: &str,
 ) -> Result<(), RowError> {
     let (class, more) = two_words(numbers)?;
     let (class, more) = (number::<usize>(class)?, number::<u64>(more)?);
-    counts.room(manifest, term, class)?;
-    if counts.total(manifest, term, &[class]) == u64::MAX {
-        return Err(RowError::Form);
-    }
-    counts.add(manifest, term, class, more);
+    counts.room_add(manifest, term, class, 1)?;
+    counts.add(manifest, term, class, 0, more);
     Ok(())
 }
 
 /// Counts a term less often, which is counted as often at least.
 #[tactic(auto, unfolding(an_base::specs::Totals::capped))]
 fn take_count(
-    counts: &mut Counts,
+    counts: &mut Postings,
     manifest: &Name,
     term: &str,
     numbers: &str,
@@ -178,7 +173,7 @@ fn take_count(
 fn tell_terms(
     alloc: Global,
     told: &mut String,
-    counts: &Counts,
+    counts: &Postings,
     manifest: &Name,
     prefix: &str,
     numbers: &str,

@@ -8,8 +8,7 @@ use Rattle.std.proofs.lemmas.List.{get_or-map, length-set, map-set, set-get_or, 
 use Rattle.std.proofs.lemmas.Slice.Eq.{bytes_eq-Decides}
 use Rattle.an_base.specs.Totals.{totals_of}
 use Rattle.an_base.specs.declared.span.TermTotal.{TermTotal}
-use Rattle.an_counts.specs.Counts.{count_of}
-use Rattle.an_postings.specs.Postings.{places_in}
+use Rattle.an_postings.specs.Postings.{count_in, places_in}
 use Rattle.an_model.specs.Bodies.{note_terms}
 use Rattle.an_slots.specs.Places.{places_from}
 use Rattle.an_slots.specs.Rows.{AreCounted, AreListed, is_posted, parts, parts_at}
@@ -89,6 +88,6 @@ pub stands-alike : (r : Register) (rows : List Filed) → Stands r rows → (pla
 stands-alike r rows stands place old new h is words whole = record {
   words = AreListed-alike word_parts rows place old new h is words (places_in r.words) stands.words;
   whole = AreListed-alike whole_parts rows place old new h is whole (places_in r.whole) stands.whole;
-  counts = AreCounted-alike word_parts rows place old new h is words (count_of r.counts) stands.counts;
+  counts = AreCounted-alike word_parts rows place old new h is words (count_in r.words) stands.counts;
   few = let e = length-set rows place new in let few = stands.few in omega (arith, e, few);
 }

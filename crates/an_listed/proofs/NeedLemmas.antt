@@ -5,8 +5,7 @@ use Rattle.std.proofs.lemmas.Grind.{flat_map-append}
 use Rattle.std.proofs.lemmas.List.{take_more}
 use Rattle.std.proofs.lemmas.List.Concat.{flat_map-cons}
 use Rattle.an_base.specs.Totals.{capped}
-use Rattle.an_counts.specs.Counts.{Kept, count_of}
-use Rattle.an_postings.specs.Postings.{Lists, room_in}
+use Rattle.an_postings.specs.Postings.{Lists, count_in, room_in}
 use Rattle.an_slots.specs.Rows.{is_posted, parts}
 use Rattle.an_slots.specs.Slot.{Slot, same_slot, slot_of, at}
 use Rattle.an_slots.proofs.SlotLemmas.{same_slot-refl}
@@ -66,7 +65,7 @@ capped-small : (n : ℕ) → n < 2 ^ 64 → capped n ≡ n
 unfolding capped
 capped-small n h = omega (arith, h)
 
-enough-of : (wanted : Option Kept) (ps : List (Slot × ℕ)) (lists : Lists) → ((slot : Slot) → times slot ps ≤ wanted_at wanted slot) → HasWanted wanted ps lists → IsEnough ps lists
+enough-of : (wanted : Option Lists) (ps : List (Slot × ℕ)) (lists : Lists) → ((slot : Slot) → times slot ps ≤ wanted_at wanted slot) → HasWanted wanted ps lists → IsEnough ps lists
 enough-of wanted ps lists most room slot =
     by (is_posted slot ps) refl
   where
@@ -79,8 +78,8 @@ pub enough-one : (p : Filed → List (Slot × ℕ)) → ((row : Filed) (slot : S
 enough-one p once rows lists few room = enough-of None (flat_map p rows) lists (λ slot. let n = times-rows p once rows slot in omega (arith, n, few)) room
 
 -- of rows that were counted
-pub enough-counted : (ps : List (Slot × ℕ)) (counts : Kept) (lists : Lists) → ((slot : Slot) → count_of counts slot < 2 ^ 64) → ((slot : Slot) → count_of counts slot ≡ times slot ps) → HasWanted (Some counts) ps lists → IsEnough ps lists
+pub enough-counted : (ps : List (Slot × ℕ)) (counts : Lists) (lists : Lists) → ((slot : Slot) → count_in counts slot < 2 ^ 64) → ((slot : Slot) → count_in counts slot ≡ times slot ps) → HasWanted (Some counts) ps lists → IsEnough ps lists
 enough-counted ps counts lists small count room = enough-of (Some counts) ps lists (λ slot.
     let c = count slot in
-    let s = capped-small (count_of counts slot) (small slot) in
+    let s = capped-small (count_in counts slot) (small slot) in
     omega (arith, c, s)) room

@@ -8,8 +8,8 @@ use Rattle.an_base.specs.Totals.{totals_of, with_prefix}
 use Rattle.an_base.specs.declared.span.TermTotal.{TermTotal}
 use Rattle.an_base.proofs.AscendLemmas.{bytes_eq-turned}
 use Rattle.an_base.proofs.TotalLemmas.{has_text-totals}
-use Rattle.an_counts.specs.Counts.{Climbs, told_from}
-use Rattle.an_counts.proofs.WordLemmas.{CountsWords, live-counts, tombstone-counts, words-told}
+use Rattle.an_postings.specs.Totals.{Climbs, told_from}
+use Rattle.an_postings.proofs.WordLemmas.{CountsWords, live-counts, tombstone-counts, words-told}
 use Rattle.an_model.specs.Bodies.{note_terms}
 use Rattle.an_postings.specs.Postings.{places_in}
 use Rattle.an_slots.specs.Places.{Rises, ascending, has, places_from}
@@ -134,7 +134,7 @@ module _ (r : Register) (rows : List Filed) (stands : Stands r rows) (m : List �
         each (row ∷ rs) all = (counts-words row all.0, each rs all.1)
 
     -- what is told of the counts in the classes that pass
-    pub counts-read : Rises 0 read → Climbs (under m r.counts) → (prefix : List ℕ) → told_from prefix read (under m r.counts) ≡ totals_in prefix (map (λ row. row.note) (filter (λ row. is_on m row.note && passes row.class) rows))
+    pub counts-read : Rises 0 read → Climbs (under m r.words) → (prefix : List ℕ) → told_from prefix read (under m r.words) ≡ totals_in prefix (map (λ row. row.note) (filter (λ row. is_on m row.note && passes row.class) rows))
     counts-read up climbs prefix =
-        words-told by_words (λ row. terms_of_row row.note) (λ row. is_on m row.note && passes row.class) m read r.counts rows stands.counts up climbs all-count prefix
+        words-told by_words (λ row. terms_of_row row.note) (λ row. is_on m row.note && passes row.class) m read r.words rows stands.counts up climbs all-count prefix
         ∙ ap (λ (ws : List (List ℕ)). totals_of (with_prefix prefix ws)) (sym (flat_map-map terms_of_row (λ row. row.note) (filter (λ row. is_on m row.note && passes row.class) rows)))

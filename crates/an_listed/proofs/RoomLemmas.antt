@@ -3,13 +3,12 @@ use Rattle.std.proofs.Common.{◌≡◌, ℕ, ◌+◌, ◌<◌, ◌≤◌, Bool,
 use Rattle.std.specs.Prelude.{IsTrue}
 use Rattle.std.proofs.lemmas.Bool.{lt-ltb}
 use Rattle.std.proofs.lemmas.List.Sums.{sum_by-append, sum_by-cons}
-use Rattle.an_counts.specs.Counts.{Kept}
 use Rattle.an_postings.specs.Postings.{IsSpentAt, Lists, has_room, places_in, room_in}
 use Rattle.an_slots.specs.Places.{has}
 use Rattle.an_slots.specs.Rows.{is_posted}
 use Rattle.an_slots.specs.Slot.{Slot, same_slot}
 use Rattle.an_slots.proofs.SlotLemmas.{same_slot-refl}
-use Rattle.an_listed.specs.Room.{HasCounts, IsEnough, IsKept, times}
+use Rattle.an_listed.specs.Room.{IsEnough, IsKept, times}
 
 pub times-cons : (slot : Slot) (part : Slot × ℕ) (ps : List (Slot × ℕ)) → times slot (part ∷ ps) ≡ cond (same_slot slot part.0) 1 0 + times slot ps
 times-cons slot part ps = sum_by-cons (λ (p : Slot × ℕ). cond (same_slot slot p.0) 1 0) part ps
@@ -42,12 +41,16 @@ or_right : (a b : Bool) → b ≡ true → IsTrue (a || b)
 or_right true b e = refl
 or_right false b e = e
 
+-- a place more has room
+pub room-for-one : (place : ℕ) (slot : Slot) (lists : Lists) → 0 < room_in lists slot → IsTrue (has_room place slot lists)
+room-for-one place slot lists one = or_right (has place (places_in lists slot)) (ltb 0 (room_in lists slot)) (lt-ltb 0 (room_in lists slot) one)
+
 pub enough-first : (place : ℕ) (part : Slot × ℕ) (ps : List (Slot × ℕ)) (lists : Lists) → IsEnough (part ∷ ps) lists → IsTrue (has_room place part.0 lists)
 enough-first place part ps lists enough =
     let e = times-cons part.0 part ps in
     let h = enough part.0 in
     let one = at_least (same_slot part.0 part.0) (times part.0 ps) (times part.0 (part ∷ ps)) (room_in lists part.0) (same_slot-refl part.0) e h in
-    or_right (has place (places_in lists part.0)) (ltb 0 (room_in lists part.0)) (lt-ltb 0 (room_in lists part.0) one)
+    room-for-one place part.0 lists one
   where
     at_least : (b : Bool) (n w m : ℕ) → b ≡ true → w ≡ cond b 1 0 + n → w ≤ m → 0 < m
     at_least true n w m s e h = omega arith
@@ -70,17 +73,3 @@ any_append slot (p ∷ ps) qs = ap (λ (b : Bool). same_slot slot p.0 || b) (any
 
 pub is_posted-append : (slot : Slot) (ps qs : List (Slot × ℕ)) → is_posted slot (ps ++ qs) ≡ (is_posted slot ps || is_posted slot qs)
 is_posted-append slot ps qs = any_append slot ps qs
-
-or_of : (a b : Bool) → a ≡ true → (a || b) ≡ true
-or_of true b e = refl
-or_of false b e = cc
-
-or_of_right : (a b : Bool) → b ≡ true → (a || b) ≡ true
-or_of_right true b e = refl
-or_of_right false b e = e
-
-pub counts-front : (ps qs : List (Slot × ℕ)) (counts : Kept) → HasCounts (ps ++ qs) counts → HasCounts ps counts
-counts-front ps qs counts room slot h = room slot (any_append slot ps qs ∙ or_of (is_posted slot ps) (is_posted slot qs) h)
-
-pub counts-rest : (ps qs : List (Slot × ℕ)) (counts : Kept) → HasCounts (ps ++ qs) counts → HasCounts qs counts
-counts-rest ps qs counts room slot h = room slot (any_append slot ps qs ∙ or_of_right (is_posted slot ps) (is_posted slot qs) h)

@@ -1,10 +1,8 @@
 -- Memory for rows, one after the other.
-use Rattle.std.proofs.Common.{◌≡◌, ℕ, zero, suc, ◌+◌, ◌<◌, ◌≤◌, Bool, true, false, ◌||◌, List, [], ◌∷◌, ◌++◌, ◌⊎◌, inl, inr, length, get_or, drop, sym, ap, ◌∙◌, subst, refl, arith}
-use Rattle.std.specs.Prelude.{IsTrue}
+use Rattle.std.proofs.Common.{◌≡◌, ℕ, zero, suc, ◌+◌, ◌<◌, ◌≤◌, Bool, true, false, ◌||◌, List, [], ◌∷◌, ◌++◌, ◌⊎◌, inl, inr, length, get_or, drop, sym, ap, ◌∙◌, refl, arith}
 use Rattle.std.specs.List.{flat_map}
 use Rattle.std.proofs.lemmas.List.{drop_more}
 use Rattle.std.proofs.lemmas.List.Concat.{flat_map-cons}
-use Rattle.an_counts.specs.Counts.{has_room}
 use Rattle.an_postings.specs.Postings.{Lists}
 use Rattle.an_slots.specs.Rows.{is_posted}
 use Rattle.an_slots.specs.Slot.{Slot}
@@ -47,7 +45,6 @@ same-trans a b d f s = record {
   counts = s.counts ∙ f.counts;
   word_room = λ slot. let x = f.word_room slot in let y = s.word_room slot in omega (arith, x, y);
   whole_room = λ slot. let x = f.whole_room slot in let y = s.whole_room slot in omega (arith, x, y);
-  count_room = λ slot h. s.count_room slot (f.count_room slot h);
 }
 
 -- ---- space that is kept
@@ -56,14 +53,12 @@ pub space-same : (coming : List Filed) (old new : Register) → IsSame old new �
 space-same coming old new same space = record {
   words = enough-more (flat_map word_parts coming) old.words new.words same.word_room space.words;
   whole = enough-more (flat_map whole_parts coming) old.whole new.whole same.whole_room space.whole;
-  counts = λ slot h. same.count_room slot (space.counts slot h);
 }
 
-pub space-kept : (coming : List Filed) (old new : Register) → IsKept old.words new.words → IsKept old.whole new.whole → has_room new.counts ≡ has_room old.counts → HasSpace coming old → HasSpace coming new
-space-kept coming old new words whole counts space = record {
+pub space-kept : (coming : List Filed) (old new : Register) → IsKept old.words new.words → IsKept old.whole new.whole → HasSpace coming old → HasSpace coming new
+space-kept coming old new words whole space = record {
   words = enough-more (flat_map word_parts coming) old.words new.words words space.words;
   whole = enough-more (flat_map whole_parts coming) old.whole new.whole whole space.whole;
-  counts = λ slot h. subst (λ (f : Slot → Bool). IsTrue (f slot)) (sym counts) (space.counts slot h);
 }
 
 -- ---- the space of the first row
@@ -76,20 +71,10 @@ module _ (p : Filed → List (Slot × ℕ)) (row : Filed) (rest : List Filed) wh
       let h = enough slot in
       omega (arith, all, one, h)
 
-  first-posted : (slot : Slot) → is_posted slot (flat_map p (row ∷ [])) ≡ true → is_posted slot (flat_map p (row ∷ rest)) ≡ true
-  first-posted slot h =
-      ap (is_posted slot) (flat_map-cons p row rest) ∙ is_posted-append slot (p row) (flat_map p rest)
-      ∙ wider (is_posted slot (p row)) (is_posted slot (flat_map p rest)) (sym (ap (is_posted slot) (flat_map-cons p row []) ∙ is_posted-append slot (p row) []) ∙ h)
-    where
-      wider : (a b : Bool) → (a || false) ≡ true → (a || b) ≡ true
-      wider true b e = refl
-      wider false b e = cc
-
 pub first-space : (row : Filed) (rest : List Filed) (r : Register) → HasSpace (row ∷ rest) r → HasSpace (row ∷ []) r
 first-space row rest r space = record {
   words = first-enough word_parts row rest r.words space.words;
   whole = first-enough whole_parts row rest r.whole space.whole;
-  counts = λ slot h. space.counts slot (first-posted word_parts row rest slot h);
 }
 
 -- what is enough for a row and others is enough for the row

@@ -1,9 +1,8 @@
 -- Memory for rows that are still to be put.
-use Rattle.std.specs.Prelude.{◌≡◌, ℕ, ◌+◌, ◌≤◌, ◌^◌, List, IsTrue, count_by, flat_map, length, true}
+use Rattle.std.specs.Prelude.{◌≡◌, ℕ, ◌+◌, ◌≤◌, ◌^◌, List, count_by, flat_map, length, true}
 use Rattle.std.specs.Prelude.{Option, Some, None}
 use Rattle.an_base.specs.Totals.{capped}
-use Rattle.an_counts.specs.Counts.{Kept, count_of, has_room}
-use Rattle.an_postings.specs.Postings.{Lists, places_in, room_in}
+use Rattle.an_postings.specs.Postings.{Lists, count_in, places_in, room_in}
 use Rattle.an_slots.specs.Rows.{is_posted}
 use Rattle.an_slots.specs.Slot.{Slot, same_slot}
 use Rattle.an_listed.specs.Filed.{whole_parts, word_parts}
@@ -19,15 +18,10 @@ times slot ps = count_by (λ part. same_slot slot part.0) ps
 abbrev pub IsEnough : List (Slot × ℕ) → Lists → Type 0
 IsEnough ps lists = (slot : Slot) → times slot ps ≤ room_in lists slot
 
--- each of these parts has a count
-abbrev pub HasCounts : List (Slot × ℕ) → Kept → Type 0
-HasCounts ps counts = (slot : Slot) → is_posted slot ps ≡ true → IsTrue (has_room counts slot)
-
 -- the register has memory for these rows
 pub record HasSpace (coming : List Filed) (r : Register) : Type 0 where
   pub words : IsEnough (flat_map word_parts coming) r.words
   pub whole : IsEnough (flat_map whole_parts coming) r.whole
-  pub counts : HasCounts (flat_map word_parts coming) r.counts
 
 -- There is memory for these rows, in whatever order and at whatever places they are put.
 pub record HasRoom (coming : List Filed) (l : Listings) : Type 0 where
@@ -38,12 +32,12 @@ pub record HasRoom (coming : List Filed) (l : Listings) : Type 0 where
 -- ---- for private clauses
 
 -- how many places a slot is to have room for: as many as were counted, or one
-abbrev pub wanted_at : Option Kept → Slot → ℕ
+abbrev pub wanted_at : Option Lists → Slot → ℕ
 wanted_at None slot = 1
-wanted_at (Some counts) slot = capped (count_of counts slot)
+wanted_at (Some counts) slot = capped (count_in counts slot)
 
 -- each of these parts has as much room as is wanted
-abbrev pub HasWanted : Option Kept → List (Slot × ℕ) → Lists → Type 0
+abbrev pub HasWanted : Option Lists → List (Slot × ℕ) → Lists → Type 0
 HasWanted wanted ps lists =
     (slot : Slot) → is_posted slot ps ≡ true → wanted_at wanted slot ≤ room_in lists slot
 
@@ -51,14 +45,10 @@ HasWanted wanted ps lists =
 abbrev pub IsKept : Lists → Lists → Type 0
 IsKept old new = (slot : Slot) → room_in old slot ≤ room_in new slot
 
-abbrev pub AreKept : Kept → Kept → Type 0
-AreKept old new = (slot : Slot) → IsTrue (has_room old slot) → IsTrue (has_room new slot)
-
 -- The places and the counts are as they were, and no room is lost.
 pub record IsSame (old new : Register) : Type 0 where
   pub words : places_in new.words ≡ places_in old.words
   pub whole : places_in new.whole ≡ places_in old.whole
-  pub counts : count_of new.counts ≡ count_of old.counts
+  pub counts : count_in new.words ≡ count_in old.words
   pub word_room : IsKept old.words new.words
   pub whole_room : IsKept old.whole new.whole
-  pub count_room : AreKept old.counts new.counts

@@ -4,8 +4,7 @@ use Rattle.std.specs.Prelude.{ℕ, ◌≤◌, ◌^◌, List, Bool, false, not, f
 use Rattle.std.specs.Prelude.{map, Option, Some, None}
 use Rattle.an_base.specs.TextSet.{has_text}
 use Rattle.an_base.specs.declared.span.TermTotal.{TermTotal}
-use Rattle.an_counts.specs.Counts.{count_of}
-use Rattle.an_postings.specs.Postings.{places_in}
+use Rattle.an_postings.specs.Postings.{count_in, places_in}
 use Rattle.an_slots.specs.Rows.{AreCounted, AreListed, parts}
 use Rattle.an_slots.specs.Slot.{Slot}
 use Rattle.an_listed.specs.Filed.{whole_parts, word_parts}
@@ -24,7 +23,7 @@ pub record Listings : Type 0 where
 pub record Stands (r : Register) (filed : List Filed) : Type 0 where
   pub words : AreListed word_parts (places_in r.words) filed
   pub whole : AreListed whole_parts (places_in r.whole) filed
-  pub counts : AreCounted word_parts (count_of r.counts) filed
+  pub counts : AreCounted word_parts (count_in r.words) filed
   pub few : length filed ≤ 2 ^ 32
 
 -- the term is one of those that stay

@@ -74,7 +74,7 @@ impl Register {
     {
         let own = self.whole.classes(alloc, manifest, "")?;
         let read = classes_read(alloc, classes, who, own.as_slice())?;
-        self.counts
+        self.words
             .from_prefix(alloc, manifest, prefix, read.as_slice())
     }
 }

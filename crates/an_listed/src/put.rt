@@ -1,18 +1,17 @@
 ghost use Rattle.std.specs.Prelude.{◌≡◌, ◌+◌, ◌++◌, ◌∷◌, ◌<◌, ◌≤◌, ◌^◌, [], List, ℕ, length};
 ghost use Rattle.std.specs.Prelude.{slice_set};
 ghost use Rattle.std.specs.Option.{option_copied};
-ghost use Rattle.an_counts.specs.Counts.{count_of, has_room};
-ghost use Rattle.an_postings.specs.Postings.{places_in};
+ghost use Rattle.an_postings.specs.Postings.{count_in, places_in};
 ghost use Rattle.an_slots.specs.Rows.{IsThere, added, parts, parts_at, posted, taken, unposted};
 ghost use Rattle.an_slots.specs.Slot.{Slot};
 ghost use Rattle.an_listed.specs.Filed.{empty_term, whole_parts, word_parts};
-ghost use Rattle.an_listed.specs.Room.{HasCounts, HasSpace, IsEnough, IsKept};
+ghost use Rattle.an_listed.specs.Room.{HasSpace, IsEnough, IsKept};
 ghost use Rattle.an_listed.specs.Staying.{left_empty, left_whole, left_words};
 ghost use Rattle.an_listed.specs.Stands.{Stands, left_parts};
 
 use crate::filed::{Filed, is_alike, staying_terms};
 use crate::register::Register;
-use crate::words::{add_counts, put_places, take_counts, take_places};
+use crate::words::{put_words, take_words};
 use an_base::{Name, TermList};
 use an_postings::Postings;
 
@@ -49,16 +48,15 @@ impl Register {
     /// Takes out what is listed of a row, but for the places of the terms that stay.
     fn take(&mut self, row: &Filed, staying: Option<&TermList>, place: usize)
         requires place { place < 2 ^ 32 }
-        requires there { IsThere (count_of self.old.counts) (word_parts row.now) }
+        requires there { IsThere (count_in self.old.words) (word_parts row.now) }
         ensures words { places_in self.new.words ≡ unposted place (places_in self.old.words)
             (left_words row.now (option_copied staying.entry)) }
         ensures whole { places_in self.new.whole ≡ unposted place (places_in self.old.whole)
             (left_whole row.now (option_copied staying.entry)) }
-        ensures counts { count_of self.new.counts
-            ≡ taken (count_of self.old.counts) (word_parts row.now) }
+        ensures counts { count_in self.new.words
+            ≡ taken (count_in self.old.words) (word_parts row.now) }
         ensures word_room { IsKept self.old.words self.new.words }
         ensures whole_room { IsKept self.old.whole self.new.whole }
-        ensures count_room { has_room self.new.counts ≡ has_room self.old.counts }
     {
         match row.note.get().live() {
             Some(live) => {
@@ -78,34 +76,32 @@ impl Register {
         place: usize,
     )
         requires place { place < 2 ^ 32 }
-        requires there { IsThere (count_of self.old.counts) (parts manifest.now class terms.now) }
+        requires there { IsThere (count_in self.old.words) (parts manifest.now class terms.now) }
         ensures words { places_in self.new.words ≡ unposted place (places_in self.old.words)
             (left_parts manifest.now class (option_copied staying.entry) terms.now) }
         ensures whole { places_in self.new.whole ≡ unposted place (places_in self.old.whole)
             (left_empty manifest.now class (option_copied staying.entry)) }
-        ensures counts { count_of self.new.counts
-            ≡ taken (count_of self.old.counts) (parts manifest.now class terms.now) }
+        ensures counts { count_in self.new.words
+            ≡ taken (count_in self.old.words) (parts manifest.now class terms.now) }
         ensures word_room { IsKept self.old.words self.new.words }
         ensures whole_room { IsKept self.old.whole self.new.whole }
-        ensures count_room { has_room self.new.counts ≡ has_room self.old.counts }
     {
-        take_places(&mut self.words, manifest, class, terms, staying, place);
+        take_words(&mut self.words, manifest, class, terms, staying, place);
         take_whole(&mut self.whole, manifest, class, staying, place);
-        take_counts(&mut self.counts, manifest, class, terms);
     }
 
     /// Lists a row.
     fn put(&mut self, row: &Filed, place: usize)
         requires place { place < 2 ^ 32 }
         requires space { HasSpace (row.now ∷ []) self.old }
-        requires small { (slot : Slot) → count_of self.old.counts slot
+        requires small { (slot : Slot) → count_in self.old.words slot
             + parts_at (word_parts row.now) slot < 2 ^ 128 }
         ensures words { places_in self.new.words
             ≡ posted place (places_in self.old.words) (word_parts row.now) }
         ensures whole { places_in self.new.whole
             ≡ posted place (places_in self.old.whole) (whole_parts row.now) }
-        ensures counts { count_of self.new.counts
-            ≡ added (count_of self.old.counts) (word_parts row.now) }
+        ensures counts { count_in self.new.words
+            ≡ added (count_in self.old.words) (word_parts row.now) }
         ensures rest { (rest : List Filed)
             → HasSpace (row.now ∷ rest) self.old → HasSpace rest self.new }
     {
@@ -119,27 +115,24 @@ impl Register {
         requires place { place < 2 ^ 32 }
         requires words { IsEnough (parts manifest.now class terms.now) self.old.words }
         requires whole { IsEnough (parts manifest.now class (empty_term ∷ [])) self.old.whole }
-        requires room { HasCounts (parts manifest.now class terms.now) self.old.counts }
-        requires small { (slot : Slot) → count_of self.old.counts slot
+        requires small { (slot : Slot) → count_in self.old.words slot
             + parts_at (parts manifest.now class terms.now) slot < 2 ^ 128 }
         ensures words { places_in self.new.words
             ≡ posted place (places_in self.old.words) (parts manifest.now class terms.now) }
         ensures whole { places_in self.new.whole
             ≡ posted place (places_in self.old.whole)
             (parts manifest.now class (empty_term ∷ [])) }
-        ensures counts { count_of self.new.counts
-            ≡ added (count_of self.old.counts) (parts manifest.now class terms.now) }
+        ensures counts { count_in self.new.words
+            ≡ added (count_in self.old.words) (parts manifest.now class terms.now) }
         ensures word_rest { (rest : List (Slot × ℕ))
             → IsEnough (parts manifest.now class terms.now ++ rest) self.old.words
             → IsEnough rest self.new.words }
         ensures whole_rest { (rest : List (Slot × ℕ))
             → IsEnough (parts manifest.now class (empty_term ∷ []) ++ rest) self.old.whole
             → IsEnough rest self.new.whole }
-        ensures count_room { has_room self.new.counts ≡ has_room self.old.counts }
     {
-        put_places(&mut self.words, manifest, class, terms, place);
-        self.whole.add(manifest, "", class, place);
-        add_counts(&mut self.counts, manifest, class, terms);
+        put_words(&mut self.words, manifest, class, terms, place);
+        self.whole.add(manifest, "", class, place, 0);
     }
 }
 

@@ -2,14 +2,14 @@ ghost use Rattle.std.specs.Prelude.{◌≡◌, ◌∷◌, [], OnOk, flat_map};
 ghost use Rattle.std.specs.Option.{option_copied};
 ghost use Rattle.an_slots.specs.Rows.{parts};
 ghost use Rattle.an_listed.specs.Filed.{empty_term, whole_parts, word_parts};
-ghost use Rattle.an_listed.specs.Room.{HasCounts, HasSpace, HasWanted, IsSame};
+ghost use Rattle.an_listed.specs.Room.{HasSpace, HasWanted, IsSame};
 
 use crate::filed::Filed;
 use crate::needs::{needed_whole, needed_words, wanted};
 use crate::register::Register;
-use crate::words::{room_for_counts, room_for_places};
+use crate::words::room_for_words;
 use an_base::{Name, TermList};
-use an_counts::Counts;
+use an_postings::Postings;
 use std::alloc::{AllocError, Global};
 
 impl Register {
@@ -30,14 +30,13 @@ impl Register {
     fn room_for_all(
         &mut self,
         rows: &[Filed],
-        words: Option<&Counts>,
-        whole: Option<&Counts>,
+        words: Option<&Postings>,
+        whole: Option<&Postings>,
     ) -> Result<(), AllocError>
         ensures words { OnOk result (HasWanted (option_copied words.entry)
             (flat_map word_parts rows.now) self.new.words) }
         ensures whole { OnOk result (HasWanted (option_copied whole.entry)
             (flat_map whole_parts rows.now) self.new.whole) }
-        ensures counts { OnOk result (HasCounts (flat_map word_parts rows.now) self.new.counts) }
         ensures same { IsSame self.old self.new }
     {
         for row in rows {
@@ -49,14 +48,13 @@ impl Register {
     fn room_for(
         &mut self,
         row: &Filed,
-        words: Option<&Counts>,
-        whole: Option<&Counts>,
+        words: Option<&Postings>,
+        whole: Option<&Postings>,
     ) -> Result<(), AllocError>
         ensures words { OnOk result (HasWanted (option_copied words.entry)
             (word_parts row.now) self.new.words) }
         ensures whole { OnOk result (HasWanted (option_copied whole.entry)
             (whole_parts row.now) self.new.whole) }
-        ensures counts { OnOk result (HasCounts (word_parts row.now) self.new.counts) }
         ensures same { IsSame self.old self.new }
     {
         match row.note.get().live() {
@@ -73,19 +71,16 @@ impl Register {
         manifest: &Name,
         class: usize,
         terms: &TermList,
-        words: Option<&Counts>,
-        whole: Option<&Counts>,
+        words: Option<&Postings>,
+        whole: Option<&Postings>,
     ) -> Result<(), AllocError>
         ensures words { OnOk result (HasWanted (option_copied words.entry)
             (parts manifest.now class terms.now) self.new.words) }
         ensures whole { OnOk result (HasWanted (option_copied whole.entry)
             (parts manifest.now class (empty_term ∷ [])) self.new.whole) }
-        ensures counts { OnOk result
-            (HasCounts (parts manifest.now class terms.now) self.new.counts) }
         ensures same { IsSame self.old self.new }
     {
-        room_for_places(&mut self.words, manifest, class, terms, words)?;
-        room_for_counts(&mut self.counts, manifest, class, terms)?;
+        room_for_words(&mut self.words, manifest, class, terms, words)?;
         let more = wanted(whole, manifest, "", class);
         self.whole.room_add(manifest, "", class, more)
     }

@@ -1,30 +1,29 @@
-ghost use Rattle.std.specs.Prelude.{◌≡◌, ◌+◌, ◌++◌, ◌<◌, ◌≤◌, ◌^◌, List, ℕ, OnOk, if◌then◌else◌};
+ghost use Rattle.std.specs.Prelude.{◌≡◌, ◌+◌, ◌++◌, ◌<◌, ◌^◌, List, ℕ, OnOk, if◌then◌else◌};
 ghost use Rattle.std.specs.Option.{option_copied};
-ghost use Rattle.an_counts.specs.Counts.{count_of, has_room};
-ghost use Rattle.an_postings.specs.Postings.{places_in};
+ghost use Rattle.an_postings.specs.Postings.{count_in, places_in};
 ghost use Rattle.an_slots.specs.Places.{without_place};
 ghost use Rattle.an_slots.specs.Rows.{IsThere, added, parts, parts_at, posted, taken, unposted};
 ghost use Rattle.an_slots.specs.Slot.{Slot, at, slot_of};
-ghost use Rattle.an_listed.specs.Room.{AreKept, HasCounts, HasWanted, IsEnough, IsKept};
+ghost use Rattle.an_listed.specs.Room.{HasWanted, IsEnough, IsKept};
 ghost use Rattle.an_listed.specs.Stands.{left_parts, stays};
 
 use crate::needs::wanted;
 use an_base::{Name, TermList};
-use an_counts::Counts;
 use an_postings::Postings;
 use std::alloc::AllocError;
 
 /// Takes the memory for so many places more in the list of each of these terms as are wanted there.
-pub(crate) fn room_for_places(
+pub(crate) fn room_for_words(
     words: &mut Postings,
     manifest: &Name,
     class: usize,
     terms: &TermList,
-    needed: Option<&Counts>,
+    needed: Option<&Postings>,
 ) -> Result<(), AllocError>
     ensures ok { OnOk result (HasWanted (option_copied needed.entry)
         (parts manifest.now class terms.now) words.new) }
     ensures places { places_in words.new ≡ places_in words.old }
+    ensures count { count_in words.new ≡ count_in words.old }
     ensures kept { IsKept words.old words.new }
 {
     for at in 0..terms.len() {
@@ -35,25 +34,9 @@ pub(crate) fn room_for_places(
     Ok(())
 }
 
-/// Takes the memory for the count of each of these terms.
-pub(crate) fn room_for_counts(
-    counts: &mut Counts,
-    manifest: &Name,
-    class: usize,
-    terms: &TermList,
-) -> Result<(), AllocError>
-    ensures ok { OnOk result (HasCounts (parts manifest.now class terms.now) counts.new) }
-    ensures count { count_of counts.new ≡ count_of counts.old }
-    ensures kept { AreKept counts.old counts.new }
-{
-    for at in 0..terms.len() {
-        counts.room(manifest, terms.term(at), class)?;
-    }
-    Ok(())
-}
-
-/// Takes the place out of the list of each of these terms that doesn't stay.
-pub(crate) fn take_places(
+/// Takes how often each of these terms occurs from its count, and the place out of its list, where
+/// the term doesn't stay.
+pub(crate) fn take_words(
     words: &mut Postings,
     manifest: &Name,
     class: usize,
@@ -62,12 +45,17 @@ pub(crate) fn take_places(
     place: usize,
 )
     requires place { place < 2 ^ 32 }
+    requires there { IsThere (count_in words.old) (parts manifest.now class terms.now) }
     ensures places { places_in words.new ≡ unposted place (places_in words.old)
         (left_parts manifest.now class (option_copied staying.entry) terms.now) }
+    ensures count { count_in words.new
+        ≡ taken (count_in words.old) (parts manifest.now class terms.now) }
     ensures kept { IsKept words.old words.new }
 {
     for at in 0..terms.len() {
-        take_place(words, manifest, class, terms.term(at), staying, place);
+        let term = terms.term(at);
+        words.take(manifest, term, class, terms.total(at));
+        take_place(words, manifest, class, term, staying, place);
     }
 }
 
@@ -84,6 +72,7 @@ fn take_place(
         ≡ (if stays (option_copied staying.entry) term.now then places_in words.old
         else at (slot_of manifest.now term.now class) (without_place place)
         (places_in words.old)) }
+    ensures count { count_in words.new ≡ count_in words.old }
     ensures kept { IsKept words.old words.new }
 {
     if !stays(staying, term) {
@@ -100,8 +89,8 @@ fn stays(staying: Option<&TermList>, term: &str) -> bool
     }
 }
 
-/// Puts the place into the list of each of these terms.
-pub(crate) fn put_places(
+/// Puts the place into the list of each of these terms, and adds how often it occurs to its count.
+pub(crate) fn put_words(
     words: &mut Postings,
     manifest: &Name,
     class: usize,
@@ -110,39 +99,17 @@ pub(crate) fn put_places(
 )
     requires place { place < 2 ^ 32 }
     requires room { IsEnough (parts manifest.now class terms.now) words.old }
+    requires small { (slot : Slot) → count_in words.old slot
+        + parts_at (parts manifest.now class terms.now) slot < 2 ^ 128 }
     ensures places { places_in words.new
         ≡ posted place (places_in words.old) (parts manifest.now class terms.now) }
+    ensures count { count_in words.new
+        ≡ added (count_in words.old) (parts manifest.now class terms.now) }
     ensures rest { (rest : List (Slot × ℕ))
         → IsEnough (parts manifest.now class terms.now ++ rest) words.old
         → IsEnough rest words.new }
 {
     for at in 0..terms.len() {
-        words.add(manifest, terms.term(at), class, place);
-    }
-}
-
-/// Takes how often each of these terms occurs from its count.
-pub(crate) fn take_counts(counts: &mut Counts, manifest: &Name, class: usize, terms: &TermList)
-    requires there { IsThere (count_of counts.old) (parts manifest.now class terms.now) }
-    ensures count { count_of counts.new
-        ≡ taken (count_of counts.old) (parts manifest.now class terms.now) }
-    ensures kept { has_room counts.new ≡ has_room counts.old }
-{
-    for at in 0..terms.len() {
-        counts.take(manifest, terms.term(at), class, terms.total(at));
-    }
-}
-
-/// Adds how often each of these terms occurs to its count.
-pub(crate) fn add_counts(counts: &mut Counts, manifest: &Name, class: usize, terms: &TermList)
-    requires room { HasCounts (parts manifest.now class terms.now) counts.old }
-    requires small { (slot : Slot) → count_of counts.old slot
-        + parts_at (parts manifest.now class terms.now) slot < 2 ^ 128 }
-    ensures count { count_of counts.new
-        ≡ added (count_of counts.old) (parts manifest.now class terms.now) }
-    ensures kept { has_room counts.new ≡ has_room counts.old }
-{
-    for at in 0..terms.len() {
-        counts.add(manifest, terms.term(at), class, terms.total(at));
+        words.add(manifest, terms.term(at), class, place, terms.total(at));
     }
 }

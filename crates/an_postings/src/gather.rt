@@ -3,7 +3,7 @@ ghost use Rattle.an_slots.specs.Places.{Rises, ascending, has};
 ghost use Rattle.an_postings.specs.Gather.{AllRise, picked};
 ghost use Rattle.an_postings.specs.Lists.{IsOrdered, class_of, places_at};
 
-use crate::class_lists::ClassPlaces;
+use crate::class_postings::ClassPostings;
 use crate::merge::{merged, wide};
 use crate::sorted::sorted;
 use an_slots::is_among;
@@ -13,7 +13,7 @@ use std::collections::VecDeque;
 /// The places of these classes, ascending, each once.
 pub(crate) fn places_in(
     alloc: Global,
-    lists: &[ClassPlaces],
+    lists: &[ClassPostings],
     classes: &[usize],
 ) -> Result<Vec<usize>, AllocError>
     requires ordered { IsOrdered lists.now }
@@ -28,7 +28,7 @@ pub(crate) fn places_in(
 /// The lists of these classes, each as the runs in which it stands in memory.
 fn chosen<'a>(
     alloc: Global,
-    lists: &'a [ClassPlaces],
+    lists: &'a [ClassPostings],
     classes: &[usize],
 ) -> Result<Vec<&'a [u32]>, AllocError>
     requires ordered { IsOrdered lists.now }
@@ -81,7 +81,7 @@ fn widened(alloc: Global, lists: &[&[u32]]) -> Result<Vec<usize>, AllocError>
 }
 
 /// The classes that have a list, ascending.
-pub(crate) fn classes_of(alloc: Global, lists: &[ClassPlaces]) -> Result<Vec<usize>, AllocError>
+pub(crate) fn classes_of(alloc: Global, lists: &[ClassPostings]) -> Result<Vec<usize>, AllocError>
     requires ordered { IsOrdered lists.now }
     ensures classes { IfOk result (λ classes. classes.items ≡ map class_of lists.now) }
     ensures rises { Rises 0 (map class_of lists.now) }

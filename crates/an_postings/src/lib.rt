@@ -1,13 +1,18 @@
-//! Lists of places: for each manifest, term and class the places of the rows there, ascending.
+//! Postings: for each manifest, term and class the places of the rows there, ascending, and how
+//! often the term occurs in them.
 #![tactic(auto)]
 
-pub use class_lists::ClassPlaces;
+pub use class_postings::ClassPostings;
+pub use laws::all_is_told;
 pub use postings::Postings;
 
-mod class_lists;
+mod class_postings;
 mod gather;
+mod laws;
+mod manifest_postings;
 mod merge;
 mod places;
 mod postings;
+mod prefix;
 mod sorted;
-mod term_lists;
+mod totals;

@@ -1,21 +1,27 @@
-ghost use Rattle.std.specs.Prelude.{◌≡◌, ◌<◌, ◌≤◌, ◌^◌, ℕ, [], false, IfOk, IsTrue, OnOk, flat_map};
+ghost use Rattle.std.specs.Prelude.{◌≡◌, ◌+◌, ◌-◌, ◌<◌, ◌≤◌, ◌^◌, ℕ, [], false, IfOk, IsTrue, OnOk};
+ghost use Rattle.std.specs.Prelude.{flat_map};
+ghost use Rattle.std.specs.List.{sum_by};
+ghost use Rattle.an_base.specs.Totals.{capped};
 ghost use Rattle.an_slots.specs.Places.{Rises, ascending, has, with_place, without_place};
 ghost use Rattle.an_slots.specs.Slot.{Slot, at, slot_of};
 ghost use Rattle.an_slots.specs.Texts.{under};
-ghost use Rattle.an_postings.specs.Postings.{IsSpentAt, has_room, places_in, room_in};
+ghost use Rattle.an_postings.specs.Change.{IsAdded, IsChangedUnder, IsRemoved, IsRoomier, IsTaken};
+ghost use Rattle.an_postings.specs.Postings.{IsSpentAt, count_in, has_room, places_in, room_in};
+ghost use Rattle.an_postings.specs.Totals.{Climbs, told_from};
 
-use crate::term_lists::TermLists;
-use an_base::Name;
+use crate::manifest_postings::ManifestPostings;
+use an_base::{Name, TermTotal};
 use std::alloc::{AllocError, Global};
 use std::collections::BTreeMap;
 use std::marker::Model;
 
-/// For each manifest, term and class the places of rows, ascending. Contracts see the list of each
-/// of these slots, and for how many more places it has memory.
+/// For each manifest, term and class the places of rows, ascending, and how often the term occurs
+/// in them. Contracts see the list and the count of each of these slots, and for how many more
+/// places it has memory.
 #[derive(Drop)]
 pub struct Postings {
     alloc: Global,
-    manifests: BTreeMap<String, TermLists>,
+    manifests: BTreeMap<String, ManifestPostings>,
 }
 
 impl Model for Postings {
@@ -28,9 +34,10 @@ impl Model for Postings {
 }
 
 impl Postings {
-    /// Lists with no place, which take no memory.
+    /// No place, and no count above 0, which takes no memory.
     pub fn new(alloc: Global) -> Postings
-        ensures empty { places_in result ≡ λ slot. [] }
+        ensures places { places_in result ≡ λ slot. [] }
+        ensures count { count_in result ≡ λ slot. 0 }
     {
         Postings {
             alloc,
@@ -39,7 +46,7 @@ impl Postings {
     }
 
     /// Takes the memory for so many places more of a manifest, term and class. Where it runs out,
-    /// the places are the same, and there is no less room.
+    /// the places and the counts are the same, and there is no less room.
     pub fn room_add(
         &mut self,
         manifest: &Name,
@@ -49,6 +56,7 @@ impl Postings {
     ) -> Result<(), AllocError>
         ensures ok { OnOk result (more ≤ room_in self.new (slot_of manifest.now term.now class)) }
         ensures places { places_in self.new ≡ places_in self.old }
+        ensures count { count_in self.new ≡ count_in self.old }
         ensures kept { (slot : Slot) → room_in self.old slot ≤ room_in self.new slot }
     {
         self.room_under(manifest.as_str(), term, class, more)
@@ -62,8 +70,8 @@ impl Postings {
         more: usize,
     ) -> Result<(), AllocError>
         ensures ok { OnOk result (more ≤ room_in self.new (slot_of manifest.now term.now class)) }
-        ensures places { places_in self.new ≡ places_in self.old }
-        ensures kept { (slot : Slot) → room_in self.old slot ≤ room_in self.new slot }
+        ensures roomier { IsChangedUnder manifest.now (IsChangedUnder term.now IsRoomier)
+            self.old self.new }
     {
         match self.manifests.get_mut(manifest) {
             Some(terms) => terms.room_add(term, class, more),
@@ -80,10 +88,10 @@ impl Postings {
     ) -> Result<(), AllocError>
         requires nowhere { under manifest.now self.old ≡ [] }
         ensures ok { OnOk result (more ≤ room_in self.new (slot_of manifest.now term.now class)) }
-        ensures places { places_in self.new ≡ places_in self.old }
-        ensures kept { (slot : Slot) → room_in self.old slot ≤ room_in self.new slot }
+        ensures roomier { IsChangedUnder manifest.now (IsChangedUnder term.now IsRoomier)
+            self.old self.new }
     {
-        let mut terms = TermLists::new(self.alloc);
+        let mut terms = ManifestPostings::new(self.alloc);
         terms.room_add(term, class, more)?;
         let key = String::from_str(self.alloc, manifest)?;
         match self.manifests.insert(key, terms) {
@@ -92,28 +100,29 @@ impl Postings {
         }
     }
 
-    /// Puts the place into the list of a manifest, term and class, if it isn't there. It takes no
-    /// memory.
-    pub fn add(&mut self, manifest: &Name, term: &str, class: usize, place: usize)
+    /// Puts the place into the list of a manifest, term and class, if it isn't there, and counts
+    /// the term so many times more, at most 2^128 - 1 times in all. It takes no memory.
+    pub fn add(&mut self, manifest: &Name, term: &str, class: usize, place: usize, times: u64)
         requires room { IsTrue (has_room place (slot_of manifest.now term.now class) self.old) }
         requires place { place < 2 ^ 32 }
         ensures places { places_in self.new
             ≡ at (slot_of manifest.now term.now class) (with_place place) (places_in self.old) }
+        ensures count { count_in self.old (slot_of manifest.now term.now class) + times < 2 ^ 128
+            → count_in self.new
+            ≡ at (slot_of manifest.now term.now class) (λ m. m + times) (count_in self.old) }
         ensures room { IsSpentAt (slot_of manifest.now term.now class)
             (room_in self.old) (room_in self.new) }
     {
-        self.add_under(manifest.as_str(), term, class, place as u32);
+        self.add_under(manifest.as_str(), term, class, place as u32, times);
     }
 
-    fn add_under(&mut self, manifest: &str, term: &str, class: usize, place: u32)
+    fn add_under(&mut self, manifest: &str, term: &str, class: usize, place: u32, times: u64)
         requires room { IsTrue (has_room place (slot_of manifest.now term.now class) self.old) }
-        ensures places { places_in self.new
-            ≡ at (slot_of manifest.now term.now class) (with_place place) (places_in self.old) }
-        ensures room { IsSpentAt (slot_of manifest.now term.now class)
-            (room_in self.old) (room_in self.new) }
+        ensures added { IsChangedUnder manifest.now
+            (IsChangedUnder term.now (IsAdded class place times)) self.old self.new }
     {
         match self.manifests.get_mut(manifest) {
-            Some(terms) => terms.add(term, class, place),
+            Some(terms) => terms.add(term, class, place, times),
             None => unreachable!(),
         }
     }
@@ -124,18 +133,40 @@ impl Postings {
         requires place { place < 2 ^ 32 }
         ensures places { places_in self.new
             ≡ at (slot_of manifest.now term.now class) (without_place place) (places_in self.old) }
+        ensures count { count_in self.new ≡ count_in self.old }
         ensures room { (slot : Slot) → room_in self.old slot ≤ room_in self.new slot }
     {
         self.remove_under(manifest.as_str(), term, class, place as u32);
     }
 
     fn remove_under(&mut self, manifest: &str, term: &str, class: usize, place: u32)
-        ensures places { places_in self.new
-            ≡ at (slot_of manifest.now term.now class) (without_place place) (places_in self.old) }
-        ensures room { (slot : Slot) → room_in self.old slot ≤ room_in self.new slot }
+        ensures removed { IsChangedUnder manifest.now
+            (IsChangedUnder term.now (IsRemoved class place)) self.old self.new }
     {
         match self.manifests.get_mut(manifest) {
             Some(terms) => terms.remove(term, class, place),
+            None => {}
+        }
+    }
+
+    /// Counts the term of a manifest and class so many times less. It takes no memory.
+    pub fn take(&mut self, manifest: &Name, term: &str, class: usize, times: u64)
+        requires enough { times ≤ count_in self.old (slot_of manifest.now term.now class) }
+        ensures places { places_in self.new ≡ places_in self.old }
+        ensures count { count_in self.new
+            ≡ at (slot_of manifest.now term.now class) (λ m. m - times) (count_in self.old) }
+        ensures room { (slot : Slot) → room_in self.old slot ≤ room_in self.new slot }
+    {
+        self.take_under(manifest.as_str(), term, class, times);
+    }
+
+    fn take_under(&mut self, manifest: &str, term: &str, class: usize, times: u64)
+        requires enough { times ≤ count_in self.old (slot_of manifest.now term.now class) }
+        ensures taken { IsChangedUnder manifest.now
+            (IsChangedUnder term.now (IsTaken class times)) self.old self.new }
+    {
+        match self.manifests.get_mut(manifest) {
+            Some(terms) => terms.take(term, class, times),
             None => {}
         }
     }
@@ -198,6 +229,63 @@ impl Postings {
     {
         match self.manifests.get(manifest) {
             Some(terms) => terms.classes(alloc, term),
+            None => Ok(Vec::new(alloc)),
+        }
+    }
+
+    /// The counts of a manifest and term in these classes together, or the greatest number of 64
+    /// bits where that is more. The classes ascend. It takes no memory.
+    pub fn total(&self, manifest: &Name, term: &str, classes: &[usize]) -> u64
+        requires rises { Rises 0 classes.now }
+        ensures total { result ≡ capped (sum_by
+            (λ class. count_in self.now (slot_of manifest.now term.now class)) classes.now) }
+    {
+        self.total_under(manifest.as_str(), term, classes)
+    }
+
+    fn total_under(&self, manifest: &str, term: &str, classes: &[usize]) -> u64
+        requires rises { Rises 0 classes.now }
+        ensures total { result ≡ capped (sum_by
+            (λ class. count_in self.now (slot_of manifest.now term.now class)) classes.now) }
+    {
+        match self.manifests.get(manifest) {
+            Some(terms) => terms.total(term, classes),
+            None => 0,
+        }
+    }
+
+    /// The terms of a manifest that begin with the prefix, ascending by their bytes, each with its
+    /// counts in these classes together, or the greatest number of 64 bits where that is more;
+    /// without those whose counts are 0. The classes ascend.
+    pub fn from_prefix(
+        &self,
+        alloc: Global,
+        manifest: &Name,
+        prefix: &str,
+        classes: &[usize],
+    ) -> Result<Vec<TermTotal>, AllocError>
+        requires rises { Rises 0 classes.now }
+        ensures told { IfOk result (λ told. told.items
+            ≡ told_from prefix.now classes.now (under manifest.now self.now)) }
+        ensures ascending { OnOk result (Climbs (under manifest.now self.now)) }
+    {
+        self.told_under(alloc, manifest.as_str(), prefix, classes)
+    }
+
+    fn told_under(
+        &self,
+        alloc: Global,
+        manifest: &str,
+        prefix: &str,
+        classes: &[usize],
+    ) -> Result<Vec<TermTotal>, AllocError>
+        requires rises { Rises 0 classes.now }
+        ensures told { IfOk result (λ told. told.items
+            ≡ told_from prefix.now classes.now (under manifest.now self.now)) }
+        ensures ascending { OnOk result (Climbs (under manifest.now self.now)) }
+    {
+        match self.manifests.get(manifest) {
+            Some(terms) => terms.from_prefix(alloc, prefix, classes),
             None => Ok(Vec::new(alloc)),
         }
     }

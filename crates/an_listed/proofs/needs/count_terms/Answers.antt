@@ -1,5 +1,5 @@
 use Rattle.std.proofs.Common.{◌≡◌, ℕ, ◌+◌, ◌<◌, ◌∷◌, length, drop, get_or, map, ◌∙◌, arith}
-use Rattle.an_counts.specs.Counts.{count_of}
+use Rattle.an_postings.specs.Postings.{count_in}
 use Rattle.an_slots.specs.Rows.{parts}
 use Rattle.an_slots.specs.Slot.{Slot, slot_of}
 use Rattle.an_listed.proofs.NeedLemmas.{counted-next, first-times}
@@ -33,4 +33,4 @@ loop-at-preserved c = λ slot.
     let rest = parts manifest class (drop (i + 1) terms) in
     let all = parts manifest class (drop i terms) in
     let next : all ≡ part ∷ rest = slot-next manifest class terms i c.term.result.now within c.term.ensures.term in
-    counted-next (count_of c.loop-at.needed) (count_of c.count_one.new.needed) part rest all next c.in_ok-count_one.ensures.count slot ∙ c.loop-at.invariant slot
+    counted-next (count_in c.loop-at.needed) (count_in c.count_one.new.needed) part rest all next c.in_ok-count_one.ensures.count slot ∙ c.loop-at.invariant slot

@@ -1,6 +1,6 @@
 use Rattle.std.proofs.Common.{◌≡◌, [], Some, option_map, sym, ap, ◌∙◌, arith}
 use Rattle.std.proofs.lemmas.Result.{on_ok_weaker}
-use Rattle.an_counts.specs.Counts.{count_of}
+use Rattle.an_postings.specs.Postings.{count_in}
 use Rattle.an_slots.specs.Slot.{slot_of}
 use Rattle.an_state.specs.Live.{lent_note}
 use Rattle.an_state.specs.State.{NoteState}
@@ -24,6 +24,6 @@ returns-in-Some c =
     let is = whole-live c.args.row.now (lent_note c.in-Some.live) known in
     record {
       count = on_ok_weaker c.count_one.result (λ count other.
-          let e = counted-next (count_of c.args.needed.now) (count_of c.count_one.new.needed) (slot, 0) [] _ is count other in
+          let e = counted-next (count_in c.args.needed.now) (count_in c.count_one.new.needed) (slot, 0) [] _ is count other in
           omega (arith, e)) c.count_one.ensures.count;
     }

@@ -1,6 +1,6 @@
 use Rattle.std.proofs.Common.{◌≡◌, ◌≤◌, take}
 use Rattle.std.specs.List.{flat_map}
-use Rattle.an_counts.specs.Counts.{count_of}
+use Rattle.an_postings.specs.Postings.{count_in}
 use Rattle.an_slots.specs.Slot.{Slot}
 use Rattle.an_listed.specs.Filed.{whole_parts}
 use Rattle.an_listed.specs.Room.{times}
@@ -9,6 +9,6 @@ use Rattle.an_listed.proofs.needs.needed_whole.Given as goal
 -- so far each row counted at most once
 abbrev pub invariant-loop-row : goal.invariant-loop-row
 invariant-loop-row l = record {
-  count : (slot : Slot) → count_of l.needed slot ≡ times slot (flat_map whole_parts (take l.row-index l.rows));
-  few : (slot : Slot) → count_of l.needed slot ≤ l.row-index;
+  count : (slot : Slot) → count_in l.needed slot ≡ times slot (flat_map whole_parts (take l.row-index l.rows));
+  few : (slot : Slot) → count_in l.needed slot ≤ l.row-index;
 }

@@ -1,17 +1,14 @@
-use Rattle.std.proofs.Common.{◌≡◌, ℕ, Bool, true, List, ◌∷◌, ◌++◌, Some, option_map, sym, ap, ◌∙◌, subst}
-use Rattle.std.specs.Prelude.{IsTrue}
+use Rattle.std.proofs.Common.{◌≡◌, ℕ, List, ◌∷◌, ◌++◌, Some, option_map, sym, ap, ◌∙◌, subst}
 use Rattle.std.specs.List.{flat_map}
 use Rattle.std.proofs.lemmas.List.Concat.{flat_map-cons}
-use Rattle.an_counts.specs.Counts.{has_room}
 use Rattle.an_postings.specs.Postings.{places_in}
-use Rattle.an_slots.specs.Rows.{is_posted, parts, posted}
+use Rattle.an_slots.specs.Rows.{parts, posted}
 use Rattle.an_slots.specs.Slot.{Slot}
 use Rattle.an_state.specs.Live.{lent_note}
 use Rattle.an_state.specs.State.{NoteState}
 use Rattle.an_listed.specs.Filed.{whole_parts, word_parts}
 use Rattle.an_listed.specs.Room.{IsEnough}
 use Rattle.an_listed.proofs.FiledLemmas.{whole-live, words-live}
-use Rattle.an_listed.proofs.RoomLemmas.{counts-rest}
 use Rattle.an_listed.proofs.register.Register.put.Goals as goal
 
 pub returns-in-Some-clause-whole : goal.returns-in-Some-clause-whole
@@ -29,5 +26,4 @@ returns-in-Some-clause-rest c = λ rest space.
     record {
       words = c.put_under.ensures.word_rest (flat_map word_parts rest) (subst (λ (ps : List (Slot × ℕ)). IsEnough ps c.args.self.now.words) words space.words);
       whole = c.put_under.ensures.whole_rest (flat_map whole_parts rest) (subst (λ (ps : List (Slot × ℕ)). IsEnough ps c.args.self.now.whole) whole space.whole);
-      counts = λ s h. subst (λ (f : Slot → Bool). IsTrue (f s)) (sym c.put_under.ensures.count_room) (counts-rest (word_parts row) (flat_map word_parts rest) c.args.self.now.counts (subst (λ (ps : List (Slot × ℕ)). (s : Slot) → is_posted s ps ≡ true → IsTrue (has_room c.args.self.now.counts s)) (flat_map-cons word_parts row rest) space.counts) s h);
     }

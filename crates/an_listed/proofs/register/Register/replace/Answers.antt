@@ -1,7 +1,6 @@
 use Rattle.std.proofs.Common.{ℕ, List, [], ◌∷◌, Option, ap, ◌∙◌}
 use Rattle.an_base.specs.declared.span.TermTotal.{TermTotal}
-use Rattle.an_counts.specs.Counts.{count_of}
-use Rattle.an_postings.specs.Postings.{places_in}
+use Rattle.an_postings.specs.Postings.{count_in, places_in}
 use Rattle.an_slots.specs.Rows.{added, posted, unposted}
 use Rattle.an_slots.specs.Slot.{Slot}
 use Rattle.an_listed.specs.Filed.{whole_parts, word_parts}
@@ -15,10 +14,10 @@ pub take-requires-clause-there : goal.take-requires-clause-there
 take-requires-clause-there c = stands-there c.args.self.now c.args.rows.now c.requires.stands c.args.place c.index-rows-place.result c.requires.place c.index-rows-place.is
 
 pub put-requires-clause-space : goal.put-requires-clause-space
-put-requires-clause-space c = space-kept (c.args.row.now ∷ []) c.args.self.now c.take.new.self c.take.ensures.word_room c.take.ensures.whole_room c.take.ensures.count_room c.requires.space
+put-requires-clause-space c = space-kept (c.args.row.now ∷ []) c.args.self.now c.take.new.self c.take.ensures.word_room c.take.ensures.whole_room c.requires.space
 
 pub put-requires-clause-small : goal.put-requires-clause-small
-put-requires-clause-small c = small-taken c.args.self.now c.args.rows.now c.requires.stands c.index-rows-place.result c.args.row.now (count_of c.take.new.self.counts) c.take.ensures.counts
+put-requires-clause-small c = small-taken c.args.self.now c.args.rows.now c.requires.stands c.index-rows-place.result c.args.row.now (count_in c.take.new.self.words) c.take.ensures.counts
 
 pub returns-then-not-is_alike-clause-stands : goal.returns-then-not-is_alike-clause-stands
 returns-then-not-is_alike-clause-stands c =
@@ -32,7 +31,7 @@ returns-then-not-is_alike-clause-stands c =
     stands-set self c.args.rows.now c.requires.stands c.put.new.self place old row c.requires.place c.index-rows-place.is words whole counts
 
 pub returns-then-not-is_alike-clause-rest : goal.returns-then-not-is_alike-clause-rest
-returns-then-not-is_alike-clause-rest c = λ rest space. c.put.ensures.rest rest (space-kept (c.args.row.now ∷ rest) c.args.self.now c.take.new.self c.take.ensures.word_room c.take.ensures.whole_room c.take.ensures.count_room space)
+returns-then-not-is_alike-clause-rest c = λ rest space. c.put.ensures.rest rest (space-kept (c.args.row.now ∷ rest) c.args.self.now c.take.new.self c.take.ensures.word_room c.take.ensures.whole_room space)
 
 pub returns-else-not-is_alike-clause-stands : goal.returns-else-not-is_alike-clause-stands
 returns-else-not-is_alike-clause-stands c = stands-alike c.args.self.now c.args.rows.now c.requires.stands c.args.place c.index-rows-place.result c.args.row.now c.requires.place c.index-rows-place.is (c.is_alike.ensures.words c.if-not-is_alike.false) (c.is_alike.ensures.whole c.if-not-is_alike.false)

@@ -1,8 +1,6 @@
 use Rattle.std.proofs.Common.{◌≡◌, ◌≤◌, true, ◌⊎◌, drop}
-use Rattle.std.specs.Prelude.{IsTrue}
 use Rattle.std.specs.List.{flat_map}
 use Rattle.std.specs.Option.{option_copied}
-use Rattle.an_counts.specs.Counts.{has_room}
 use Rattle.an_postings.specs.Postings.{room_in}
 use Rattle.an_slots.specs.Rows.{is_posted}
 use Rattle.an_slots.specs.Slot.{Slot}
@@ -19,8 +17,5 @@ invariant-loop-row l = record {
   whole : (slot : Slot) → is_posted slot (flat_map whole_parts l.rows) ≡ true
       → (wanted_at (option_copied l.whole) slot ≤ room_in l.self.whole slot)
       ⊎ (is_posted slot (flat_map whole_parts (drop l.row-index l.rows)) ≡ true);
-  counts : (slot : Slot) → is_posted slot (flat_map word_parts l.rows) ≡ true
-      → IsTrue (has_room l.self.counts slot)
-      ⊎ (is_posted slot (flat_map word_parts (drop l.row-index l.rows)) ≡ true);
   same : IsSame l.fn.self l.self;
 }
