@@ -33,10 +33,10 @@ pub(crate) struct TermPostings {
 
 impl Model for TermPostings {
     ghost use Rattle.std.specs.Prelude.{List};
-    ghost use Rattle.an_postings.specs.declared.class_postings.ClassPostings.{ClassPostings as OneClass};
+    ghost use Rattle.an_postings.specs.declared.class_postings.ClassPostings.{ClassPostings as One};
     ghost use Rattle.an_postings.specs.Lists.{IsOrdered};
 
-    ghost Value = { List OneClass };
+    ghost Value = { List One };
 
     ghost view = { λ t. t.lists.items };
 

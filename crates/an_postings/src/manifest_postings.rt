@@ -25,10 +25,10 @@ pub(crate) struct ManifestPostings {
 
 impl Model for ManifestPostings {
     ghost use Rattle.std.specs.Prelude.{List, ℕ};
-    ghost use Rattle.an_postings.specs.declared.class_postings.ClassPostings.{ClassPostings as OneClass};
+    ghost use Rattle.an_postings.specs.declared.class_postings.ClassPostings.{ClassPostings as One};
     ghost use Rattle.an_slots.specs.Texts.{texts};
 
-    ghost Value = { List (List ℕ × List OneClass) };
+    ghost Value = { List (List ℕ × List One) };
 
     ghost view = { λ m. texts m.terms.entries };
 }
