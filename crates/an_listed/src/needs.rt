@@ -89,6 +89,7 @@ fn count_whole(needed: &mut Postings, row: &Filed) -> Result<(), AllocError>
     }
 }
 
+/// Counts one row more, at the place 0, which nobody asks for.
 fn count_one(
     needed: &mut Postings,
     manifest: &Name,

@@ -1,11 +1,13 @@
 -- What is changed under a text, and under two texts, one in the other.
-use Rattle.std.proofs.Common.{◌≡◌, ℕ, ◌+◌, ◌≤◌, Bool, true, false, cond, eqb, ◌&&◌, List, [], sym, ap, ◌∙◌, subst, refl, arith}
+use Rattle.std.proofs.Common.{◌≡◌, ℕ, ◌+◌, ◌^◌, ◌<◌, ◌≤◌, Bool, true, false, cond, eqb, ◌&&◌, List, [], sym, ap, ◌∙◌, subst, refl, arith}
 use Rattle.std.specs.Prelude.{bytes_eq}
+use Rattle.std.proofs.lemmas.Bool.{and_parts, eqb-true}
 use Rattle.std.proofs.lemmas.Slice.Eq.{bytes_eq-Decides}
-use Rattle.an_slots.specs.Slot.{Slot, at, slot_of}
+use Rattle.an_slots.specs.Slot.{Slot, at, same_slot, slot_of}
 use Rattle.an_slots.specs.Texts.{under}
 use Rattle.an_slots.proofs.NestLemmas.{IsWritten, written_here}
 use Rattle.an_postings.specs.Change.{IsChangedUnder}
+use Rattle.an_postings.specs.Lists.{more_often}
 use Rattle.an_postings.specs.Postings.{IsSpentAt}
 
 module _ {A : Type 0} (text : List ℕ) (related : List A → List A → Type 0) where
@@ -21,6 +23,26 @@ module _ {A : Type 0} (text : List ℕ) (related : List A → List A → Type 0)
     here = subst (λ (x : List A). related x x) (sym none) h;
     others = λ t other. refl;
   }
+
+-- ---- a count that fits in 128 bits
+
+same_slot-is : (a b : Slot) → same_slot a b ≡ true → a ≡ b
+same_slot-is a b same =
+    let outer = and_parts (bytes_eq a.manifest b.manifest) (bytes_eq a.term b.term && eqb a.class b.class) same in
+    let inner = and_parts (bytes_eq a.term b.term) (eqb a.class b.class) outer.1 in
+    let manifest = (bytes_eq-Decides a.manifest b.manifest).0 outer.0 in
+    let term = (bytes_eq-Decides a.term b.term).0 inner.0 in
+    let class = eqb-true a.class b.class inner.1 in
+    λ i. record { manifest = manifest i; term = term i; class = class i }
+
+-- at a slot whose count has room for so many times more it is just the sum
+pub more-fits : (slot : Slot) (times : ℕ) (counts : Slot → ℕ) → counts slot + times < 2 ^ 128
+    → at slot (more_often times) counts ≡ at slot (λ m. m + times) counts
+more-fits slot times counts fits = λ i other. (each other (same_slot other slot) refl) i
+  where
+    each : (other : Slot) (b : Bool) → same_slot other slot ≡ b → cond b (more_often times (counts other)) (counts other) ≡ cond b (counts other + times) (counts other)
+    each other true is = let same = ap counts (same_slot-is other slot is) in omega (arith, same, fits)
+    each other false is = refl
 
 -- ---- of each slot: it is on this manifest and of this term, or it is as it was
 

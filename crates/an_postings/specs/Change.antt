@@ -1,10 +1,10 @@
 -- For private clauses: what becomes of the postings of one term, and of those under a text.
-use Rattle.std.specs.Prelude.{◌≡◌, ℕ, ◌+◌, ◌-◌, ◌<◌, ◌≤◌, ◌^◌, ◌==◌, List, false, bytes_eq}
+use Rattle.std.specs.Prelude.{◌≡◌, ℕ, ◌+◌, ◌-◌, ◌≤◌, ◌==◌, List, false, bytes_eq}
 use Rattle.std.specs.Prelude.{if◌then◌else◌}
 use Rattle.an_slots.specs.Places.{with_place, without_place}
 use Rattle.an_slots.specs.Texts.{under}
 use Rattle.an_postings.specs.declared.class_postings.ClassPostings.{ClassPostings}
-use Rattle.an_postings.specs.Lists.{count_at, places_at, room_at}
+use Rattle.an_postings.specs.Lists.{count_at, more_often, places_at, room_at}
 
 -- at most memory was taken
 pub record IsRoomier (old new : List ClassPostings) : Type 0 where
@@ -16,8 +16,8 @@ pub record IsRoomier (old new : List ClassPostings) : Type 0 where
 pub record IsAdded (class place times : ℕ) (old new : List ClassPostings) : Type 0 where
   pub places : (c : ℕ) → places_at new c
       ≡ (if c == class then with_place place (places_at old c) else places_at old c)
-  pub count : count_at old class + times < 2 ^ 128 → (c : ℕ) → count_at new c
-      ≡ (if c == class then count_at old c + times else count_at old c)
+  pub count : (c : ℕ) → count_at new c
+      ≡ (if c == class then more_often times (count_at old c) else count_at old c)
   pub room : (c : ℕ) → room_at old c ≤ room_at new c + (if c == class then 1 else 0)
 
 -- the place was taken out of the list of the class

@@ -1,5 +1,5 @@
 -- The postings of one term, by class.
-use Rattle.std.specs.Prelude.{ℕ, ◌-◌, List, [], ◌∷◌, ⊤}
+use Rattle.std.specs.Prelude.{ℕ, ◌+◌, ◌-◌, ◌^◌, List, [], ◌∷◌, ⊤, min}
 use Rattle.std.specs.VecDeque.{deque_len, deque_capacity}
 use Rattle.an_slots.specs.Classed.{Ascends, told_at}
 use Rattle.an_slots.specs.Places.{Rises}
@@ -29,6 +29,10 @@ room_at lists = told_at class_of room_of 0 lists
 -- how often the term occurs in a class
 abbrev pub count_at : List ClassPostings → ℕ → ℕ
 count_at lists = told_at class_of number_of 0 lists
+
+-- a count and so many times more, which stands still at the end of 128 bits
+abbrev pub more_often : ℕ → ℕ → ℕ
+more_often times count = min (count + times) (2 ^ 128 - 1)
 
 -- ---- for private clauses
 

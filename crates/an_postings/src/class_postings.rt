@@ -1,12 +1,13 @@
-ghost use Rattle.std.specs.Prelude.{◌≡◌, ◌+◌, ◌-◌, ◌^◌, ◌≤◌, ◌||◌, ℕ, [], false, IfOk, IsTrue};
-ghost use Rattle.std.specs.Prelude.{MatchResult, OnOk, flat_map, min, nat_lt};
+ghost use Rattle.std.specs.Prelude.{◌≡◌, ◌+◌, ◌-◌, ◌≤◌, ◌||◌, ℕ, [], false, IfOk, IsTrue};
+ghost use Rattle.std.specs.Prelude.{MatchResult, OnOk, flat_map, nat_lt};
 ghost use Rattle.std.specs.List.{sum_by};
 ghost use Rattle.std.specs.VecDeque.{deque_len, deque_capacity};
 ghost use Rattle.an_base.specs.Totals.{capped};
 ghost use Rattle.an_slots.specs.Classed.{IsAt, IsGap};
 ghost use Rattle.an_slots.specs.Places.{Rises, ascending, has, with_place, without_place};
 ghost use Rattle.an_postings.specs.Change.{IsAdded, IsRemoved, IsRoomier, IsTaken};
-ghost use Rattle.an_postings.specs.Lists.{IsOrdered, class_of, count_at, places_at, room_at};
+ghost use Rattle.an_postings.specs.Lists.{IsOrdered, class_of, count_at, more_often};
+ghost use Rattle.an_postings.specs.Lists.{places_at, room_at};
 
 use crate::gather::{classes_of, places_in};
 use crate::places::{add_to, remove_from};
@@ -174,7 +175,7 @@ fn add_one(own: &mut ClassPostings, place: u32, times: u64)
     ensures places { own.new.places.items ≡ with_place place own.old.places.items }
     ensures room { deque_capacity own.old.places + deque_len own.new.places
         ≤ deque_capacity own.new.places + (deque_len own.old.places + 1) }
-    ensures count { own.new.count ≡ min (own.old.count + times) (2 ^ 128 - 1) }
+    ensures count { own.new.count ≡ more_often times own.old.count }
 {
     add_to(&mut own.places, place);
     own.count = own.count.saturating_add(u128::from(times));

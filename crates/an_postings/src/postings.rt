@@ -1,4 +1,4 @@
-ghost use Rattle.std.specs.Prelude.{◌≡◌, ◌+◌, ◌-◌, ◌<◌, ◌≤◌, ◌^◌, ℕ, [], false, IfOk, IsTrue, OnOk};
+ghost use Rattle.std.specs.Prelude.{◌≡◌, ◌-◌, ◌<◌, ◌≤◌, ◌^◌, ℕ, [], false, IfOk, IsTrue, OnOk};
 ghost use Rattle.std.specs.Prelude.{flat_map};
 ghost use Rattle.std.specs.List.{sum_by};
 ghost use Rattle.an_base.specs.Totals.{capped};
@@ -6,6 +6,7 @@ ghost use Rattle.an_slots.specs.Places.{Rises, ascending, has, with_place, witho
 ghost use Rattle.an_slots.specs.Slot.{Slot, at, slot_of};
 ghost use Rattle.an_slots.specs.Texts.{under};
 ghost use Rattle.an_postings.specs.Change.{IsAdded, IsChangedUnder, IsRemoved, IsRoomier, IsTaken};
+ghost use Rattle.an_postings.specs.Lists.{more_often};
 ghost use Rattle.an_postings.specs.Postings.{IsSpentAt, count_in, has_room, places_in, room_in};
 ghost use Rattle.an_postings.specs.Totals.{Climbs, told_from};
 
@@ -107,9 +108,8 @@ impl Postings {
         requires place { place < 2 ^ 32 }
         ensures places { places_in self.new
             ≡ at (slot_of manifest.now term.now class) (with_place place) (places_in self.old) }
-        ensures count { count_in self.old (slot_of manifest.now term.now class) + times < 2 ^ 128
-            → count_in self.new
-            ≡ at (slot_of manifest.now term.now class) (λ m. m + times) (count_in self.old) }
+        ensures count { count_in self.new
+            ≡ at (slot_of manifest.now term.now class) (more_often times) (count_in self.old) }
         ensures room { IsSpentAt (slot_of manifest.now term.now class)
             (room_in self.old) (room_in self.new) }
     {

@@ -1,5 +1,6 @@
 use Rattle.std.proofs.Common.{◌≡◌, ℕ, ◌+◌, ◌<◌, List, [], ◌∷◌, ◌++◌, length, drop, ◌∙◌, subst, arith}
 use Rattle.an_postings.specs.Postings.{count_in, places_in}
+use Rattle.an_postings.proofs.ChangeLemmas.{more-fits}
 use Rattle.an_slots.specs.Rows.{parts}
 use Rattle.an_slots.specs.Slot.{Slot, slot_of}
 use Rattle.an_slots.proofs.PartLemmas.{parts-done, parts-listed}
@@ -34,7 +35,7 @@ loop-at-preserved c =
     let all = parts manifest class (drop i terms) in
     let next : all ≡ part ∷ rest = parts-listed manifest class terms i c.term.result.now c.total.result within c.term.ensures.term c.total.ensures.total in
     let now = count_in c.loop-at.words in
-    let counted = c.add.ensures.count (small_first now all rest part next c.loop-at.invariant.small) in
+    let counted = c.add.ensures.count ∙ more-fits part.0 part.1 now (small_first now all rest part next c.loop-at.invariant.small) in
     record {
       room = enough_step part rest c.loop-at.words c.add.new.self c.add.ensures.room (subst (λ (ps : List (Slot × ℕ)). IsEnough ps c.loop-at.words) next c.loop-at.invariant.room);
       small = small_step now (count_in c.add.new.self) all rest part next counted c.loop-at.invariant.small;
