@@ -18,7 +18,7 @@ seconds=${1:-5}
 lines=${2:-10000}
 cells=${3:-400000}
 base=http://a.example
-port=$((20000 + RANDOM % 20000))
+port=$((20000 + RANDOM % 12000))
 server=
 trap 'stop "$server"; rm -rf "$work"' EXIT
 plain=(/usr/bin/python3 "$top/bench/plain.py")

@@ -14,7 +14,8 @@ finder=$program
 program=$top/crates/an_cases/out/an_cases
 
 # So many annotations. Each has a frequent word, every second another one, 1,000 of them a word of
-# their own, and one a rare one. So many owners have a private annotation with all of these.
+# their own, ten another, and one a rare one. So many owners have a private annotation with the
+# frequent words, that of the 1,000, and the rare one.
 writes() {
   beginning
   awk -v n="$1" -v owners="$2" 'BEGIN {
@@ -23,6 +24,7 @@ writes() {
     for (i = 1; i <= n; i++) {
       text = i % 2 == 0 ? "heron tern" : "heron gull"
       if (i % (n / 1000) == 0) text = text " stork"
+      if (i % (n / 10) == 5) text = text " plover"
       if (i == n / 2) text = text " bittern"
       print front "mara PUT /annotations/mara/n" i "?version=1&manifest=m1&group=public {\"bodyValue\":\"" text behind
     }
@@ -79,6 +81,7 @@ for owners in 0 1000; do
     done <<'KINDS'
 /search/m1?q=nothing search/2 80 900 a word without a hit
 /search/m1?q=bittern search/2 40 900 a rare word
+/search/m1?q=plover search/2 40 900 a page of ten with its marks
 /search/m1?q=stork search/2 20 900 a word with 1,000 hits
 /search/m1?q=heron search/2 FEW 900 a frequent word
 /search/m1?q=heron+tern search/2 FEW 900 two words

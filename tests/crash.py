@@ -118,8 +118,7 @@ class Kills:
                 self.early += 1
                 return
             if not server.wait_until_it_listens():
-                told = server.process.stdout.read()
-                raise Wrong(f"the server doesn't open: {server.process.wait()} {told!r}")
+                raise Wrong(f"the server doesn't open: {server.said!r}")
             clients = [Client(w, server.port, self.was_done.get(w.name)) for w in self.writers]
             for client in clients:
                 client.start()

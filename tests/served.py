@@ -58,16 +58,17 @@ class Server:
         atexit.register(self.kill)
 
     def wait_until_it_listens(self, seconds=60):
-        """Whether it listens in time. Not so where it has ended before."""
+        """Whether it listens in time. Not so where it has ended before. How far a long opening is
+        may be told first."""
         end = time.monotonic() + seconds
-        while b"\n" not in self.said and time.monotonic() < end:
+        while b"listening on " not in self.said and time.monotonic() < end:
             ready, _, _ = select.select([self.process.stderr], [], [], 0.1)
             if ready:
                 piece = os.read(self.process.stderr.fileno(), 4096)
                 if not piece:
                     return False
                 self.said += piece
-        return self.said.startswith(b"listening")
+        return b"listening on " in self.said
 
     def kill(self):
         """Ends it by signal 9, where it hasn't ended, and answers its status."""
