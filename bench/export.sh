@@ -17,16 +17,6 @@ texts() {
   sentences "$annotations" | tail -n +2 | sed 's/^/| /'
 }
 
-# Sets `least`, the microseconds of a processor that the shortest of three runs used.
-measure_least() {
-  local run
-  least=
-  for run in 1 2 3; do
-    measure_used
-    if [ -z "$least" ] || [ "$used" -lt "$least" ]; then least=$used; fi
-  done
-}
-
 echo "processors: $(nproc)"
 texts >"$work/texts"
 bytes=$(tail -n +4 "$work/texts" | sed 's/^| //' | wc -c)

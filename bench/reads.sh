@@ -1,11 +1,11 @@
 #!/usr/bin/env bash
 # Times reads of single annotations among 100,000: shown to everybody, hidden from the caller, deleted,
-# and such as never were. For each it prints the microseconds a read, which is what 20,000 reads add to
-# the time of the writes alone.
+# and such as never were. For each it prints the microseconds of a processor a read, which is what
+# 200,000 reads add to the time of the writes alone, each the least of three runs.
 set -eu
 . "$(dirname "$0")/measure.sh"
 notes=100000
-reads=20000
+reads=200000
 
 # Annotations n1 to n100000: of each four one is private, and one is deleted behind all.
 writes() {
@@ -27,12 +27,12 @@ asked() {
 echo "processors: $(nproc)"
 writes >"$work/writes"
 cp "$work/writes" "$work/input"
-measure
-alone=$micros
+measure_least
+alone=$least
 for kind in "shown 3 n" "hidden 1 n" "deleted 2 n" "absent 0 x"; do
   read -r what rest name <<<"$kind"
   { cat "$work/writes"; asked "$rest" "$name"; } >"$work/input"
-  measure
-  awk -v what="$what" -v t="$((micros - alone))" -v n="$reads" -v s="$status" \
-    'BEGIN { printf "%s: %.1f microseconds a read, status %d\n", what, t / n, s }'
+  measure_least
+  awk -v what="$what" -v t="$((least - alone))" -v n="$reads" \
+    'BEGIN { printf "%s: %.1f microseconds a read\n", what, t / n }'
 done
