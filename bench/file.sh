@@ -18,6 +18,7 @@ seconds=${1:-5}
 lines=${2:-10000}
 cells=${3:-400000}
 base=http://a.example
+# Below the ports that the system gives to clients.
 port=$((20000 + RANDOM % 12000))
 server=
 trap 'stop "$server"; rm -rf "$work"' EXIT

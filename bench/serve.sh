@@ -22,6 +22,7 @@ seconds=${1:-4}
 annotations=${2:-100000}
 threads=${3:-1}
 base=http://a.example
+# Below the ports that the system gives to clients.
 port=$((20000 + RANDOM % 12000))
 files=$((port + 1))
 server=

@@ -10,6 +10,7 @@ set -eu
 need curl:curl ab:apache2-utils chromium:chromium /usr/bin/python3:python3
 python=/usr/bin/python3
 "$python" -c 'import requests' 2>/dev/null || install python3-requests
+# Below the ports that the system gives to clients.
 port=$((20000 + RANDOM % 12000))
 at=http://127.0.0.1:$port
 "$program" - serve "$at" 10 "$port" 64 0 2>"$work/told" &

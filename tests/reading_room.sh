@@ -7,6 +7,7 @@ set -u
 top=$(cd "$(dirname "$0")/.." && pwd)
 room=$top/examples/reading-room
 work=$(mktemp -d)
+# Below the ports that the system gives to clients.
 port=$((20000 + RANDOM % 12000))
 at=http://127.0.0.1:$port
 start=
