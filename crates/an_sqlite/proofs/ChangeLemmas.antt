@@ -86,11 +86,19 @@ pub change_take : (old new : State) (change : Change) (key : ℤ) (r : Result �
     → ExecutesInside 0 take_text (Int (pos change.tab) ∷ Int key ∷ []) old new r → OnOk r (Turns (put_change change) old new)
 change_take old new change key r none is t h = rw none (take_at old new change.tab change.key key r is t h)
 
-pub turns_none : (old : State) → Tells old → IsTrue old.in_transaction → Turns (put_changes []) old old
-turns_none old t inside = record { tells = t; cells = refl; inside = inside }
+-- what is left to do makes of the cells now what all changes make of the first
+pub record AreLeft (left changes : List Change) (first now : State) : Type 0 where
+  pub tells : Tells now
+  pub cells : put_changes left (cells_of now) ≡ put_changes changes (cells_of first)
 
-pub turns_more : (first : Change) (rest : List Change) (a b c : State) → Turns (put_change first) a b → Turns (put_changes rest) b c → Turns (put_changes (first ∷ rest)) a c
-turns_more first rest a b c p q = record { tells = q.tells; cells = q.cells ∙ ap (put_changes rest) p.cells; inside = q.inside }
+pub all_are_left : (first : State) (changes : List Change) → Tells first → AreLeft changes changes first first
+all_are_left first changes t = record { tells = t; cells = refl }
+
+pub one_is_done : (first a b : State) (left changes : List Change) (change : Change) → AreLeft (change ∷ left) changes first a → Turns (put_change change) a b → AreLeft left changes first b
+one_is_done first a b left changes change p q = record { tells = q.tells; cells = ap (put_changes left) q.cells ∙ p.cells }
+
+pub none_is_left : (first end : State) (changes : List Change) → AreLeft [] changes first end → IsTrue end.in_transaction → Turns (put_changes changes) first end
+none_is_left first end changes p inside = record { tells = p.tells; cells = p.cells; inside = inside }
 
 pub keeps_itself : (s : State) → KeepsCommit s s
 keeps_itself s = record { was_open = λ is. is; committed = λ _. refl }
@@ -98,7 +106,7 @@ keeps_itself s = record { was_open = λ is. is; committed = λ _. refl }
 -- what one change needs, and what all of them do
 pub ruleset change = (change_put, change_take)
 
-pub ruleset changes = (turns_none, turns_more, keeps_then, keeps_itself)
+pub ruleset changes = (all_are_left, one_is_done, none_is_left, keeps_then, keeps_itself)
 
 -- ---- a commit
 

@@ -246,16 +246,15 @@ fn change_all<S: Alter>(tx: &mut Transaction<'_, S>, changes: &[Change]) -> Resu
     ensures clean { doubt (state S.Store tx.old.conn.now).is_clean
         ≤ doubt (state S.Store tx.new.conn.now).is_clean }
 {
-    let Some((first, rest)) = changes.split_first() else {
-        return Ok(());
-    };
-    change(tx, first)?;
-    change_all(tx, rest)
+    for change in changes {
+        do_change(tx, change)?;
+    }
+    Ok(())
 }
 
 /// Does one change.
 #[tactic(auto, using(crate::proofs::ChangeLemmas::change))]
-fn change<S: Alter>(tx: &mut Transaction<'_, S>, change: &Change) -> Result<usize, Error>
+fn do_change<S: Alter>(tx: &mut Transaction<'_, S>, change: &Change) -> Result<usize, Error>
     ensures same_reference { tx.new.conn.ghost_name ≡ tx.old.conn.ghost_name }
     ensures done { HasCleanDisk (state S.Store tx.new.conn.now)
         → IsTrue (state S.Store tx.old.conn.now).in_transaction

@@ -1,5 +1,0 @@
-use Rattle.std.proofs.Common.{length}
-use Rattle.an_sqlite.proofs.statements.+change_all.Given as goal
-
-abbrev pub decreases-change_all : goal.decreases-change_all
-decreases-change_all g l = length l.changes.now
