@@ -104,6 +104,22 @@ impl Look for Counted<'_> {
         self.listed.with_term(alloc, who, manifest, term)
     }
 
+    fn term_weight(&self, who: &Who<'_>, manifest: &Name, term: &str) -> usize {
+        self.listed.term_weight(who, manifest, term)
+    }
+
+    fn among_with_term(
+        &self,
+        alloc: Global,
+        who: &Who<'_>,
+        manifest: &Name,
+        term: &str,
+        places: &[usize],
+    ) -> Result<Vec<usize>, AllocError> {
+        self.listed
+            .among_with_term(alloc, who, manifest, term, places)
+    }
+
     fn terms_from(
         &self,
         alloc: Global,

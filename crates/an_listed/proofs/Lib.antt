@@ -1,3 +1,4 @@
+pub mod AmongLemmas
 pub mod AlikeLemmas
 pub mod FiledLemmas
 pub mod LeftLemmas

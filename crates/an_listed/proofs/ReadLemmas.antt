@@ -36,7 +36,7 @@ always true = refl
 always false = refl
 
 module _ (m : List ℕ) (passes : ℕ → Bool) where
-  words-in : (t : List ℕ) (row : Filed) → is_in m t passes (by_words row) ≡ ((is_on m row.note && passes row.class) && has_term t row.note)
+  pub words-in : (t : List ℕ) (row : Filed) → is_in m t passes (by_words row) ≡ ((is_on m row.note && passes row.class) && has_term t row.note)
   words-in t row = by row.note.live refl
     where
       by : (live : Option LiveNote) → row.note.live ≡ live → is_in m t passes (by_words row) ≡ ((is_on m row.note && passes row.class) && has_term t row.note)

@@ -4,6 +4,7 @@
 pub use filed::Filed;
 pub use listed::Listed;
 
+mod among;
 mod asks;
 mod filed;
 mod listed;

@@ -1,7 +1,7 @@
 ghost use Rattle.std.specs.Prelude.{◌≡◌, ◌∷◌, ◌&&◌, ◌≤◌, [], IfOk, List, OnOk, filter, length, map};
 ghost use Rattle.an_policy.specs.Audience.{identity};
 ghost use Rattle.an_state.specs.Terms.{has_term, totals_in};
-ghost use Rattle.an_slots.specs.Places.{places_from};
+ghost use Rattle.an_slots.specs.Places.{Rises, has, places_from};
 ghost use Rattle.an_state.specs.View.{is_on};
 ghost use Rattle.an_listed.specs.Filed.{put_at, reads_on};
 ghost use Rattle.an_listed.specs.Room.{HasRoom};
@@ -131,6 +131,34 @@ impl Listed {
             && has_term term.now row.note) 0 self.now.rows) }
     {
         self.register.with_term(alloc, classes, who, manifest, term)
+    }
+
+    /// How many places the lists of a term on a manifest have together, whoever may read them.
+    /// Nothing is promised of it: it is for choosing which list is walked first.
+    pub fn term_weight(&self, manifest: &Name, term: &str) -> usize {
+        self.register.term_weight(manifest, term)
+    }
+
+    /// Those of the places, which ascend, at which an annotation on a manifest has a term and the
+    /// caller may read it. Where the lists of the term are much longer than the places, each place
+    /// is looked up in the list of its class; else the lists are walked along once.
+    pub fn among_with_term(
+        &self,
+        alloc: Global,
+        classes: &Classes,
+        who: &Who<'_>,
+        manifest: &Name,
+        term: &str,
+        places: &[usize],
+    ) -> Result<Vec<usize>, AllocError>
+        requires rise { Rises 0 places.now }
+        ensures having { IfOk result (λ having. having.items ≡ filter (λ place. has place
+            (places_from (λ row. reads_on (identity who.now) classes.now manifest.now row
+            && has_term term.now row.note) 0 self.now.rows)) places.now) }
+    {
+        let rows = self.rows.as_slice();
+        self.register
+            .among_with_term(alloc, rows, classes, who, manifest, term, places)
     }
 
     /// The terms that begin with a prefix, ascending by their bytes, and how often each occurs in

@@ -4,3 +4,4 @@ pub mod Change
 pub mod Gather
 pub mod Totals
 pub mod Told
+pub mod Walk

@@ -113,6 +113,14 @@ impl TermPostings {
     {
         total_in(self.lists.as_slice(), classes)
     }
+
+    /// The lists, ascending by their classes.
+    pub fn lists(&self) -> &[ClassPostings]
+        ensures lists { result.now ≡ self.now }
+        ensures ordered { IsOrdered result.now }
+    {
+        self.lists.as_slice()
+    }
 }
 
 fn room_in(lists: &mut Vec<ClassPostings>, class: usize, more: usize) -> Result<(), AllocError>
@@ -214,7 +222,7 @@ fn take_one(own: &mut ClassPostings, times: u64)
 }
 
 /// Where the list of the class stands, or belongs.
-fn place_of(lists: &[ClassPostings], class: usize) -> Result<usize, usize>
+pub(crate) fn place_of(lists: &[ClassPostings], class: usize) -> Result<usize, usize>
     requires ordered { IsOrdered lists.now }
     ensures place { MatchResult result
         (IsAt class_of class lists.now) (IsGap class_of class lists.now) }

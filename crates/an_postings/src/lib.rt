@@ -2,10 +2,13 @@
 //! often the term occurs in them.
 #![tactic(auto)]
 
+pub use among::{is_listed, length_of};
 pub use class_postings::ClassPostings;
 pub use laws::all_is_told;
 pub use postings::Postings;
+pub use walk::common;
 
+mod among;
 mod class_postings;
 mod gather;
 mod laws;
@@ -16,3 +19,4 @@ mod postings;
 mod prefix;
 mod sorted;
 mod totals;
+mod walk;

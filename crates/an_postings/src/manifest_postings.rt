@@ -5,10 +5,10 @@ ghost use Rattle.an_base.specs.Totals.{capped};
 ghost use Rattle.an_slots.specs.Places.{Rises, ascending, has};
 ghost use Rattle.an_slots.specs.Texts.{under};
 ghost use Rattle.an_postings.specs.Change.{IsAdded, IsChangedUnder, IsRemoved, IsRoomier, IsTaken};
-ghost use Rattle.an_postings.specs.Lists.{count_at, places_at, room_at};
+ghost use Rattle.an_postings.specs.Lists.{IsOrdered, count_at, places_at, room_at};
 ghost use Rattle.an_postings.specs.Totals.{Climbs, told_from};
 
-use crate::class_postings::TermPostings;
+use crate::class_postings::{ClassPostings, TermPostings};
 use crate::prefix::told_in;
 use an_base::TermTotal;
 use std::alloc::{AllocError, Global};
@@ -159,5 +159,16 @@ impl ManifestPostings {
         ensures ascending { OnOk result (Climbs self.now) }
     {
         told_in(alloc, &self.terms, prefix, classes)
+    }
+
+    /// The lists of a term, ascending by their classes.
+    pub fn lists_of(&self, term: &str) -> &[ClassPostings]
+        ensures lists { result.now ≡ under term.now self.now }
+        ensures ordered { IsOrdered result.now }
+    {
+        match self.terms.get(term) {
+            Some(postings) => postings.lists(),
+            None => &[],
+        }
     }
 }

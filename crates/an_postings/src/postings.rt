@@ -6,10 +6,11 @@ ghost use Rattle.an_slots.specs.Places.{Rises, ascending, has, with_place, witho
 ghost use Rattle.an_slots.specs.Slot.{Slot, at, slot_of};
 ghost use Rattle.an_slots.specs.Texts.{under};
 ghost use Rattle.an_postings.specs.Change.{IsAdded, IsChangedUnder, IsRemoved, IsRoomier, IsTaken};
-ghost use Rattle.an_postings.specs.Lists.{more_often};
+ghost use Rattle.an_postings.specs.Lists.{IsOrdered, more_often};
 ghost use Rattle.an_postings.specs.Postings.{IsSpentAt, count_in, has_room, places_in, room_in};
 ghost use Rattle.an_postings.specs.Totals.{Climbs, told_from};
 
+use crate::class_postings::ClassPostings;
 use crate::manifest_postings::ManifestPostings;
 use an_base::{Name, TermTotal};
 use std::alloc::{AllocError, Global};
@@ -287,6 +288,25 @@ impl Postings {
         match self.manifests.get(manifest) {
             Some(terms) => terms.from_prefix(alloc, prefix, classes),
             None => Ok(Vec::new(alloc)),
+        }
+    }
+
+    /// The lists of a term on a manifest, ascending by their classes, in which single places are
+    /// looked up by `is_listed`.
+    pub fn lists_of(&self, manifest: &Name, term: &str) -> &[ClassPostings]
+        ensures lists { result.now ≡ under term.now (under manifest.now self.now) }
+        ensures ordered { IsOrdered result.now }
+    {
+        self.lists_under(manifest.as_str(), term)
+    }
+
+    fn lists_under(&self, manifest: &str, term: &str) -> &[ClassPostings]
+        ensures lists { result.now ≡ under term.now (under manifest.now self.now) }
+        ensures ordered { IsOrdered result.now }
+    {
+        match self.manifests.get(manifest) {
+            Some(terms) => terms.lists_of(term),
+            None => &[],
         }
     }
 }

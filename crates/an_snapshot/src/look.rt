@@ -43,6 +43,21 @@ impl Look for Snapshot {
         self.places_with(alloc, who, manifest, term)
     }
 
+    fn term_weight(&self, _who: &Who<'_>, manifest: &Name, term: &str) -> usize {
+        self.weight_of(manifest, term)
+    }
+
+    fn among_with_term(
+        &self,
+        alloc: Global,
+        who: &Who<'_>,
+        manifest: &Name,
+        term: &str,
+        places: &[usize],
+    ) -> Result<Vec<usize>, AllocError> {
+        self.places_among(alloc, who, manifest, term, places)
+    }
+
     fn terms_from(
         &self,
         alloc: Global,

@@ -1,5 +1,6 @@
-ghost use Rattle.std.specs.Prelude.{◌≡◌, IfOk, OnErr, OnOk, drop, length, take};
+ghost use Rattle.std.specs.Prelude.{◌≡◌, IfOk, OnErr, OnOk, drop, filter, length, take};
 ghost use Rattle.an_policy.specs.Audience.{identity};
+ghost use Rattle.an_state.specs.Places.{Rises, has};
 ghost use Rattle.an_state.specs.Terms.{places_with_term, terms_with_prefix};
 ghost use Rattle.an_state.specs.View.{readable_places, seen_by};
 ghost use Rattle.an_snapshot.specs.Absorbed.{absorbed, nothing};
@@ -131,6 +132,29 @@ impl Snapshot {
     {
         self.listed
             .with_term(alloc, &self.classes, who, manifest, term)
+    }
+
+    /// How many places the lists of a term on a manifest have, whoever may read them.
+    pub(crate) fn weight_of(&self, manifest: &Name, term: &str) -> usize {
+        self.listed.term_weight(manifest, term)
+    }
+
+    /// Those of these places at which an annotation has a term, and the caller may read it.
+    pub(crate) fn places_among(
+        &self,
+        alloc: Global,
+        who: &Who<'_>,
+        manifest: &Name,
+        term: &str,
+        places: &[usize],
+    ) -> Result<Vec<usize>, AllocError>
+        requires rise { Rises 0 places.now }
+        ensures having { IfOk result (λ having. having.items ≡ filter (λ place. has place
+            (places_with_term self.now.state (identity who.now) manifest.now term.now))
+            places.now) }
+    {
+        self.listed
+            .among_with_term(alloc, &self.classes, who, manifest, term, places)
     }
 
     /// Their terms that begin so, and how often each occurs.

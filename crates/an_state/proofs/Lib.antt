@@ -4,3 +4,4 @@ pub mod ChangeLemmas
 pub mod DistinctLemmas
 pub mod OpenLemmas
 pub mod MarkLemmas
+pub mod AmongLemmas

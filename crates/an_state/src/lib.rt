@@ -13,6 +13,7 @@ pub use shown::{is_manifest_shown, is_note_shown, shown_manifest, shown_note};
 pub use totals::add_row;
 
 mod activity;
+mod among;
 mod book;
 mod command;
 mod entry;

@@ -67,7 +67,7 @@ pub fn terms_from_in(
 }
 
 /// Whether the caller may read what is shown to everybody on the manifest of this name.
-fn opens(book: &Book, who: &Who<'_>, manifest: &Name) -> bool
+pub(crate) fn opens(book: &Book, who: &Who<'_>, manifest: &Name) -> bool
     ensures { result ≡ opens book.now.state (identity who.now) manifest.now }
 {
     let everybody = Group::Public;
@@ -140,7 +140,7 @@ fn open_totals(
 
 /// Whether the annotation is live and on this manifest, and its own group and owner let the caller
 /// read it.
-fn is_open_on(row: &NoteRow, who: &Who<'_>, manifest: &Name) -> bool
+pub(crate) fn is_open_on(row: &NoteRow, who: &Who<'_>, manifest: &Name) -> bool
     ensures { result ≡ is_open_on (identity who.now) manifest.now row.now }
 {
     is_on(row, manifest) && shows_inside(row, who)
@@ -168,7 +168,7 @@ fn shows_inside(row: &NoteRow, who: &Who<'_>) -> bool
 }
 
 /// Whether the annotation is live, and has the term.
-fn has_term(row: &NoteRow, term: &str) -> bool
+pub(crate) fn has_term(row: &NoteRow, term: &str) -> bool
     ensures { result ≡ has_term term.now row.now }
 {
     match row.live() {

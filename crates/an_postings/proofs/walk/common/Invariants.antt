@@ -1,0 +1,12 @@
+use Rattle.std.proofs.Common.{◌≡◌, ◌++◌, drop}
+use Rattle.std.specs.Prelude.{filter}
+use Rattle.an_slots.specs.Places.{Rises, has}
+use Rattle.an_postings.proofs.walk.common.Given as goal
+
+-- the places left that are among the others left stand behind those so far, and both rise
+abbrev pub invariant-loop-place : goal.invariant-loop-place
+invariant-loop-place l = record {
+  gathered : l.common.items ++ filter (λ place. has place l.rest) (drop l.place-index l.places) ≡ filter (λ place. has place l.others) l.places;
+  places : Rises 0 (drop l.place-index l.places);
+  rest : Rises 0 l.rest;
+}
