@@ -1,6 +1,7 @@
 pub mod AmongLemmas
 pub mod AlikeLemmas
 pub mod FiledLemmas
+pub mod LeanerLemmas
 pub mod LeftLemmas
 pub mod NeedLemmas
 pub mod OnceLemmas

@@ -7,6 +7,7 @@ pub use listed::Listed;
 mod among;
 mod asks;
 mod filed;
+mod leaner;
 mod listed;
 mod needs;
 mod put;

@@ -7,11 +7,13 @@ ghost use Rattle.an_listed.specs.Filed.{put_at, reads_on};
 ghost use Rattle.an_listed.specs.Room.{HasRoom};
 
 use crate::filed::Filed;
+use crate::leaner::{let_go_all, put_over};
 use crate::register::Register;
 use an_base::{Name, TermTotal};
 use an_policy::{Classes, Who};
 use std::alloc::{AllocError, Global};
 use std::marker::Model;
+use std::mem::replace;
 
 /// So many rows can be listed, since a list keeps each place in 32 bits.
 const MOST_ROWS: usize = 4_294_967_296;
@@ -23,10 +25,13 @@ const MOST_ROWS: usize = 4_294_967_296;
 pub struct Listed {
     rows: Vec<Filed>,
     register: Register,
+    room: usize,
+    /// Rows that others were put over, whose lists may have no place any more.
+    gone: Vec<Filed>,
 }
 
 impl Model for Listed {
-    ghost use Rattle.std.specs.Prelude.{◌-◌, vec_capacity, vec_len};
+    ghost use Rattle.std.specs.Prelude.{◌+◌, ◌≤◌, vec_capacity, vec_len};
     ghost use Rattle.std.specs.Coded.{codes};
     ghost use Rattle.an_base.specs.TreeCode.{tree_code};
     ghost use Rattle.an_listed.specs.Stands.{Listings, Stands};
@@ -38,10 +43,14 @@ impl Model for Listed {
     ghost view = { λ l. record {
       rows = l.rows.items;
       register = l.register;
-      room = vec_capacity l.rows - vec_len l.rows;
+      room = l.room;
     } };
 
-    ghost invariant = { λ l. Stands l.register l.rows.items };
+    ghost invariant = { λ l. record {
+      stands : Stands l.register l.rows.items;
+      behind : vec_len l.rows + l.room ≤ vec_capacity l.rows;
+      over : vec_len l.gone + l.room ≤ vec_capacity l.gone;
+    } };
 }
 
 impl Listed {
@@ -52,6 +61,8 @@ impl Listed {
         Listed {
             rows: Vec::new(alloc),
             register: Register::new(alloc),
+            room: 0,
+            gone: Vec::new(alloc),
         }
     }
 
@@ -72,9 +83,24 @@ impl Listed {
         if MOST_ROWS - self.rows.len() < rows.len() {
             return Err(AllocError);
         }
-        self.rows.reserve(rows.len())?;
+        self.make_room(rows.len())?;
         let alloc = *self.rows.allocator();
         self.register.room(alloc, rows)
+    }
+
+    /// Takes the memory for so many rows more, but for that of their lists.
+    fn make_room(&mut self, more: usize) -> Result<(), AllocError>
+        ensures ok { OnOk result (more ≤ self.new.room) }
+        ensures rows { self.new.rows ≡ self.old.rows }
+        ensures register { self.new.register ≡ self.old.register }
+        ensures room { self.old.room ≤ self.new.room }
+    {
+        if self.room < more {
+            self.rows.reserve(more)?;
+            self.gone.reserve(more)?;
+            self.room = more;
+        }
+        Ok(())
     }
 
     /// Puts a row at a place: in place of the row there, or behind all. It takes no memory.
@@ -85,13 +111,26 @@ impl Listed {
         ensures rest { (coming : List Filed)
             → HasRoom (row ∷ coming) self.old → HasRoom coming self.new }
     {
+        self.room -= 1;
         if place < self.rows.len() {
-            self.register.replace(self.rows.as_slice(), place, &row);
-            self.rows[place] = row;
+            let alike = self.register.replace(self.rows.as_slice(), place, &row);
+            put_over(&mut self.rows, &mut self.gone, place, row, alike);
         } else {
             self.register.push(self.rows.as_slice(), &row);
             self.rows.push_reserved(row);
         }
+    }
+
+    /// Gives back the memory of what the rows were found by that others were put over since the
+    /// last call, where nothing is found by it any more. There is room for no row then. It takes no
+    /// memory.
+    pub fn let_go(&mut self)
+        ensures rows { self.new.rows ≡ self.old.rows }
+    {
+        self.room = 0;
+        let alloc = *self.rows.allocator();
+        let gone = replace(&mut self.gone, Vec::new(alloc));
+        let_go_all(&mut self.register, gone.as_slice());
     }
 
     /// The places of the live annotations on a manifest, ascending.

@@ -16,9 +16,9 @@ use an_base::{Name, TermList};
 use an_postings::Postings;
 
 impl Register {
-    /// Puts a row in place of another, which costs no look-up where both are found alike. It takes
-    /// no memory.
-    pub(crate) fn replace(&mut self, rows: &[Filed], place: usize, row: &Filed)
+    /// Puts a row in place of another, which costs no look-up where both are found alike: whether
+    /// they are. It takes no memory.
+    pub(crate) fn replace(&mut self, rows: &[Filed], place: usize, row: &Filed) -> bool
         requires stands { Stands self.old rows.now }
         requires place { place < length rows.now }
         requires space { HasSpace (row.now ∷ []) self.old }
@@ -27,9 +27,12 @@ impl Register {
             → HasSpace (row.now ∷ rest) self.old → HasSpace rest self.new }
     {
         let old = &rows[place];
-        if !is_alike(old, row) {
+        if is_alike(old, row) {
+            true
+        } else {
             self.take(old, staying_terms(old, row), place);
             self.put(row, place);
+            false
         }
     }
 

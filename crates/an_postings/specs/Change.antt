@@ -12,6 +12,11 @@ pub record IsRoomier (old new : List ClassPostings) : Type 0 where
   pub count : (c : ℕ) → count_at new c ≡ count_at old c
   pub room : (c : ℕ) → room_at old c ≤ room_at new c
 
+-- at most memory was given back: a class without a list has no place, and its count is 0
+pub record IsLeaner (old new : List ClassPostings) : Type 0 where
+  pub places : (c : ℕ) → places_at new c ≡ places_at old c
+  pub count : (c : ℕ) → count_at new c ≡ count_at old c
+
 -- the place was put into the list of the class, and the term counted there so many times more
 pub record IsAdded (class place times : ℕ) (old new : List ClassPostings) : Type 0 where
   pub places : (c : ℕ) → places_at new c

@@ -1,15 +1,16 @@
 ghost use Rattle.std.specs.Prelude.{◌≡◌, ◌+◌, ◌-◌, ◌≤◌, ◌||◌, ℕ, [], false, IfOk, IsTrue};
-ghost use Rattle.std.specs.Prelude.{MatchResult, OnOk, flat_map, nat_lt};
+ghost use Rattle.std.specs.Prelude.{MatchResult, OnOk, flat_map, nat_lt, true};
 ghost use Rattle.std.specs.List.{sum_by};
 ghost use Rattle.std.specs.VecDeque.{deque_len, deque_capacity};
 ghost use Rattle.an_base.specs.Totals.{capped};
 ghost use Rattle.an_slots.specs.Classed.{IsAt, IsGap};
 ghost use Rattle.an_slots.specs.Places.{Rises, ascending, has, with_place, without_place};
-ghost use Rattle.an_postings.specs.Change.{IsAdded, IsRemoved, IsRoomier, IsTaken};
+ghost use Rattle.an_postings.specs.Change.{IsAdded, IsLeaner, IsRemoved, IsRoomier, IsTaken};
 ghost use Rattle.an_postings.specs.Lists.{IsOrdered, class_of, count_at, more_often};
 ghost use Rattle.an_postings.specs.Lists.{places_at, room_at};
 
 use crate::gather::{classes_of, places_in};
+use crate::leaner::let_go_at;
 use crate::places::{add_to, remove_from};
 use crate::totals::total_in;
 use std::alloc::{AllocError, Global};
@@ -85,6 +86,16 @@ impl TermPostings {
         ensures taken { IsTaken class times self.old self.new }
     {
         take_in(&mut self.lists, class, times);
+    }
+
+    /// Drops the list of a class that has no place and no count, and gives back memory that has
+    /// been of no use for long. Whether no list is left. It takes no memory.
+    pub fn let_go(&mut self, class: usize) -> bool
+        ensures leaner { IsLeaner self.old self.new }
+        ensures none { result ≡ true → self.new ≡ [] }
+    {
+        let_go_in(&mut self.lists, class);
+        self.lists.is_empty()
     }
 
     /// The places of these classes, ascending, each once.
@@ -219,6 +230,17 @@ fn take_one(own: &mut ClassPostings, times: u64)
     ensures count { own.new.count ≡ own.old.count - times }
 {
     own.count -= u128::from(times);
+}
+
+fn let_go_in(lists: &mut Vec<ClassPostings>, class: usize)
+    requires ordered { IsOrdered lists.old.items }
+    ensures ordered { IsOrdered lists.new.items }
+    ensures leaner { IsLeaner lists.old.items lists.new.items }
+{
+    match place_of(lists.as_slice(), class) {
+        Ok(at) => let_go_at(lists, at, class),
+        Err(_) => {}
+    }
 }
 
 /// Where the list of the class stands, or belongs.

@@ -12,6 +12,7 @@ mod among;
 mod class_postings;
 mod gather;
 mod laws;
+mod leaner;
 mod manifest_postings;
 mod merge;
 mod places;

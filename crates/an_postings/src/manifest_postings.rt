@@ -1,10 +1,11 @@
 ghost use Rattle.std.specs.Prelude.{◌≡◌, ◌≤◌, ◌||◌, ℕ, [], false, IfOk, IsTrue, OnOk, flat_map};
-ghost use Rattle.std.specs.Prelude.{nat_lt};
+ghost use Rattle.std.specs.Prelude.{nat_lt, true};
 ghost use Rattle.std.specs.List.{sum_by};
 ghost use Rattle.an_base.specs.Totals.{capped};
 ghost use Rattle.an_slots.specs.Places.{Rises, ascending, has};
 ghost use Rattle.an_slots.specs.Texts.{under};
-ghost use Rattle.an_postings.specs.Change.{IsAdded, IsChangedUnder, IsRemoved, IsRoomier, IsTaken};
+ghost use Rattle.an_postings.specs.Change.{IsAdded, IsChangedUnder, IsLeaner, IsRemoved, IsRoomier};
+ghost use Rattle.an_postings.specs.Change.{IsTaken};
 ghost use Rattle.an_postings.specs.Lists.{IsOrdered, count_at, places_at, room_at};
 ghost use Rattle.an_postings.specs.Totals.{Climbs, told_from};
 
@@ -100,6 +101,34 @@ impl ManifestPostings {
         match self.terms.get_mut(term) {
             Some(postings) => postings.take(class, times),
             None => {}
+        }
+    }
+
+    /// Drops the list of a term in a class that has no place and no count, and the term with its
+    /// last list. Whether no term is left. It takes no memory.
+    pub fn let_go(&mut self, term: &str, class: usize) -> bool
+        ensures leaner { IsChangedUnder term.now IsLeaner self.old self.new }
+        ensures none { result ≡ true → self.new ≡ [] }
+    {
+        self.let_go_of(term, class);
+        self.terms.is_empty()
+    }
+
+    fn let_go_of(&mut self, term: &str, class: usize)
+        ensures leaner { IsChangedUnder term.now IsLeaner self.old self.new }
+    {
+        if self.let_go_in(term, class) {
+            drop(self.terms.remove(term));
+        }
+    }
+
+    fn let_go_in(&mut self, term: &str, class: usize) -> bool
+        ensures leaner { IsChangedUnder term.now IsLeaner self.old self.new }
+        ensures none { result ≡ true → under term.now self.new ≡ [] }
+    {
+        match self.terms.get_mut(term) {
+            Some(postings) => postings.let_go(class),
+            None => false,
         }
     }
 

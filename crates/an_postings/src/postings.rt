@@ -1,11 +1,12 @@
 ghost use Rattle.std.specs.Prelude.{◌≡◌, ◌-◌, ◌<◌, ◌≤◌, ◌^◌, ℕ, [], false, IfOk, IsTrue, OnOk};
-ghost use Rattle.std.specs.Prelude.{flat_map};
+ghost use Rattle.std.specs.Prelude.{flat_map, true};
 ghost use Rattle.std.specs.List.{sum_by};
 ghost use Rattle.an_base.specs.Totals.{capped};
 ghost use Rattle.an_slots.specs.Places.{Rises, ascending, has, with_place, without_place};
 ghost use Rattle.an_slots.specs.Slot.{Slot, at, slot_of};
 ghost use Rattle.an_slots.specs.Texts.{under};
-ghost use Rattle.an_postings.specs.Change.{IsAdded, IsChangedUnder, IsRemoved, IsRoomier, IsTaken};
+ghost use Rattle.an_postings.specs.Change.{IsAdded, IsChangedUnder, IsLeaner, IsRemoved, IsRoomier};
+ghost use Rattle.an_postings.specs.Change.{IsTaken};
 ghost use Rattle.an_postings.specs.Lists.{IsOrdered, more_often};
 ghost use Rattle.an_postings.specs.Postings.{IsSpentAt, count_in, has_room, places_in, room_in};
 ghost use Rattle.an_postings.specs.Totals.{Climbs, told_from};
@@ -169,6 +170,36 @@ impl Postings {
         match self.manifests.get_mut(manifest) {
             Some(terms) => terms.take(term, class, times),
             None => {}
+        }
+    }
+
+    /// Drops the list of a manifest, term and class, where it has no place and the term isn't
+    /// counted there; the term with its last list, and the manifest with its last term. So no
+    /// memory is kept for what is gone. There may be less room. It takes no memory.
+    pub fn let_go(&mut self, manifest: &Name, term: &str, class: usize)
+        ensures places { places_in self.new ≡ places_in self.old }
+        ensures count { count_in self.new ≡ count_in self.old }
+    {
+        self.let_go_under(manifest.as_str(), term, class);
+    }
+
+    fn let_go_under(&mut self, manifest: &str, term: &str, class: usize)
+        ensures leaner { IsChangedUnder manifest.now (IsChangedUnder term.now IsLeaner)
+            self.old self.new }
+    {
+        if self.let_go_in(manifest, term, class) {
+            drop(self.manifests.remove(manifest));
+        }
+    }
+
+    fn let_go_in(&mut self, manifest: &str, term: &str, class: usize) -> bool
+        ensures leaner { IsChangedUnder manifest.now (IsChangedUnder term.now IsLeaner)
+            self.old self.new }
+        ensures none { result ≡ true → under manifest.now self.new ≡ [] }
+    {
+        match self.manifests.get_mut(manifest) {
+            Some(terms) => terms.let_go(term, class),
+            None => false,
         }
     }
 

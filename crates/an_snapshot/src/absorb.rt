@@ -66,7 +66,7 @@ pub(crate) fn absorb(
     }
 }
 
-/// Puts what an entry comes to. It takes no memory.
+/// Puts what an entry comes to, and gives back the memory of what is gone. It takes no memory.
 fn put(book: &mut Book, listed: &mut Listed, prepared: Prepared)
     requires room { length prepared.steps.items + length prepared.activities.items
         ≤ book.old.room }
@@ -81,5 +81,6 @@ fn put(book: &mut Book, listed: &mut Listed, prepared: Prepared)
         → All (IsFiled s classes) listed.old.rows → All (IsFiled s classes) listed.new.rows }
 {
     put_steps(book, listed, prepared.steps);
+    listed.let_go();
     add_all(book, prepared.activities);
 }

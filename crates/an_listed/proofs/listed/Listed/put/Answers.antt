@@ -8,9 +8,9 @@ returns-then-place-len-clause-rest c = λ coming room.
     let before = subst (HasRoom (c.args.row ∷ coming)) (sym c.self.view_is) room in
     let n = length-set c.self.inside.rows.items c.args.place c.args.row in
     record {
-      space = c.replace.ensures.rest coming before.space;
+      space = c.replace-alike.ensures.rest coming before.space;
       behind = omega (arith, before.behind);
-      few = omega (arith, before.few, n);
+      few = rw c.put_over.ensures.rows (omega (arith, before.few, n));
     }
 
 pub returns-else-place-len-clause-rest : goal.returns-else-place-len-clause-rest
@@ -20,6 +20,6 @@ returns-else-place-len-clause-rest c = λ coming room.
     let n = length-append c.self.inside.rows.items (c.args.row ∷ []) in
     record {
       space = c.push.ensures.rest coming before.space;
-      behind = omega (arith, before.behind, c.push_reserved.ensures.capacity, c.push_reserved.ensures.len);
+      behind = omega (arith, before.behind);
       few = rw items (omega (arith, before.few, n));
     }

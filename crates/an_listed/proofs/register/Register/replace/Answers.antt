@@ -19,8 +19,8 @@ put-requires-clause-space c = space-kept (c.args.row.now ∷ []) c.args.self.now
 pub put-requires-clause-small : goal.put-requires-clause-small
 put-requires-clause-small c = small-taken c.args.self.now c.args.rows.now c.requires.stands c.index-rows-place.result c.args.row.now (count_in c.take.new.self.words) c.take.ensures.counts
 
-pub returns-then-not-is_alike-clause-stands : goal.returns-then-not-is_alike-clause-stands
-returns-then-not-is_alike-clause-stands c =
+pub returns-else-is_alike-clause-stands : goal.returns-else-is_alike-clause-stands
+returns-else-is_alike-clause-stands c =
     let self = c.args.self.now in
     let place = c.args.place in
     let old = c.index-rows-place.result in
@@ -30,8 +30,8 @@ returns-then-not-is_alike-clause-stands c =
     let counts = c.put.ensures.counts ∙ ap (λ (f : Slot → ℕ). added f (word_parts row)) c.take.ensures.counts in
     stands-set self c.args.rows.now c.requires.stands c.put.new.self place old row c.requires.place c.index-rows-place.is words whole counts
 
-pub returns-then-not-is_alike-clause-rest : goal.returns-then-not-is_alike-clause-rest
-returns-then-not-is_alike-clause-rest c = λ rest space. c.put.ensures.rest rest (space-kept (c.args.row.now ∷ rest) c.args.self.now c.take.new.self c.take.ensures.word_room c.take.ensures.whole_room space)
+pub returns-else-is_alike-clause-rest : goal.returns-else-is_alike-clause-rest
+returns-else-is_alike-clause-rest c = λ rest space. c.put.ensures.rest rest (space-kept (c.args.row.now ∷ rest) c.args.self.now c.take.new.self c.take.ensures.word_room c.take.ensures.whole_room space)
 
-pub returns-else-not-is_alike-clause-stands : goal.returns-else-not-is_alike-clause-stands
-returns-else-not-is_alike-clause-stands c = stands-alike c.args.self.now c.args.rows.now c.requires.stands c.args.place c.index-rows-place.result c.args.row.now c.requires.place c.index-rows-place.is (c.is_alike.ensures.words c.if-not-is_alike.false) (c.is_alike.ensures.whole c.if-not-is_alike.false)
+pub returns-then-is_alike-clause-stands : goal.returns-then-is_alike-clause-stands
+returns-then-is_alike-clause-stands c = stands-alike c.args.self.now c.args.rows.now c.requires.stands c.args.place c.index-rows-place.result c.args.row.now c.requires.place c.index-rows-place.is (c.is_alike.ensures.words c.if-is_alike.true) (c.is_alike.ensures.whole c.if-is_alike.true)
