@@ -1,5 +1,5 @@
 -- A set of lent texts with one more.
-use Rattle.std.proofs.Common.{◌≡◌, ℕ, suc, ◌+◌, ◌<◌, List, length, drop, get_or, Bool, true, false, ◌||◌, ⊎_elim, refl, sym, ap, subst, ◌∙◌, drop-cons, add-one}
+use Rattle.std.proofs.Common.{◌≡◌, ℕ, List, Bool, true, false, ◌||◌, ⊎_elim, sym, ap, subst, ◌∙◌}
 use Rattle.std.specs.Prelude.{bytes_eq}
 use Rattle.std.specs.List.{list_any}
 use Rattle.std.specs.Bool.{nat_eq}
@@ -11,7 +11,6 @@ use Rattle.std.specs.Set.{KeepsOthers}
 use Rattle.std.specs.Map.{IsKeyTest, AreApart}
 use Rattle.std.proofs.lemmas.Map.Text.{is_eq-slice_cmp}
 use Rattle.std.proofs.lemmas.Bool.{cases_Bool}
-use Rattle.an_base.specs.TextSet.{has_text}
 use Rattle.an_highlight.specs.Lent.{is_lent}
 use denote.Ref.{Bor}
 
@@ -30,15 +29,3 @@ lent-added old new text h other =
     (λ y. subst (λ t. is_lent t new ≡ true) ((bytes_decides text other).0 y) h.1 ∙ ap (λ b. b || is_lent other old) (sym y))
     (λ n. other_keys _ _ _ _ h.3 _ (λ x y. (eq_by_cmp_equiv nat_list_cmp_total).congr other x.now y.now) (λ k. apart text other k.now n) ∙ ap (λ b. b || is_lent other old) (sym n))
     (cases_Bool (bytes_eq text other))
-
--- the next text of a list is added: those of the set and those that are left are what they were
-pub lent-next : (this new old rest : Bool) → new ≡ (this || old) → (new || rest) ≡ (old || (this || rest))
-lent-next true new true rest is = rw is refl
-lent-next true new false rest is = rw is refl
-lent-next false new true rest is = rw is refl
-lent-next false new false rest is = rw is refl
-
-pub lent-step : (texts : List (List ℕ)) (at : ℕ) (this : List ℕ) (new old : Bool) (text : List ℕ) → this ≡ get_or texts at this → at < length texts → new ≡ (bytes_eq this text || old)
-    → (new || has_text text (drop (at + 1) texts)) ≡ (old || has_text text (drop at texts))
-lent-step texts at this new old text here within is =
-    rw (add-one, drop-cons texts at this within, sym here) (lent-next (bytes_eq this text) new old (has_text text (drop (suc at) texts)) is)

@@ -1,9 +1,7 @@
 ghost use Rattle.std.specs.Prelude.{◌≡◌, ℕ, List, Bool, IfOk, OnOk, not, ◌||◌, bytes_eq};
-ghost use Rattle.an_base.specs.TextSet.{has_text};
 ghost use Rattle.an_highlight.specs.Lent.{is_lent};
 
-use an_base::Text;
-use std::alloc::{AllocError, Global};
+use std::alloc::AllocError;
 use std::collections::BTreeSet;
 
 /// Adds a lent text to others, and says whether it is new.
@@ -14,16 +12,4 @@ pub fn add_lent<'a>(texts: &mut BTreeSet<&'a str>, text: &'a str) -> Result<bool
 {
     let new = texts.insert(text)?;
     Ok(new)
-}
-
-/// These texts, so that one is found in few steps.
-pub(crate) fn lent_texts(alloc: Global, texts: &[Text]) -> Result<BTreeSet<&str>, AllocError>
-    ensures { IfOk result (λ lent. (text : List ℕ)
-        → is_lent text lent ≡ has_text text texts.now) }
-{
-    let mut lent = BTreeSet::new(alloc);
-    for text in texts {
-        add_lent(&mut lent, text.as_str())?;
-    }
-    Ok(lent)
 }

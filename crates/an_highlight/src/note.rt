@@ -1,16 +1,14 @@
 ghost use Rattle.std.specs.Prelude.{◌≡◌, ◌+◌, ◌<◌, ◌≤◌, ◌^◌, All, IfOk, false, map, vec_len};
 ghost use Rattle.serde_json.specs.View.{view};
 ghost use Rattle.serde_json.specs.Written.{has_float};
-ghost use Rattle.an_highlight.specs.Lent.{is_lent};
+ghost use Rattle.an_base.specs.TextSet.{has_text};
 ghost use Rattle.an_highlight.specs.Marks.{highlights_of};
 
-use crate::lent::lent_texts;
 use crate::mark::mark;
-use an_base::Text;
+use an_base::TextSet;
 use an_model::{Note, NoteOccurrence};
 use serde_json::Value;
 use std::alloc::{AllocError, Global};
-use std::collections::BTreeSet;
 
 /// How many words of an annotation are marked.
 const MAX_MARKS: usize = 10;
@@ -23,7 +21,7 @@ pub fn highlight(
     alloc: Global,
     note: &Note,
     source: &str,
-    terms: &[Text],
+    terms: &TextSet,
     page: &str,
     number: usize,
 ) -> Result<Vec<Value>, AllocError>
@@ -35,13 +33,12 @@ pub fn highlight(
     ensures whole { IfOk result (λ values. All (λ v. has_float (view v) ≡ false) values.items) }
 {
     let texts = note.texts();
-    let sought = lent_texts(alloc, terms)?;
     let mut marks = Vec::new(alloc);
     for word in note.occurrences() {
         if marks.len() == MAX_MARKS {
             return Ok(marks);
         }
-        if is_sought(&sought, word) {
+        if is_sought(terms, word) {
             let mark = mark(alloc, texts, word, source, page, number + marks.len())?;
             marks.push(mark)?;
         }
@@ -50,8 +47,8 @@ pub fn highlight(
 }
 
 /// Whether the word's term is one of those that are sought.
-fn is_sought(sought: &BTreeSet<&str>, word: &NoteOccurrence) -> bool
-    ensures { result ≡ is_lent word.now.term sought.now }
+fn is_sought(terms: &TextSet, word: &NoteOccurrence) -> bool
+    ensures { result ≡ has_text word.now.term terms.now }
 {
-    sought.contains(word.term.as_str())
+    terms.has(word.term.as_str())
 }

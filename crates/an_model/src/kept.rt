@@ -121,6 +121,13 @@ impl KeptNote {
         self.parts.motivations.has(motivation)
     }
 
+    /// Its motivations, each once, ascending by their bytes.
+    pub fn motivations(&self) -> &TextSet
+        ensures motivations { result.now ≡ ascending (motivations_of self.now) }
+    {
+        &self.parts.motivations
+    }
+
     /// Whether this is the IRI of one of its bodies.
     pub fn has_iri(&self, iri: &str) -> bool
         ensures found { result ≡ has_text iri.now (iris_of self.now) }

@@ -9,7 +9,8 @@ use Rattle.serde_json.specs.Data.{Data}
 use Rattle.serde_json.specs.View.{items_of}
 use Rattle.serde_json.specs.Written.{compact_text}
 use Rattle.an_base.specs.Outcome.{passes}
-use Rattle.an_base.specs.TextSet.{has_text}
+use Rattle.an_base.specs.TextSet.{ascending, has_text}
+use Rattle.an_base.proofs.AscendLemmas.{has_text-ascending}
 use Rattle.an_base.specs.Write.{item_text, item_commas}
 use Rattle.an_base.proofs.WriteLemmas.{item_commas-append}
 use Rattle.an_highlight.specs.Marks.{highlights_of}
@@ -28,6 +29,11 @@ use Rattle.an_search.specs.declared.items.Listed.{Listed}
 use Rattle.an_search.specs.declared.page.Whole.{Whole}
 use Rattle.an_search.specs.declared.searching.AskError.TheVariants.{NoPage}
 use Rattle.an_search.specs.declared.wanted.Wanted.{Wanted}
+
+-- tests that agree pass the same
+pub filter_same : {A : Type 0} (p q : A → Bool) → ((row : A) → p row ≡ q row) → (rows : List A) → filter p rows ≡ filter q rows
+filter_same p q same [] = refl
+filter_same p q same (row ∷ rows) = ap (λ pass. cond pass (row ∷ filter p rows) (filter p rows)) (same row) ∙ ap (λ others. cond (q row) (row ∷ others) others) (filter_same p q same rows)
 
 -- ---- one annotation, as an item
 
@@ -162,9 +168,46 @@ module _ (base : List ℕ) (terms : List (List ℕ)) (page : List ℕ) (rows : L
             ∙ ap (λ (trees : List Data). length trees) (sym all);
       }
 
+-- ---- terms in order
+
+-- what has a term of these in order has one of them
+pub same_marked : (terms : List (List ℕ)) (words : List NoteOccurrence) → filter (λ word. has_text word.term (ascending terms)) words ≡ filter (λ word. has_text word.term terms) words
+same_marked terms words = filter_same (λ (word : NoteOccurrence). has_text word.term (ascending terms)) (λ word. has_text word.term terms) (λ word. has_text-ascending word.term terms) words
+
+row_marks-ascending : (base : List ℕ) (terms : List (List ℕ)) (page : List ℕ) (number : ℕ) (row : NoteState) → row_marks base (ascending terms) page number row ≡ row_marks base terms page number row
+unfolding highlights_of
+row_marks-ascending base terms page number row = by row.live
+  where
+    by : (live : Option LiveNote) → ◌≡◌ {A = List Data} (elim live [
+      | None ↦ []
+      | Some live ↦ highlights_of live.tree (note_iri base row.owner row.name) (ascending terms) page number
+    ]) (elim live [
+      | None ↦ []
+      | Some live ↦ highlights_of live.tree (note_iri base row.owner row.name) terms page number
+    ])
+    by None = refl
+    by (Some live) = rw (same_marked terms (note_occurrences live.tree)) refl
+
+marks_of-ascending : (base : List ℕ) (terms : List (List ℕ)) (page : List ℕ) (number : ℕ) (rows : List NoteState) → marks_of base (ascending terms) page number rows ≡ marks_of base terms page number rows
+marks_of-ascending base terms page number [] = refl
+marks_of-ascending base terms page number (row ∷ rows) =
+    ap (λ first. first ++ marks_of base (ascending terms) page (number + length first) rows) (row_marks-ascending base terms page number row)
+    ∙ ap (λ more. row_marks base terms page number row ++ more) (marks_of-ascending base terms page (number + length (row_marks base terms page number row)) rows)
+
+-- what was written for the terms in order was written for the terms
+pub HasListed-sought : (base : List ℕ) (terms sought : List (List ℕ)) (page : List ℕ) (rows : List NoteState) (listed : Listed) → sought ≡ ascending terms
+    → HasListed base sought page rows listed → HasListed base terms page rows listed
+HasListed-sought base terms sought page rows listed is has =
+    let same = ap (λ sought. marks_of base sought page 1 rows) is ∙ marks_of-ascending base terms page 1 rows in
+    record {
+      items = has.items;
+      marks = has.marks ∙ ap (λ trees. item_commas (items_of trees)) same;
+      count = has.count ∙ ap (λ (trees : List Data). length trees) same;
+    }
+
 -- ---- nothing to mark
 
-empty_of : {A : Type 0} (xs : List A) → length xs ≡ 0 → xs ≡ []
+pub empty_of : {A : Type 0} (xs : List A) → length xs ≡ 0 → xs ≡ []
 empty_of [] is = refl
 empty_of (x ∷ xs) is = absurd (omega (arith, is))
 

@@ -1,8 +1,10 @@
 -- Hits are found among the candidates.
-use Rattle.std.proofs.Common.{◌≡◌, ℕ, ◌+◌, ◌-◌, List, [], ◌∷◌, length, drop, min, Bool, true, false, cond, ◌&&◌, Some, None, Result, Ok, Err, OnOk, refl, sym, ap, ◌∙◌, arith}
+use Rattle.std.proofs.Common.{◌≡◌, ℕ, ◌+◌, ◌-◌, List, [], ◌∷◌, length, drop, min, Bool, true, false, cond, ◌&&◌, not, Some, None, Result, Ok, Err, OnOk, refl, sym, ap, ◌∙◌, ⊎_elim, arith}
+use Rattle.std.proofs.lemmas.Bool.{and_from, and_parts, both_ways, cases_Bool, not_from_false, or_cases, or_right}
 use Rattle.std.proofs.lemmas.Bool.Decides.{nat_tests}
 use Rattle.std.proofs.lemmas.List.{length-take, length-drop}
-use Rattle.std.specs.Prelude.{filter, ◌==◌}
+use Rattle.std.proofs.lemmas.Slice.Eq.{bytes_eq-Decides}
+use Rattle.std.specs.Prelude.{bytes_eq, filter, ◌==◌}
 use Rattle.std.specs.List.{list_all}
 use Rattle.an_base.specs.TextSet.{has_text}
 use Rattle.an_model.specs.Bodies.{note_terms}
@@ -14,12 +16,13 @@ use Rattle.an_state.specs.Terms.{has_term}
 use Rattle.an_state.specs.Places.{places_from, Rises}
 use Rattle.an_state.specs.View.{view_of, is_on, shows_note, readable_places}
 use Rattle.an_search.specs.Cost.{Takes, candidates, page_cost}
-use Rattle.an_search.specs.Found.{candidate_places, is_suited_at, is_wanted_at, suits, with_terms}
+use Rattle.an_search.specs.Found.{candidate_places, is_first, is_suited_at, is_wanted_at, suits, with_terms}
 use Rattle.an_search.specs.Page.{lacks_page, page_count, page_of, start_of}
 use Rattle.an_search.specs.Wanted.{fits_but_terms, matches, wants_terms_alone}
 use Rattle.an_search.specs.declared.dates.DateRange.{DateRange}
 use Rattle.an_search.specs.declared.wanted.Wanted.{Wanted}
 use Rattle.an_search.proofs.PlaceLemmas.{common_places, length-places, same_places, tested_places}
+use Rattle.an_search.proofs.SetLemmas.{all_from, all_passes, first_text, same_bool}
 use Rattle.an_search.proofs.ViewLemmas.{filter_both, filter_same}
 
 -- what holds anyway holds where a call succeeds
@@ -67,11 +70,46 @@ either_first true false = refl
 either_first false true = refl
 either_first false false = refl
 
-one_after_another : (may has suited : Bool) (each : List ℕ → Bool) (terms : List (List ℕ))
-    → (((may && has) && suited) && list_all (λ term. may && each term) terms) ≡ (may && ((has && list_all each terms) && suited))
-one_after_another false has suited each terms = refl
-one_after_another true false suited each terms = refl
-one_after_another true true suited each terms = either_first suited (list_all each terms)
+one_after_another : (may has suited : Bool) (each : List ℕ → Bool) (others terms : List (List ℕ)) → (has ≡ true → list_all each others ≡ list_all each terms)
+    → (((may && has) && suited) && list_all (λ term. may && each term) others) ≡ (may && ((has && list_all each terms) && suited))
+one_after_another false has suited each others terms same = refl
+one_after_another true false suited each others terms same = refl
+one_after_another true true suited each others terms same = ap (λ b. suited && b) (same refl) ∙ either_first suited (list_all each terms)
+
+-- ---- the terms but for the first
+
+-- these are the terms but for the first, in any order
+abbrev pub AreOthers : List (List ℕ) → List (List ℕ) → Type 0
+AreOthers terms others = (term : List ℕ) → has_text term others ≡ (has_text term terms && not (is_first term terms))
+
+-- where no term is, there are no others
+no_others : (others : List (List ℕ)) → AreOthers [] others → others ≡ []
+no_others [] are = refl
+no_others (other ∷ others) are = absurd (both_ways _ (are other) (first_text other others))
+
+-- what passes the first passes each of the others where it passes each behind the first
+others_pass : (test : List ℕ → Bool) (first : List ℕ) (terms others : List (List ℕ)) → AreOthers (first ∷ terms) others → test first ≡ true → list_all test others ≡ list_all test terms
+others_pass test first terms others are passes = same_bool (list_all test others) (list_all test terms) behind before
+  where
+    same : (term : List ℕ) → bytes_eq first term ≡ true → test term ≡ true
+    same term is = sym (ap test ((bytes_eq-Decides first term).0 is)) ∙ passes
+
+    behind : list_all test others ≡ true → list_all test terms ≡ true
+    behind all = all_from test terms (λ term there. passes_too term there)
+      where
+        passes_too : (term : List ℕ) → has_text term terms ≡ true → test term ≡ true
+        passes_too term there =
+            ⊎_elim (same term)
+            (λ other. all_passes test others term all (are term ∙ and_from _ _ (or_right (bytes_eq first term) (has_text term terms) there) (not_from_false _ other)))
+            (cases_Bool (bytes_eq first term))
+
+    before : list_all test terms ≡ true → list_all test others ≡ true
+    before all = all_from test others (λ term there. passes_too term there)
+      where
+        passes_too : (term : List ℕ) → has_text term others ≡ true → test term ≡ true
+        passes_too term there =
+            let parts = and_parts (has_text term (first ∷ terms)) (not (bytes_eq first term)) (sym (are term) ∙ there) in
+            ⊎_elim (same term) (all_passes test terms term all) (or_cases (bytes_eq first term) (has_text term terms) parts.0)
 
 -- ---- places
 
@@ -92,13 +130,15 @@ module _ (s : State) (who : Identity) (manifest : List ℕ) where
       (λ row. both_last (kept row) (has term row) (list_all (λ term. has term row) terms))
 
   -- what is wanted of an annotation, and what is asked of it in turn
-  in_turn : (wanted : Wanted) (term : List ℕ) (terms : List (List ℕ)) (row : NoteState) → wanted.terms ≡ term ∷ terms
-      → ((has term row && suits wanted row) && list_all (λ term. has term row) terms) ≡ (may row && matches wanted row)
-  in_turn wanted term terms row are = elim row.live as (λ live.
-      ((has term (record row { live = live }) && suits wanted (record row { live = live })) && list_all (λ term. has term (record row { live = live })) terms)
+  in_turn : (wanted : Wanted) (term : List ℕ) (terms others : List (List ℕ)) (row : NoteState) → wanted.terms ≡ term ∷ terms → AreOthers (term ∷ terms) others
+      → ((has term row && suits wanted row) && list_all (λ term. has term row) others) ≡ (may row && matches wanted row)
+  in_turn wanted term terms others row are those = elim row.live as (λ live.
+      ((has term (record row { live = live }) && suits wanted (record row { live = live })) && list_all (λ term. has term (record row { live = live })) others)
       ≡ (may (record row { live = live }) && matches wanted (record row { live = live }))) [
         | None ↦ refl
-        | Some live ↦ rw are (one_after_another (may (record row { live = Some live })) (has_text term (note_terms live.tree)) (fits_but_terms wanted live) (λ term. has_text term (note_terms live.tree)) terms)
+        | Some live ↦
+            let each : List ℕ → Bool = λ term. has_text term (note_terms live.tree) in
+            rw are (one_after_another (may (record row { live = Some live })) (each term) (fits_but_terms wanted live) each others terms (others_pass each term terms others those))
       ]
 
   no_terms : (wanted : Wanted) (row : NoteState) → wanted.terms ≡ [] → (may row && suits wanted row) ≡ (may row && matches wanted row)
@@ -108,22 +148,30 @@ module _ (s : State) (who : Identity) (manifest : List ℕ) where
   ]
 
   -- the wanted places are those of the candidates that suit and have each other term
-  wanted_places : (wanted : Wanted) (terms : List (List ℕ)) → wanted.terms ≡ terms
-      → with_terms s who manifest (filter (is_suited_at s.notes wanted) (candidate_places s who manifest terms)) (drop 1 terms)
+  wanted_places : (wanted : Wanted) (terms others : List (List ℕ)) → wanted.terms ≡ terms → AreOthers terms others
+      → with_terms s who manifest (filter (is_suited_at s.notes wanted) (candidate_places s who manifest terms)) others
       ≡ filter (is_wanted_at s.notes wanted) (readable_places s who manifest)
-  wanted_places wanted [] none =
-      tested_places (suits wanted) may [] s.notes
+  wanted_places wanted [] others none those =
+      ap (with_terms s who manifest (filter (is_suited_at s.notes wanted) (candidate_places s who manifest []))) (no_others others those)
+      ∙ tested_places (suits wanted) may [] s.notes
       ∙ same_places (λ row. may row && suits wanted row) (λ row. may row && matches wanted row) 0 s.notes (λ row. no_terms wanted row none)
       ∙ sym (tested_places (matches wanted) may [] s.notes)
-  wanted_places wanted (term ∷ terms) are =
-      ap (λ places. with_terms s who manifest places terms) (tested_places (suits wanted) (has term) [] s.notes)
-      ∙ with_each (λ row. has term row && suits wanted row) terms
-      ∙ same_places (λ row. (has term row && suits wanted row) && list_all (λ term. has term row) terms) (λ row. may row && matches wanted row) 0 s.notes (λ row. in_turn wanted term terms row are)
+  wanted_places wanted (term ∷ terms) others are those =
+      ap (λ places. with_terms s who manifest places others) (tested_places (suits wanted) (has term) [] s.notes)
+      ∙ with_each (λ row. has term row && suits wanted row) others
+      ∙ same_places (λ row. (has term row && suits wanted row) && list_all (λ term. has term row) others) (λ row. may row && matches wanted row) 0 s.notes
+      (λ row. in_turn wanted term terms others row are those)
       ∙ sym (tested_places (matches wanted) may [] s.notes)
 
-  pub found_places : (wanted : Wanted) → with_terms s who manifest (filter (is_suited_at s.notes wanted) (candidate_places s who manifest wanted.terms)) (drop 1 wanted.terms)
+  pub found_places : (wanted : Wanted) (others : List (List ℕ)) → AreOthers wanted.terms others
+      → with_terms s who manifest (filter (is_suited_at s.notes wanted) (candidate_places s who manifest wanted.terms)) others
       ≡ filter (is_wanted_at s.notes wanted) (readable_places s who manifest)
-  found_places wanted = wanted_places wanted wanted.terms refl
+  found_places wanted others those = wanted_places wanted wanted.terms others refl those
+
+  -- of no places none have terms
+  pub none_having : (terms : List (List ℕ)) → with_terms s who manifest [] terms ≡ []
+  none_having [] = refl
+  none_having (term ∷ terms) = none_having terms
 
   -- there are as many as the view tells
   pub readable_count : length (readable_places s who manifest) ≡ length (filter (is_on manifest) (view_of s who).notes)

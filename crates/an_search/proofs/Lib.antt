@@ -6,6 +6,8 @@ pub mod PairLemmas
 pub mod OtherLemmas
 pub mod PlaceLemmas
 pub mod HitLemmas
+pub mod SetLemmas
+pub mod RangeLemmas
 pub mod ViewLemmas
 pub mod WrittenLemmas
 pub mod PieceLemmas

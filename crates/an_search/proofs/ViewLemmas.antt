@@ -10,6 +10,7 @@ use Rattle.an_search.specs.Found.{StandAt, is_wanted_at}
 use Rattle.an_search.specs.Search.{hits}
 use Rattle.an_search.specs.Wanted.{matches}
 use Rattle.an_search.specs.declared.wanted.Wanted.{Wanted}
+pub use Rattle.an_search.proofs.FoundLemmas.{filter_same}
 use Rattle.an_search.proofs.FoundLemmas.{stand-wanted}
 use Rattle.an_search.proofs.PlaceLemmas.{slice_get-append}
 
@@ -41,10 +42,6 @@ filter_both p q (row ∷ rows) = elim (q row) as (λ b. filter p (cond b (row �
     | false ↦ filter_both p q rows
   ]
 ]
-
-pub filter_same : {A : Type 0} (p q : A → Bool) → ((row : A) → p row ≡ q row) → (rows : List A) → filter p rows ≡ filter q rows
-filter_same p q same [] = refl
-filter_same p q same (row ∷ rows) = ap (λ pass. cond pass (row ∷ filter p rows) (filter p rows)) (same row) ∙ ap (λ others. cond (q row) (row ∷ others) others) (filter_same p q same rows)
 
 -- the annotations at the readable places are those of the view on the manifest
 pub readable_rows : (s : State) (who : Identity) (manifest : List ℕ)

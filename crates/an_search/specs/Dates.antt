@@ -1,6 +1,6 @@
 -- The pieces of a value, and the ranges of moments that those of `date` are.
 use Rattle.std.specs.Prelude.{ℕ, List, filter, length, nat_lt, ◌==◌, position, Option, is_none}
-use Rattle.std.specs.Prelude.{option_map, option_and_then}
+use Rattle.std.specs.Prelude.{option_map, option_and_then, ℤ, Bool, ◌&&◌, int_le}
 use Rattle.std.specs.List.{slice_split, before_first, after_first}
 use Rattle.std.specs.Result.{result_ok}
 use Rattle.an_base.specs.Moment.{moment_of}
@@ -28,3 +28,7 @@ bad_range value = position (λ piece. is_none (range_of piece)) (pieces_of value
 -- the same of a value that may be given
 abbrev pub bad_date : Option (List ℕ) → Option ℕ
 bad_date given = option_and_then bad_range given
+
+-- the moment lies in the range, both ends included
+abbrev pub is_in : ℤ → DateRange → Bool
+is_in moment range = int_le range.from moment && int_le moment range.to

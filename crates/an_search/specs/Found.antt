@@ -1,12 +1,13 @@
 -- For private clauses: what was found, and what of it was written so far.
-use Rattle.std.specs.Prelude.{◌≡◌, ℕ, ◌==◌, List, [], ◌∷◌, map, length, Bool, true, false, Some}
-use Rattle.std.specs.Prelude.{filter, fold, if◌then◌else◌, nat_lt, slice_get}
-use Rattle.std.specs.List.{filter_map, list_any}
+use Rattle.std.specs.Prelude.{◌≡◌, ℕ, List, [], ◌∷◌, map, length, Bool, true, false, Some}
+use Rattle.std.specs.Prelude.{bytes_eq, filter, fold, slice_get}
+use Rattle.std.specs.List.{filter_map}
 use Rattle.std.specs.Option.{option_map_or}
 use Rattle.serde_json.specs.View.{items_of}
 use Rattle.an_base.specs.Outcome.{passes}
 use Rattle.an_base.specs.Write.{item_commas}
 use Rattle.an_policy.specs.Audience.{Identity}
+use Rattle.an_slots.specs.Places.{has}
 use Rattle.an_state.specs.State.{State, NoteState}
 use Rattle.an_state.specs.Terms.{places_with_term}
 use Rattle.an_state.specs.View.{readable_places}
@@ -22,20 +23,10 @@ is_wanted_at notes wanted place = passes (matches wanted) (slice_get notes place
 
 -- ---- how hits are found
 
--- the place is one of these
-abbrev pub is_among : ℕ → List ℕ → Bool
-is_among place places = list_any (λ other. other == place) places
-
--- the place is the first of these
-abbrev pub is_first : ℕ → List ℕ → Bool
-is_first place [] = false
-is_first place (first ∷ places) = first == place
-
--- the places from the first on that isn't below this one
-abbrev pub not_below : ℕ → List ℕ → List ℕ
-not_below least [] = []
-not_below least (place ∷ places) =
-    if nat_lt place least then not_below least places else place ∷ places
+-- the term is the first of these
+abbrev pub is_first : List ℕ → List (List ℕ) → Bool
+is_first term [] = false
+is_first term (first ∷ terms) = bytes_eq first term
 
 -- where the annotations stand that the caller may read and that have the first of the terms, or all
 -- that it may read where there is no term
@@ -53,7 +44,7 @@ is_suited_at notes wanted place = passes (suits wanted) (slice_get notes place)
 -- those of the places where the annotations have one more term
 abbrev pub with_term : State → Identity → List ℕ → List ℕ → List ℕ → List ℕ
 with_term s who manifest places term =
-    filter (λ place. is_among place (places_with_term s who manifest term)) places
+    filter (λ place. has place (places_with_term s who manifest term)) places
 
 -- and those where they have each of the terms
 abbrev pub with_terms : State → Identity → List ℕ → List ℕ → List (List ℕ) → List ℕ

@@ -12,4 +12,5 @@ pub mod Filters
 pub mod Dates
 pub mod Query
 pub mod Wanted
+pub mod Ordered
 pub mod Form

@@ -1,6 +1,6 @@
 -- What a query wants of an annotation (IIIF Content Search API 2.0).
 use Rattle.std.specs.Prelude.{ℕ, ℤ, List, [], ◌∷◌, ◌++◌, length, codes, nat_eq, filter, Bool, true}
-use Rattle.std.specs.Prelude.{false, not, ◌&&◌, ◌||◌, ◌==◌, int_le, if◌then◌else◌, Option, Some}
+use Rattle.std.specs.Prelude.{false, not, ◌&&◌, ◌||◌, ◌==◌, if◌then◌else◌, Option, Some}
 use Rattle.std.specs.Prelude.{None}
 use Rattle.std.specs.List.{list_all, list_any, filter_map, starts_with}
 use Rattle.an_base.specs.Outcome.{passes}
@@ -9,7 +9,7 @@ use Rattle.an_terms.specs.Terms.{terms_of}
 use Rattle.an_model.specs.Bodies.{iris_of, note_terms}
 use Rattle.an_model.specs.Note.{motivations_of}
 use Rattle.an_state.specs.State.{NoteState, LiveNote}
-use Rattle.an_search.specs.Dates.{pieces_of, range_of}
+use Rattle.an_search.specs.Dates.{is_in, pieces_of, range_of}
 use Rattle.an_search.specs.Filters.{FiltersRecord}
 use Rattle.an_search.specs.Query.{QueryRecord}
 use Rattle.an_search.specs.declared.dates.DateRange.{DateRange}
@@ -78,10 +78,7 @@ fits_motivations pieces motivations =
     is_none_or pieces (list_any (λ piece. has_text piece motivations) pieces
     || (has_text (codes "non-painting") pieces && not (has_text (codes "painting") motivations)))
 
--- the moment lies in one of the ranges, both ends included
-abbrev pub is_in : ℤ → DateRange → Bool
-is_in moment range = int_le range.from moment && int_le moment range.to
-
+-- the moment lies in one of the ranges
 abbrev pub fits_ranges : List DateRange → ℤ → Bool
 fits_ranges ranges moment = is_none_or ranges (list_any (is_in moment) ranges)
 

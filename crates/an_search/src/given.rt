@@ -1,7 +1,6 @@
 ghost use Rattle.std.specs.Prelude.{◌≡◌, ◌&&◌, ◌||◌, ℕ, IfOk, IfSome, IsTrue, List, OnOk};
 ghost use Rattle.std.specs.Prelude.{bytes_eq, find, not};
 ghost use Rattle.std.specs.Option.{option_copied};
-ghost use Rattle.an_base.specs.TextSet.{has_text};
 ghost use Rattle.an_code.specs.Code.{parameter_text};
 ghost use Rattle.an_highlight.specs.Lent.{is_lent};
 ghost use Rattle.an_search.specs.Given.{parameter_in, has_name, value_of, repeated};
@@ -131,12 +130,6 @@ fn is_other(reads: &[Parameter], name: &str) -> bool
     ensures { result ≡ is_other reads.now name.now }
 {
     parameter_in(reads, name).is_none()
-}
-
-pub(crate) fn has_text(text: &str, texts: &[Text]) -> bool
-    ensures { result ≡ has_text text.now texts.now }
-{
-    texts.iter().any(|other| other.as_str() == text)
 }
 
 /// The number that a value is: decimal without leading zeros, from 1 to 999,999,999. Takes no

@@ -1,11 +1,14 @@
-ghost use Rattle.std.specs.Prelude.{◌≡◌, ◌+◌, ◌≤◌, drop, filter, length, IfOk, OnOk};
+ghost use Rattle.std.specs.Prelude.{◌≡◌, ℕ, ◌+◌, ◌≤◌, ◌&&◌, List, filter, length, map, not};
+ghost use Rattle.std.specs.Prelude.{IfOk, OnOk};
+ghost use Rattle.an_base.specs.TextSet.{ascending, has_text};
 ghost use Rattle.an_policy.specs.Audience.{identity};
 ghost use Rattle.an_state.specs.Places.{Rises};
 ghost use Rattle.an_state.specs.View.{readable_places, view_of};
 ghost use Rattle.an_search.specs.Cost.{candidates};
-ghost use Rattle.an_search.specs.Found.{candidate_places, is_among, is_first, is_suited_at};
-ghost use Rattle.an_search.specs.Found.{is_wanted_at, not_below, suits, with_term, with_terms};
+ghost use Rattle.an_search.specs.Found.{candidate_places, is_first, is_suited_at, is_wanted_at};
+ghost use Rattle.an_search.specs.Found.{suits, with_terms};
 
+use crate::pieces::Pieces;
 use crate::wanted::{Wanted, fits_but_terms, wants_terms_alone};
 use an_base::{Name, Steps, Text};
 use an_policy::Who;
@@ -15,7 +18,7 @@ use std::sync::ledger::Ledger;
 
 /// The places of the annotations on a manifest that the caller may read and that are wanted,
 /// ascending. Each that has the first term is fetched once. Which of them have the other terms the
-/// lists of the terms tell.
+/// lists of the terms tell, the shortest first, up to the first that leaves none.
 pub(crate) fn hit_places<T: Look, L: Ledger>(
     alloc: Global,
     look: &T,
@@ -33,10 +36,32 @@ pub(crate) fn hit_places<T: Look, L: Ledger>(
         (view_of (T.state look.now) (identity who.now)) manifest.now wanted.now.terms) }
     ensures steps_least { steps.old ≤ steps.new }
 {
+    let suited = suited_places(alloc, look, who, manifest, wanted, steps)?;
+    let others = other_terms(alloc, look, who, manifest, &wanted.terms)?;
+    with_terms(alloc, look, who, manifest, suited, others.as_slice())
+}
+
+/// The places of those of the candidates that have what is wanted but for terms.
+fn suited_places<T: Look, L: Ledger>(
+    alloc: Global,
+    look: &T,
+    who: &Who<'_>,
+    manifest: &Name,
+    wanted: &Wanted,
+    steps: &mut Steps<L>,
+) -> Result<Vec<usize>, AllocError>
+    ensures places { IfOk result (λ places. places.items
+        ≡ filter (is_suited_at (T.state look.now).notes wanted.now) (candidate_places
+        (T.state look.now) (identity who.now) manifest.now wanted.now.terms)) }
+    ensures steps { OnOk result (steps.new ≡ steps.old + length (candidates
+        (view_of (T.state look.now) (identity who.now)) manifest.now wanted.now.terms)) }
+    ensures steps_most { steps.new ≤ steps.old + length (candidates
+        (view_of (T.state look.now) (identity who.now)) manifest.now wanted.now.terms) }
+    ensures steps_least { steps.old ≤ steps.new }
+{
     let terms = wanted.terms.as_slice();
     let places = candidate_places(alloc, look, who, manifest, terms)?;
-    let suited = suited_among(alloc, look, places.as_slice(), wanted, steps)?;
-    with_terms(alloc, look, who, manifest, suited, behind_first(terms))
+    suited_among(alloc, look, places.as_slice(), wanted, steps)
 }
 
 /// The places of the annotations that the caller may read and that have the first of the terms, or
@@ -54,16 +79,6 @@ fn candidate_places<T: Look>(
     match terms.first() {
         Some(term) => look.with_term(alloc, who, manifest, term.as_str()),
         None => look.readable(alloc, who, manifest),
-    }
-}
-
-/// The terms but for the first.
-fn behind_first(terms: &[Text]) -> &[Text]
-    ensures { result.now ≡ drop 1 terms.now }
-{
-    match terms.split_first() {
-        Some((_, behind)) => behind,
-        None => terms,
     }
 }
 
@@ -122,80 +137,98 @@ fn suits(row: &NoteRow, wanted: &Wanted) -> bool
     }
 }
 
-/// Those of the places, which rise, where the annotations have each of the terms.
+/// A term, and how long its lists are.
+#[derive(Drop)]
+struct Weighed {
+    term: Text,
+    weight: usize,
+}
+
+/// The terms but for the first, each once, those with the shortest lists first.
+fn other_terms<T: Look>(
+    alloc: Global,
+    look: &T,
+    who: &Who<'_>,
+    manifest: &Name,
+    terms: &Pieces,
+) -> Result<Vec<Weighed>, AllocError>
+    ensures { IfOk result (λ others. (term : List ℕ)
+        → has_text term (map (λ other. other.term) others.items)
+        ≡ (has_text term terms.now && not (is_first term terms.now))) }
+{
+    let mut others = weighed_terms(alloc, look, who, manifest, terms)?;
+    others.sort_unstable_by_key(|other| other.weight);
+    Ok(others)
+}
+
+/// The terms but for the first, each once.
+#[tactic(auto, using(crate::proofs::PieceLemmas::pieces_left))]
+fn weighed_terms<T: Look>(
+    alloc: Global,
+    look: &T,
+    who: &Who<'_>,
+    manifest: &Name,
+    terms: &Pieces,
+) -> Result<Vec<Weighed>, AllocError>
+    ensures { IfOk result (λ others. map (λ other. other.term) others.items
+        ≡ filter (λ term. not (is_first term terms.now)) (ascending terms.now)) }
+{
+    let ordered = terms.ordered();
+    let mut others = Vec::new(alloc);
+    for place in 0..ordered.len() {
+        let term = ordered.text(place);
+        if !is_first(terms.as_slice(), term) {
+            others.push(with_weight(alloc, look, who, manifest, term)?)?;
+        }
+    }
+    Ok(others)
+}
+
+fn with_weight<T: Look>(
+    alloc: Global,
+    look: &T,
+    who: &Who<'_>,
+    manifest: &Name,
+    term: &str,
+) -> Result<Weighed, AllocError>
+    ensures { IfOk result (λ weighed. weighed.term ≡ term.now) }
+{
+    let weight = look.term_weight(who, manifest, term);
+    let term = Text::new(alloc, term)?;
+    Ok(Weighed { term, weight })
+}
+
+/// Whether the term is the first of these.
+fn is_first(terms: &[Text], term: &str) -> bool
+    ensures { result ≡ is_first term.now terms.now }
+{
+    match terms.first() {
+        Some(first) => first.as_str() == term,
+        None => false,
+    }
+}
+
+/// Those of the places, which rise, where the annotations have each of the terms. Once none is left
+/// no more terms are looked at.
 fn with_terms<T: Look>(
     alloc: Global,
     look: &T,
     who: &Who<'_>,
     manifest: &Name,
     places: Vec<usize>,
-    terms: &[Text],
+    terms: &[Weighed],
 ) -> Result<Vec<usize>, AllocError>
     requires rise { Rises 0 places.items }
-    ensures { IfOk result (λ having. having.items ≡ with_terms
-        (T.state look.now) (identity who.now) manifest.now places.items terms.now) }
+    ensures { IfOk result (λ having. having.items ≡ with_terms (T.state look.now)
+        (identity who.now) manifest.now places.items (map (λ other. other.term) terms.now)) }
 {
     let mut having = places;
-    for term in terms {
-        having = with_term(alloc, look, who, manifest, having.as_slice(), term.as_str())?;
+    for other in terms {
+        if having.is_empty() {
+            return Ok(having);
+        }
+        let term = other.term.as_str();
+        having = look.among_with_term(alloc, who, manifest, term, having.as_slice())?;
     }
     Ok(having)
-}
-
-/// Those of the places, which rise, where the annotations have one more term.
-fn with_term<T: Look>(
-    alloc: Global,
-    look: &T,
-    who: &Who<'_>,
-    manifest: &Name,
-    places: &[usize],
-    term: &str,
-) -> Result<Vec<usize>, AllocError>
-    requires rise { Rises 0 places.now }
-    ensures { IfOk result (λ having. having.items ≡ with_term
-        (T.state look.now) (identity who.now) manifest.now places.now term.now) }
-{
-    let having = look.with_term(alloc, who, manifest, term)?;
-    let common = common(alloc, places, having.as_slice())?;
-    Ok(common)
-}
-
-/// Those of the places that are among others. Both rise, and are walked along once.
-fn common(alloc: Global, places: &[usize], others: &[usize]) -> Result<Vec<usize>, AllocError>
-    requires places { Rises 0 places.now }
-    requires others { Rises 0 others.now }
-    ensures { IfOk result (λ common. common.items
-        ≡ filter (λ place. is_among place others.now) places.now) }
-{
-    let mut common = Vec::new(alloc);
-    let mut rest = others;
-    for place in places {
-        rest = not_below(rest, *place);
-        if is_first(rest, *place) {
-            common.push(*place)?;
-        }
-    }
-    Ok(common)
-}
-
-/// The places from the first on that isn't below this one.
-fn not_below(places: &[usize], least: usize) -> &[usize]
-    ensures { result.now ≡ not_below least places.now }
-{
-    for (at, place) in places.iter().enumerate() {
-        if *place >= least {
-            return &places[at..];
-        }
-    }
-    &[]
-}
-
-/// Whether the place is the first of these.
-fn is_first(places: &[usize], place: usize) -> bool
-    ensures { result ≡ is_first place places.now }
-{
-    match places.first() {
-        Some(first) => *first == place,
-        None => false,
-    }
 }

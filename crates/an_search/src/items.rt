@@ -10,7 +10,7 @@ ghost use Rattle.an_search.specs.Found.{HasListed, StandAt};
 ghost use Rattle.an_search.specs.Search.{row_marks};
 
 use crate::listed::push_listed;
-use an_base::{Steps, Text, push_comma, push_value};
+use an_base::{Steps, Text, TextSet, push_comma, push_value};
 use an_highlight::highlight;
 use an_iri::note_iri;
 use an_keyed::Keyed;
@@ -34,12 +34,33 @@ pub struct Listed {
 }
 
 /// What a page shows of the annotations at these places, of which there are no more than a page
-/// has. It takes a step for each.
+/// has. It takes a step for each. The terms are put in order once for all of them.
 pub fn list_items<T: Look, L: Ledger>(
     alloc: Global,
     look: &T,
     places: &[usize],
     terms: &[Text],
+    base: &str,
+    page: &str,
+    steps: &mut Steps<L>,
+) -> Result<Listed, AllocError>
+    requires few { length places.now ≤ 100 }
+    ensures listed { IfOk result (λ listed. (rows : List NoteState)
+        → StandAt (T.state look.now).notes places.now rows
+        → HasListed base.now terms.now page.now rows listed) }
+    ensures steps { OnOk result (steps.new ≡ steps.old + length places.now) }
+    ensures steps_most { steps.new ≤ steps.old + length places.now }
+    ensures steps_least { steps.old ≤ steps.new }
+{
+    let sought = TextSet::of(alloc, terms)?;
+    list_rows(alloc, look, places, &sought, base, page, steps)
+}
+
+fn list_rows<T: Look, L: Ledger>(
+    alloc: Global,
+    look: &T,
+    places: &[usize],
+    terms: &TextSet,
     base: &str,
     page: &str,
     steps: &mut Steps<L>,
@@ -80,7 +101,7 @@ fn list_row(
     alloc: Global,
     listed: Listed,
     row: &NoteRow,
-    terms: &[Text],
+    terms: &TextSet,
     base: &str,
     page: &str,
 ) -> Result<Listed, AllocError>
@@ -101,7 +122,7 @@ fn push_marks(
     alloc: Global,
     marks: Marks,
     row: &NoteRow,
-    terms: &[Text],
+    terms: &TextSet,
     base: &str,
     page: &str,
 ) -> Result<Marks, AllocError>
@@ -112,7 +133,7 @@ fn push_marks(
         + length (row_marks base.now terms.now page.now (marks.count + 1) row.now)) }
     ensures few { IfOk result (λ new. new.count ≤ marks.count + 10) }
 {
-    if terms.is_empty() {
+    if terms.len() == 0 {
         return Ok(marks);
     }
     match row.live() {
@@ -128,7 +149,7 @@ fn marks_in(
     alloc: Global,
     row: &NoteRow,
     live: &LiveNote<'_>,
-    terms: &[Text],
+    terms: &TextSet,
     base: &str,
     page: &str,
     number: usize,

@@ -11,7 +11,9 @@ pub use page::{
     push_prev, push_text_item, push_thing_member,
 };
 pub use pairs::{Pair, escaped_text, query_pairs, text_of};
+pub use pieces::Pieces;
 pub use query::{Query, QueryError, read_query};
+pub use ranges::Ranges;
 pub use searching::{AskError, SEARCH_CONTEXT, found_total, page_of, search};
 pub use settings::{Settings, SettingsError, read_settings};
 pub use wanted::{Wanted, matches, wanted_by, wants_nothing};
@@ -25,7 +27,9 @@ mod items;
 mod listed;
 mod page;
 mod pairs;
+mod pieces;
 mod query;
+mod ranges;
 mod searching;
 mod settings;
 mod wanted;

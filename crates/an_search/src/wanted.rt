@@ -8,15 +8,16 @@ ghost use Rattle.an_model.specs.Bodies.{iris_of, note_terms};
 ghost use Rattle.an_model.specs.Note.{motivations_of};
 ghost use Rattle.an_search.specs.Dates.{pieces_of, range_of};
 ghost use Rattle.an_search.specs.Wanted.{fits, fits_but_terms, fits_motivations, fits_ranges};
-ghost use Rattle.an_search.specs.Wanted.{fits_users, given_pieces, has_all, is_in, is_iri};
+ghost use Rattle.an_search.specs.Wanted.{fits_users, given_pieces, has_all, is_iri};
 ghost use Rattle.an_search.specs.Wanted.{matches, wanted_by, wanted_iris, wanted_of, wanted_ranges};
 ghost use Rattle.an_search.specs.Wanted.{wanted_terms, wants_nothing, wants_terms_alone, words_of};
 
 use crate::dates::{DateRange, range_of};
 use crate::filters::Filters;
-use crate::given::has_text;
+use crate::pieces::{Pieces, share_one};
 use crate::query::Query;
-use an_base::{List, Moment, Text, TryCopy};
+use crate::ranges::Ranges;
+use an_base::{List, Moment, Text, TextSet, TryCopy};
 use an_model::KeptNote;
 use an_state::{LiveNote, NoteRow};
 use an_terms::occurrences;
@@ -26,14 +27,14 @@ use std::alloc::{AllocError, Global};
 #[derive(Debug, Drop)]
 pub struct Wanted {
     /// The IRIs that its bodies have to have.
-    pub iris: List<Text>,
+    pub iris: Pieces,
     /// The terms that its texts have to have.
-    pub terms: List<Text>,
-    pub motivations: List<Text>,
+    pub terms: Pieces,
+    pub motivations: Pieces,
     /// When it has to have been made.
-    pub ranges: List<DateRange>,
+    pub ranges: Ranges,
     /// Who may have made it.
-    pub users: List<Text>,
+    pub users: Pieces,
 }
 
 /// What a query wants.
@@ -53,9 +54,9 @@ pub fn wanted_by(alloc: Global, q: Option<&Text>, filters: &Filters) -> Result<W
     Ok(Wanted {
         iris,
         terms,
-        motivations: given_pieces(alloc, filters.motivation())?,
+        motivations: ordered_pieces(alloc, filters.motivation())?,
         ranges,
-        users: given_pieces(alloc, filters.user())?,
+        users: ordered_pieces(alloc, filters.user())?,
     })
 }
 
@@ -77,7 +78,7 @@ pub(crate) fn wants_terms_alone(wanted: &Wanted) -> bool
 }
 
 /// The IRIs and the terms that are sought.
-fn sought(alloc: Global, q: Option<&Text>) -> Result<(List<Text>, List<Text>), AllocError>
+fn sought(alloc: Global, q: Option<&Text>) -> Result<(Pieces, Pieces), AllocError>
     ensures iris { IfOk result (λ both. both.0 ≡ wanted_iris (option_copied q.entry)) }
     ensures terms { IfOk result (λ both. both.1 ≡ wanted_terms (option_copied q.entry)) }
 {
@@ -88,7 +89,7 @@ fn sought(alloc: Global, q: Option<&Text>) -> Result<(List<Text>, List<Text>), A
 }
 
 #[tactic(auto, using(crate::proofs::PieceLemmas::pieces_left))]
-fn iris_among(alloc: Global, pieces: &[Text]) -> Result<List<Text>, AllocError>
+fn iris_among(alloc: Global, pieces: &[Text]) -> Result<Pieces, AllocError>
     ensures { IfOk result (λ iris. iris ≡ filter is_iri pieces.now) }
 {
     let mut iris = Vec::new(alloc);
@@ -97,7 +98,7 @@ fn iris_among(alloc: Global, pieces: &[Text]) -> Result<List<Text>, AllocError>
             iris.push(piece.copy()?)?;
         }
     }
-    Ok(List::from_vec(iris))
+    Pieces::of(alloc, List::from_vec(iris))
 }
 
 /// Whether `://` stands in the bytes.
@@ -114,7 +115,7 @@ fn is_iri(bytes: &[u8]) -> bool
 
 /// The terms of the pieces that are words.
 #[tactic(auto, using(crate::proofs::PieceLemmas::pieces_left))]
-fn words_of(alloc: Global, pieces: &[Text]) -> Result<List<Text>, AllocError>
+fn words_of(alloc: Global, pieces: &[Text]) -> Result<Pieces, AllocError>
     ensures { IfOk result (λ terms. terms ≡ words_of pieces.now) }
 {
     let mut terms = Vec::new(alloc);
@@ -122,7 +123,7 @@ fn words_of(alloc: Global, pieces: &[Text]) -> Result<List<Text>, AllocError>
         let mut more = terms_of_piece(alloc, piece.as_str())?;
         terms.append(&mut more)?;
     }
-    Ok(List::from_vec(terms))
+    Pieces::of(alloc, List::from_vec(terms))
 }
 
 /// An IRI has no terms.
@@ -144,6 +145,13 @@ fn terms_of(alloc: Global, text: &str) -> Result<Vec<Text>, AllocError>
         .into_iter()
         .map(|occurrence| occurrence.term)
         .collect(alloc)
+}
+
+/// The pieces of a value that may be given, to be looked up.
+fn ordered_pieces(alloc: Global, given: Option<&Text>) -> Result<Pieces, AllocError>
+    ensures { IfOk result (λ pieces. pieces ≡ given_pieces (option_copied given.entry)) }
+{
+    Pieces::of(alloc, given_pieces(alloc, given)?)
 }
 
 /// The pieces of a value that may be given, between its spaces.
@@ -179,11 +187,12 @@ fn cut_pieces(alloc: Global, value: &str) -> Result<Vec<&str>, AllocError>
 }
 
 /// The ranges of a date.
-fn wanted_ranges(alloc: Global, date: Option<&Text>) -> Result<List<DateRange>, AllocError>
+fn wanted_ranges(alloc: Global, date: Option<&Text>) -> Result<Ranges, AllocError>
     ensures { IfOk result (λ ranges. ranges ≡ wanted_ranges (option_copied date.entry)) }
 {
     let pieces = given_pieces(alloc, date)?;
-    ranges_among(alloc, pieces.as_slice())
+    let ranges = ranges_among(alloc, pieces.as_slice())?;
+    Ranges::of(alloc, ranges)
 }
 
 #[tactic(auto, using(crate::proofs::PieceLemmas::pieces_left))]
@@ -215,67 +224,78 @@ pub fn matches(row: &NoteRow, wanted: &Wanted) -> bool
 fn fits(live: &LiveNote<'_>, wanted: &Wanted) -> bool
     ensures { result ≡ fits wanted.now (lent_note live.now) }
 {
-    has_terms(live.tree, wanted.terms.as_slice()) && fits_but_terms(live, wanted)
+    has_terms(live.tree, &wanted.terms) && fits_but_terms(live, wanted)
 }
 
 /// Whether the annotation has the IRIs, and fits the filters. Takes no memory.
 pub(crate) fn fits_but_terms(live: &LiveNote<'_>, wanted: &Wanted) -> bool
     ensures fits { result ≡ fits_but_terms wanted.now (lent_note live.now) }
 {
-    has_iris(live.tree, wanted.iris.as_slice())
-        && fits_motivations(live.tree, wanted.motivations.as_slice())
-        && fits_ranges(wanted.ranges.as_slice(), live.created)
-        && fits_users(wanted.users.as_slice(), live.creator.get())
+    has_iris(live.tree, &wanted.iris)
+        && fits_motivations(live.tree, &wanted.motivations)
+        && fits_ranges(&wanted.ranges, live.created)
+        && fits_users(&wanted.users, live.creator.get())
 }
 
-fn has_iris(note: &KeptNote, iris: &[Text]) -> bool
+/// Whether the annotation has the IRIs. Each is looked up once, up to the first that it lacks, so
+/// no more of them than it has itself and one.
+fn has_iris(note: &KeptNote, iris: &Pieces) -> bool
     ensures { result ≡ has_all iris.now (iris_of note.now) }
 {
-    iris.iter().all(|iri| note.has_iri(iri.as_str()))
+    has_each_iri(note, iris.ordered())
 }
 
-fn has_terms(note: &KeptNote, terms: &[Text]) -> bool
+fn has_each_iri(note: &KeptNote, iris: &TextSet) -> bool
+    ensures { result ≡ has_all iris.now (iris_of note.now) }
+{
+    for place in 0..iris.len() {
+        if !note.has_iri(iris.text(place)) {
+            return false;
+        }
+    }
+    true
+}
+
+/// Whether the annotation has the terms, which are looked up as IRIs are.
+fn has_terms(note: &KeptNote, terms: &Pieces) -> bool
     ensures { result ≡ has_all terms.now (note_terms note.now) }
 {
-    terms.iter().all(|term| note.has_term(term.as_str()))
+    has_each_term(note, terms.ordered())
 }
 
-fn fits_motivations(note: &KeptNote, pieces: &[Text]) -> bool
+fn has_each_term(note: &KeptNote, terms: &TextSet) -> bool
+    ensures { result ≡ has_all terms.now (note_terms note.now) }
+{
+    for place in 0..terms.len() {
+        if !note.has_term(terms.text(place)) {
+            return false;
+        }
+    }
+    true
+}
+
+fn fits_motivations(note: &KeptNote, pieces: &Pieces) -> bool
     ensures { result ≡ fits_motivations pieces.now (motivations_of note.now) }
 {
-    pieces.is_empty()
+    pieces.as_slice().is_empty()
         || has_one_motivation(note, pieces)
-        || (has_text("non-painting", pieces) && !note.has_motivation("painting"))
+        || (pieces.has("non-painting") && !note.has_motivation("painting"))
 }
 
-fn has_one_motivation(note: &KeptNote, pieces: &[Text]) -> bool
+fn has_one_motivation(note: &KeptNote, pieces: &Pieces) -> bool
     ensures { result ≡ list_any (λ piece. has_text piece (motivations_of note.now)) pieces.now }
 {
-    pieces
-        .iter()
-        .any(|piece| note.has_motivation(piece.as_str()))
+    share_one(pieces.ordered(), note.motivations())
 }
 
-fn fits_ranges(ranges: &[DateRange], moment: Moment) -> bool
+fn fits_ranges(ranges: &Ranges, moment: Moment) -> bool
     ensures { result ≡ fits_ranges ranges.now moment }
 {
-    ranges.is_empty() || lies_in(ranges, moment)
+    ranges.as_slice().is_empty() || ranges.has(moment)
 }
 
-fn lies_in(ranges: &[DateRange], moment: Moment) -> bool
-    ensures { result ≡ list_any (is_in moment) ranges.now }
-{
-    ranges.iter().any(|range| is_in(moment, *range))
-}
-
-fn is_in(moment: Moment, range: DateRange) -> bool
-    ensures { result ≡ is_in moment range }
-{
-    range.from <= moment && moment <= range.to
-}
-
-fn fits_users(users: &[Text], creator: &Text) -> bool
+fn fits_users(users: &Pieces, creator: &Text) -> bool
     ensures { result ≡ fits_users users.now creator.now }
 {
-    users.is_empty() || has_text(creator.as_str(), users)
+    users.as_slice().is_empty() || users.has(creator.as_str())
 }

@@ -27,6 +27,6 @@ loop-word-preserved c =
           let made : view w.in_ok-mark.mark ≡ mark_tree (texts_of c.args.note.now) c.args.source.now c.args.page.now (c.args.number + length marks) word =
           w.in_ok-mark.ensures ∙ ap (λ texts. mark_tree texts c.args.source.now c.args.page.now (c.args.number + w.len-then-is_sought.result) word) c.texts-texts.ensures.value
           ∙ ap (λ n. mark_tree (texts_of c.args.note.now) c.args.source.now c.args.page.now n word) number in
-          rw (w.marks-is, w.in_ok-push.ensures.items) (HasMarked-word _ _ _ _ _ marks word _ w.in_ok-mark.mark before (sym (w.if-is_sought.ensures ∙ c.in_ok-sought.ensures word.term)) some made)
-      | else-is_sought w ↦ rw w.marks-is (HasMarked-other _ _ _ _ _ marks word _ before (sym (w.if-is_sought.ensures ∙ c.in_ok-sought.ensures word.term)))
+          rw (w.marks-is, w.in_ok-push.ensures.items) (HasMarked-word _ _ _ _ _ marks word _ w.in_ok-mark.mark before (sym w.if-is_sought.ensures) some made)
+      | else-is_sought w ↦ rw w.marks-is (HasMarked-other _ _ _ _ _ marks word _ before (sym w.if-is_sought.ensures))
     ]

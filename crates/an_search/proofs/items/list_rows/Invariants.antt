@@ -2,7 +2,7 @@ use Rattle.std.proofs.Common.{◌≡◌, ◌+◌, ◌≤◌, ◌*◌, take}
 use Rattle.std.specs.Prelude.{slice_get}
 use Rattle.std.specs.List.{filter_map}
 use Rattle.an_search.specs.Found.{HasListed}
-use Rattle.an_search.proofs.items.list_items.Given as goal
+use Rattle.an_search.proofs.items.list_rows.Given as goal
 
 -- the annotations at the places so far were written, with ten marks each at most, and each place took a step
 abbrev pub invariant-loop-place : goal.invariant-loop-place
