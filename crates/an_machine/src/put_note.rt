@@ -75,6 +75,7 @@ fn note_effect(
         ≡ note_effect book.now.state (identity who.now) at (option_copied before.entry) put) }
 {
     let put = with_kept_names(who, manifest, put)?;
+    let put = with_kept_name(before, put)?;
     let activity = put_activity(alloc, book, who, at, before, manifest, &put)?;
     let row = new_row(alloc, who, at, before, put)?;
     change(alloc, !note_standing(before).live, Row::Note(row), activity)
@@ -107,6 +108,37 @@ fn with_kept_names(
         group,
         note,
     })
+}
+
+/// The same put, whose name shares the text of the row that it replaces, so that the changes of one
+/// annotation have one text.
+fn with_kept_name(before: Option<&NoteRow>, put: NotePut) -> Result<NotePut, AllocError>
+    ensures { IfOk result (λ same. same ≡ put) }
+{
+    let NotePut {
+        owner,
+        name,
+        version,
+        manifest,
+        group,
+        note,
+    } = put;
+    let name = as_known(name_of_note(before), name)?;
+    Ok(NotePut {
+        owner,
+        name,
+        version,
+        manifest,
+        group,
+        note,
+    })
+}
+
+fn name_of_note(row: Option<&NoteRow>) -> Option<&Name> {
+    match row {
+        Some(row) => Some(row.name()),
+        None => None,
+    }
 }
 
 /// The name of who writes, where it is lent by a row.

@@ -18,4 +18,4 @@ returns c =
     let standing = ap (λ stands. with_note (not stands.live) c.in_ok-row.row c.in_ok-activity.activity) c.note_standing.ensures in
     let all = standing ∙ ap₂ (with_note _) c.in_ok-row.ensures c.in_ok-activity.ensures in
     let done = subst (λ meant. IfOk c.change.result (λ effect. effect ≡ meant)) all c.change.ensures in
-    subst (λ (put : NotePut). IfOk c.change.result (λ effect. effect ≡ note_effect c.args.book.now.state (identity c.args.who.now) c.args.at (option_copied c.args.before) put)) c.in_ok-put.ensures done
+    subst (λ (put : NotePut). IfOk c.change.result (λ effect. effect ≡ note_effect c.args.book.now.state (identity c.args.who.now) c.args.at (option_copied c.args.before) put)) (c.in_ok-put-2.ensures ∙ c.in_ok-put.ensures) done
