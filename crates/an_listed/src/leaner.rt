@@ -31,12 +31,14 @@ pub(crate) fn put_over(
     }
 }
 
-/// Drops the lists of these rows that have no place any more. It takes no memory.
+/// Drops the lists of these rows that have no place any more. It takes no memory. Rows are put in
+/// the order of their places, and later ones mostly have later classes: so the last goes first, and
+/// a list is mostly taken out of the end.
 #[tactic(auto, using(crate::proofs::LeanerLemmas::itself, crate::proofs::LeanerLemmas::after))]
 pub(crate) fn let_go_all(register: &mut Register, rows: &[Filed])
     ensures leaner { IsLeaner register.old register.new }
 {
-    for row in rows {
+    for row in rows.iter().rev() {
         register.let_go(row);
     }
 }

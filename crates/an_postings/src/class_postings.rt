@@ -142,7 +142,20 @@ fn room_in(lists: &mut Vec<ClassPostings>, class: usize, more: usize) -> Result<
 {
     match place_of(lists.as_slice(), class) {
         Ok(at) => lists[at].places.reserve(more),
-        Err(at) => begin_at(lists, at, class, more),
+        Err(at) => {
+            room_for_first(lists);
+            begin_at(lists, at, class, more)
+        }
+    }
+}
+
+/// Takes the memory for one list, where there is none: most terms have one class, for which a vector
+/// that grows would take four times as much. Where it runs out, the put of the list says so.
+fn room_for_first(lists: &mut Vec<ClassPostings>)
+    ensures lists { lists.new.items ≡ lists.old.items }
+{
+    if lists.is_empty() {
+        let _ = lists.reserve_exact(1);
     }
 }
 
