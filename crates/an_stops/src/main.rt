@@ -5,6 +5,7 @@
 mod calls;
 mod crashes;
 mod disks;
+mod large;
 mod lent;
 mod sending;
 
@@ -15,6 +16,7 @@ use sending::Second;
 use std::alloc::{AllocError, Global};
 use std::io;
 use std::process::ExitCode;
+use std::thread::Threads;
 
 /// Plays the table on standard input, and ends with 0 where each case came out as it is due.
 fn main(rt: HostRuntime) -> ExitCode {
@@ -27,14 +29,14 @@ fn main(rt: HostRuntime) -> ExitCode {
 
 /// Plays the table on standard input, prints how many cases it has and how many of them are wrong,
 /// and answers whether none is.
-fn play_input<R: Input + Print + AllocGlobal>(rt: &R) -> io::Result<bool> {
+fn play_input<R: Input + Print + AllocGlobal + Threads>(rt: &R) -> io::Result<bool> {
     let table = io::read_to_string(rt.alloc(), rt.reader())?;
     let mut lines = String::new(rt.alloc());
     let mut cases = 0usize;
     let mut wrong = 0usize;
     for line in table.lines() {
         if let Some(row) = read_row(&mut lines, line)? {
-            let found = answer(rt.alloc(), lines.as_str(), row.asked)?;
+            let found = answer(rt, rt.alloc(), lines.as_str(), row.asked)?;
             cases = cases.saturating_add(1);
             wrong = wrong_with(wrong, is_right(rt, &row, found.as_str())?);
         }
@@ -44,8 +46,13 @@ fn play_input<R: Input + Print + AllocGlobal>(rt: &R) -> io::Result<bool> {
 }
 
 /// What comes of a case: of lines that are imported twice, of lines that are written while a disk
-/// stops, or of calls of a keeper.
-fn answer(alloc: Global, lines: &str, asked: &str) -> Result<String, AllocError> {
+/// stops, of a manifest with many annotations that is deleted, or of calls of a keeper.
+fn answer<R: Threads>(
+    rt: &R,
+    alloc: Global,
+    lines: &str,
+    asked: &str,
+) -> Result<String, AllocError> {
     match asked {
         "import twice" => sending::import_twice(alloc, lines, Second::Same),
         "import twice, by two keepers" => sending::import_twice(alloc, lines, Second::Another),
@@ -61,6 +68,15 @@ fn answer(alloc: Global, lines: &str, asked: &str) -> Result<String, AllocError>
         "file stops, and what is written stays" => {
             crashes::play(alloc, lines, Stopped::File, Crashes::Process)
         }
-        _ => calls::play(alloc, asked),
+        _ => match deletion(asked) {
+            Some(count) => large::play(rt, alloc, lines, count),
+            None => calls::play(alloc, asked),
+        },
     }
+}
+
+/// Of how many annotations the manifest is that a case deletes.
+fn deletion(asked: &str) -> Option<u32> {
+    let count = asked.strip_prefix("delete a manifest of ")?;
+    count.strip_suffix(" annotations")?.parse::<u32>().ok()
 }

@@ -20,7 +20,7 @@ const PRINTED: usize = 1_000;
 const CELLS: usize = 64;
 
 /// What an import of lines prints.
-fn printed<K: Keeper>(
+pub fn printed<K: Keeper>(
     alloc: Global,
     desk: &mut Desk<K>,
     lines: &str,
