@@ -39,7 +39,7 @@ impl Loaded {
 }
 
 /// The state that a keeper's cells stand for, or which of them is damaged, the first in their
-/// order. It calls `first` once, and `next_after` once for each cell, and commits nothing.
+/// order. The cells stay, while the keeper tells them.
 pub fn load<K: Keeper>(alloc: Global, keeper: &mut K) -> Result<Loaded, OpenError>
     ensures state { IfOk result (λ its. StandFor (K.told keeper.new) its.book.state) }
     ensures damaged { IfErr result (IsDamagedBy (K.told keeper.new)) }

@@ -58,7 +58,8 @@ impl<K: Keeper, J: Naming> Store<K, J> {
         answer
     }
 
-    /// Two seats of this store see one list, which is published. What is their own stays.
+    /// Two seats of this store see one list, which is no shorter than what each of them saw before.
+    /// What is their own stays.
     pub fn meet<R: Wait>(&self, rt: &R, one: &mut Seat, other: &mut Seat)
         requires one { one.old.book ≡ J.book }
         requires other { other.old.book ≡ J.book }
@@ -75,8 +76,8 @@ impl<K: Keeper, J: Naming> Store<K, J> {
         MutexGuard::unlock(guard);
     }
 
-    /// Ends the store, and gives the keeper, whose cells are those of the state behind all that was
-    /// accepted, of which a seat of this store saw a beginning.
+    /// Ends the store, and gives the keeper. Where it tells its cells, they are those of the state of
+    /// a legal list of writes that goes on from the one that the seat saw.
     pub fn close<R: Wait>(self, rt: &R, seat: &mut Seat) -> K
         requires seat { seat.old.book ≡ J.book }
         ensures seat { seat.new ≡ record seat.old { seen = seat.new.seen } }
