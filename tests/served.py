@@ -3,6 +3,7 @@ import atexit
 import http.client
 import json
 import os
+import re
 import select
 import shutil
 import signal
@@ -10,6 +11,7 @@ import socket
 import sqlite3
 import subprocess
 import time
+from dataclasses import dataclass
 
 BASE = "http://a.example"
 MANIFEST = (
@@ -82,11 +84,27 @@ class Server:
 
     def memory(self, name):
         """A figure of its memory in KiB, such as VmHWM or VmSize."""
-        with open(f"/proc/{self.process.pid}/status") as lines:
-            for line in lines:
-                if line.startswith(name + ":"):
-                    return int(line.split()[1])
-        raise KeyError(name)
+        return memory(self.process.pid, name)
+
+    def used(self):
+        """The seconds of a processor that it has taken."""
+        return used(self.process.pid)
+
+
+def memory(process, name):
+    """A figure of a process's memory in KiB."""
+    with open(f"/proc/{process}/status") as lines:
+        for line in lines:
+            if line.startswith(name + ":"):
+                return int(line.split()[1])
+    raise KeyError(name)
+
+
+def used(process):
+    """The seconds of a processor that a process has taken, its threads that have ended too."""
+    with open(f"/proc/{process}/stat") as file:
+        parts = file.read().rpartition(")")[2].split()
+    return (int(parts[11]) + int(parts[12])) / os.sysconf("SC_CLK_TCK")
 
 
 class Gone(Exception):
@@ -112,6 +130,92 @@ class Connection:
 
     def close(self):
         self.link.close()
+
+
+HEAD = re.compile(rb"HTTP/1\.1 (\d+) .*?\r\n\r\n", re.DOTALL)
+LENGTH = re.compile(rb"\r\nContent-Length: (\d+)\r\n")
+
+
+class RawConnection:
+    """Requests as bytes, several at once where they are, over one connection."""
+
+    def __init__(self, port, seconds=60):
+        self.link = socket.create_connection(("127.0.0.1", port), timeout=seconds)
+        self.link.setsockopt(socket.IPPROTO_TCP, socket.TCP_NODELAY, 1)
+        self.left = b""
+
+    def ask(self, asked, count=1, has_body=True):
+        """The status and the body of each of so many replies to these requests. The reply to a
+        HEAD has none."""
+        try:
+            self.link.sendall(asked)
+            return [self.reply(has_body) for _ in range(count)]
+        except OSError as error:
+            raise Gone(repr(error)) from error
+
+    def reply(self, has_body=True):
+        while not (head := HEAD.match(self.left)):
+            self.more()
+        length = LENGTH.search(head[0]) if has_body else None
+        end = head.end() + (int(length[1]) if length else 0)
+        while len(self.left) < end:
+            self.more()
+        body, self.left = self.left[head.end():end], self.left[end:]
+        return int(head[1]), body
+
+    def more(self):
+        piece = self.link.recv(1 << 20)
+        if not piece:
+            raise Gone("the connection ended before the reply")
+        self.left += piece
+
+    def close(self):
+        self.link.close()
+
+
+def request(method, target, name=None, text="", fields=()):
+    """The bytes of a request, that `name` signs."""
+    lines = [f"{method} {target} HTTP/1.1", *fields]
+    if name is not None:
+        lines.append(f"Authorization: Bearer {token(name)}")
+    if method == "PUT":
+        lines.append(f"Content-Length: {len(text.encode())}")
+    return "\r\n".join([*lines, "", text]).encode()
+
+
+@dataclass
+class Ended:
+    """How a run ended: its status or less than 0 for a signal, what it printed, the seconds that it
+    took and those of a processor, and the most memory that it had, in KiB."""
+    status: int
+    printed: bytes
+    took: float
+    used: float
+    peak: int
+
+
+def play(program, store, words, given, seconds=600, most=None):
+    """A run of the program over these words and the file `given`, which is ended after so many
+    seconds, or where it has more memory than `most` KiB."""
+    began, peak, ended = time.monotonic(), 0, 0
+    with open(given, "rb") as lines, open(given + ".printed", "w+b") as printed:
+        process = subprocess.Popen([program, store, *words], stdin=lines, stdout=printed,
+                                   stderr=subprocess.DEVNULL)
+        while not ended:
+            try:
+                peak = max(peak, memory(process.pid, "VmHWM"))
+            except (KeyError, OSError):
+                # It ends just now.
+                pass
+            if time.monotonic() - began > seconds or most and peak > most:
+                process.kill()
+            time.sleep(0.002)
+            ended, status, usage = os.wait4(process.pid, os.WNOHANG)
+        took = time.monotonic() - began
+        process.returncode = os.waitstatus_to_exitcode(status)
+        printed.seek(0)
+        return Ended(process.returncode, printed.read(1 << 16), took,
+                     usage.ru_utime + usage.ru_stime, peak)
 
 
 def run(program, store, words, given=b"", wrap=(), seconds=120):
