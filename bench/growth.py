@@ -27,7 +27,8 @@ class Write:
         return f"/annotations/mara/{self.name}?version={self.version}{place}"
 
     def line(self):
-        return f"2024-05-01T10:01:00Z mara {self.method} {self.target()} {self.text}".rstrip() + "\n"
+        words = f"{self.method} {self.target()} {self.text}".rstrip()
+        return f"2024-05-01T10:01:00Z mara {words}\n"
 
     def request(self):
         return request(self.method, self.target(), "mara", self.text)

@@ -15,6 +15,7 @@ TIMES, LEAST = 3, 0.030
 # Words that stand in each annotation beside `swan`, which stands in nine of ten.
 COMMON = [f"common{number}" for number in range(31)]
 CREATOR = "http://a.example/u/mara"
+SHARED = "http://a.example/shared"
 MINUTE = "2024-05-01T10:01:00Z"
 RANGE = "2024-05-01T10:00:00Z/2024-05-01T10:00:30Z"
 
@@ -31,16 +32,22 @@ def note(text, **more):
     return {"bodyValue": text, "target": "http://a.example/c1", "type": "Annotation", **more}
 
 
+def bodied(text, iris, **more):
+    """An annotation with a text and bodies that are IRIs."""
+    tree = note(text, body=[{"type": "TextualBody", "value": text}, *iris], **more)
+    del tree["bodyValue"]
+    return tree
+
+
 def many(count):
     """Annotations that have the same words."""
     common = " ".join(COMMON)
     for number in range(1, count + 1):
         words = f"{'swan' if number % 10 else 'heron'} {common} own{number}"
-        tree = note(words, motivation="commenting")
         if number % 10 == 5:
-            del tree["bodyValue"]
-            tree["body"] = [{"type": "TextualBody", "value": words}, f"http://a.example/b{number}",
-                            "http://a.example/shared"]
+            tree = bodied(words, [f"http://a.example/b{number}", SHARED], motivation="commenting")
+        else:
+            tree = note(words, motivation="commenting")
         yield put(number, "m1", tree)
 
 
@@ -52,9 +59,9 @@ def large():
         yield put(number, "m2", note("first " + "a b c d " * 120_000 + sought))
         yield put(number, "m3", note("swan", motivation=[f"m{at}" for at in range(90_000)]))
         bodies = [f"http://a.example/body/{at}" for at in range(25_000)]
-        yield put(number, "m4", {**note("swan"), "body": bodies, "bodyValue": None})
+        yield put(number, "m4", bodied("swan", bodies))
         targets = [f"http://a.example/c1#xywh={at % 80},{at % 100},1,1" for at in range(20_000)]
-        yield put(number, "m5", {**note("swan"), "target": targets})
+        yield put(number, "m5", note("swan", target=targets))
         yield put(number, "m6", note("a'" * 500_000))
 
 
@@ -68,8 +75,7 @@ def lines(count):
     yield from many(count)
     for at, group in enumerate(groups):
         yield put(at, "m1", note("swan " + " ".join(COMMON)), "wide", group)
-    for line in large():
-        yield line.replace(',"bodyValue":null', "").replace('"bodyValue":null,', "")
+    yield from large()
 
 
 # ---- the requests
@@ -109,7 +115,6 @@ def cases(word):
 
 SWAN = "/search/m1?q=swan"
 ALL = "/search/m1?q=common0"
-SH = "http://a.example/shared"
 
 
 def searches():
@@ -141,10 +146,10 @@ def searches():
     yield Row("dates before all", filled(SWAN + "&date=" + RANGE, again(RANGE)), SWAN)
     yield Row("dates without a word", filled("/search/m1?date=" + RANGE, again(RANGE)),
               "/search/m1?date=" + RANGE)
-    yield Row("IRIs of bodies behind a word", filled(SWAN, again(SH)), SWAN)
-    yield Row("IRIs of bodies that differ at their end", filled(SWAN, numbered(SH)), SWAN)
-    yield Row("IRIs of bodies without a word", filled("/search/m1?q=" + SH, again(SH)),
-              "/search/m1?q=" + SH)
+    yield Row("IRIs of bodies behind a word", filled(SWAN, again(SHARED)), SWAN)
+    yield Row("IRIs of bodies that differ at their end", filled(SWAN, numbered(SHARED)), SWAN)
+    yield Row("IRIs of bodies without a word", filled("/search/m1?q=" + SHARED, again(SHARED)),
+              "/search/m1?q=" + SHARED)
     third = HEAD // 3 - 100
     combined = (filled(SWAN + "&motivation=x", again("x"), "+commenting", third)
                 + filled("&user=x", again("x"), "+" + CREATOR, third)

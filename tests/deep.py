@@ -182,7 +182,7 @@ def opened_again(program, store, work, count, table, how):
         status, body = connection.ask("GET", target)
         if status != due or part not in body:
             wrong.append((target, status, body[:80]))
-    for target, due in [("/manifests/m1?version=2", 200), ("/manifests/m1?version=3", 404)]:
+    for target, due in [("/manifests/m1?version=2", 200), ("/manifests/m1?version=3", 409)]:
         status, body = connection.ask("DELETE", target, "mara")
         if status != due:
             wrong.append((target, status, body[:80]))

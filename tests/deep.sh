@@ -9,7 +9,7 @@
 # there are a line of 256 MiB in several forms, 400,000 lines that are repeats and that are empty,
 # a reader in 64 groups, the deepest trees on each of 64 workers at once, and texts and queries of
 # 1 MiB without a space, of letters and of what cuts words hardest. Each has its due status, at most
-# SECONDS (600 where it isn't said) and at most MEMORY_MIB (12,288), behind which it is ended. It
+# SECONDS_MOST (600 where it isn't said) and at most MEMORY_MIB (12,288), after which it is ended. It
 # takes about five minutes and 1 GB in TMPDIR; with --quick, of 1,000 and 20,000 annotations, 20,000
 # lines and a line of 16 MiB, half a minute. Installs by apt-get, where they aren't there: sqlite3,
 # python3.
