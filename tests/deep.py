@@ -154,7 +154,7 @@ def by_request(program, work, full, count, table):
               found[0] == 200 and b'"repeat":false' in found[1] and status is None,
               f"{found[0]} {found[1][:60]!r}, {took:.2f} s, at most {peak} MiB{lives}")
     table.row("  another connection is answered meanwhile",
-              not reader.wrong and answered > 0 and reader.slowest < PATIENCE,
+              not reader.wrong and reader.slowest < PATIENCE and (answered > 0 or took < 0.1),
               f"{answered} times, the slowest in {reader.slowest:.3f} s {reader.wrong[:1] or ''}")
     server.kill()
     if found[0] == 200:
@@ -333,7 +333,7 @@ class Nested(threading.Thread):
         self.wrong = []
 
     def run(self):
-        connection = Connection(self.port, seconds=60)
+        connection = Connection(self.port, seconds=SECONDS)
         target = f"/annotations/mara/d{self.number}"
         is_object = self.number % 2 == 0
         many = "[" * (MEBIBYTE if self.number % 3 else MEBIBYTE // 2)
@@ -349,7 +349,7 @@ class Nested(threading.Thread):
                 ("GET", None, 200, b'"swan"')]
         try:
             for method, text, due, part in rows:
-                self.barrier.wait(60)
+                self.barrier.wait(SECONDS)
                 version = "?version=1&manifest=m1" if method == "PUT" else ""
                 status, body = connection.ask(method, target + version, "mara", text)
                 if status != due or part not in body:

@@ -1,8 +1,9 @@
 #!/usr/bin/env bash
 # deep.sh [--quick]: shows that no input takes a stack that grows with it, nor seconds that grow
-# with its square. The program runs under `ulimit -s 1024`, which is the stack of its first thread,
-# and of each worker too: the C library gives a thread the soft limit, 2 MiB where there is none,
-# and 16 KiB at least; the first row says what a worker is found to have. A manifest with 1,000,
+# with its square. The program runs under `ulimit -s 1024`, or another number of KiB that STACK_KIB
+# says. That is the stack of its first thread, and of each worker too: the C library gives a thread
+# the soft limit, 2 MiB where there is none, and 16 KiB at least; the first row says what a worker
+# is found to have. A manifest with 1,000,
 # 20,000, 200,000 and 400,000 annotations on it is deleted in a store on a file, by a line of an
 # import and by a request, while a reader on another connection has to be answered all the while;
 # then the store is opened again and has to be as it is due, and SQLite has to find it sound. Then

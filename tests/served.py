@@ -121,7 +121,8 @@ class Connection:
         """The status and the body of the reply to a request that `name` signs."""
         fields = {} if name is None else {"Authorization": "Bearer " + token(name)}
         try:
-            self.link.request(method, target, body=text, headers=fields)
+            body = None if text is None else text.encode()
+            self.link.request(method, target, body=body, headers=fields)
             reply = self.link.getresponse()
             return reply.status, reply.read()
         except (OSError, http.client.HTTPException) as error:
