@@ -10,19 +10,23 @@ from served import MANIFEST, Connection, Server, copy_store, note_text, play, re
 # The bounds that are shown: microseconds of a processor an annotation over a file, and how many
 # times as many of them an annotation takes among many.
 MOST, LINEAR = 25.0, 1.5
-DELETION = "2024-05-01T10:02:00Z mara DELETE /manifests/m1?version=2\n"
 WORDS = "heron swan gull tern crane stork ibis egret".split()
 
 
-def lines(count):
-    """The lines of a curator, two manifests, and so many annotations on the first."""
+def lines(size, count):
+    """The lines of a curator, so many manifests, each with so many annotations, and another one."""
     yield reader_line("mara", "curator")
-    for name in ("m1", "m2"):
+    for name in ("kept", *(f"m{at}" for at in range(count))):
         yield f"2024-05-01T10:00:00Z mara PUT /manifests/{name}?version=1 {MANIFEST}\n"
-    for number in range(count):
+    for number in range(size * count):
         text = note_text(f"{WORDS[number % 8]} {WORDS[number // 8 % 8]} {number}")
-        yield (f"2024-05-01T10:01:00Z mara PUT /annotations/mara/n{number}?version=1&manifest=m1"
-               f" {text}\n")
+        yield (f"2024-05-01T10:01:00Z mara PUT /annotations/mara/n{number}?version=1"
+               f"&manifest=m{number // size} {text}\n")
+
+
+def deletions(count):
+    for at in range(count):
+        yield f"2024-05-01T10:02:00Z mara DELETE /manifests/m{at}?version=2\n"
 
 
 def least(program, store, given, before=None):
@@ -60,10 +64,10 @@ class Waits(threading.Thread):
             number += 1
             begun = time.monotonic()
             if self.is_write:
-                target = f"/annotations/mara/w{number}?version=1&manifest=m2"
+                target = f"/annotations/mara/w{number}?version=1&manifest=kept"
                 status, body = connection.ask("PUT", target, "mara", note_text("ibis"))
             else:
-                status, body = connection.ask("GET", "/search/m2?q=egret")
+                status, body = connection.ask("GET", "/search/kept?q=egret")
             self.waits.append((begun, time.monotonic() - begun))
             assert status in (200, 201), (status, body)
             time.sleep(0.001)
@@ -82,7 +86,7 @@ def served(program, store, count):
     connection = Connection(server.port, seconds=600)
     connection.ask("GET", "/changes?page=1")
     before, begun = server.used(), time.monotonic()
-    status, body = connection.ask("DELETE", "/manifests/m1?version=2", "mara")
+    status, body = connection.ask("DELETE", "/manifests/m0?version=2", "mara")
     took, used = time.monotonic() - begun, server.used() - before
     if status != 200:
         raise SystemExit(f"a deletion is answered {status} {body!r}")
@@ -101,7 +105,7 @@ def beside(program, store, count):
     started = time.monotonic()
     time.sleep(1)
     begun = time.monotonic()
-    status, _ = Connection(server.port, seconds=600).ask("DELETE", "/manifests/m1?version=2",
+    status, _ = Connection(server.port, seconds=600).ask("DELETE", "/manifests/m0?version=2",
                                                          "mara")
     end = time.monotonic()
     # The changes reach the second copy behind the reply.
@@ -118,35 +122,39 @@ def beside(program, store, count):
               f" {each.longest(started, begun):.1f} ms", flush=True)
 
 
+def by_lines(program, work, size, count):
+    """The microseconds of a processor an annotation that lines take which delete so many manifests
+    of so many annotations each, in memory and over a file; and the path of that file before."""
+    full, store = os.path.join(work, f"full{size}.db"), os.path.join(work, "store.db")
+    alone = written(work, "alone", lines(size, count))
+    both = written(work, "both", [*lines(size, count), *deletions(count)])
+    in_memory = least(program, "-", both) - least(program, "-", alone)
+    ended = play(program, full, ["import"], alone)
+    assert ended.status == 0, ended
+    line, none = written(work, "line", deletions(count)), written(work, "none", [])
+    in_file = least(program, store, line, full) - least(program, store, none, full)
+    return in_memory / (size * count), in_file / (size * count), full
+
+
 def main():
-    program, work = sys.argv[1], sys.argv[2]
-    over, costs = [], {}
-    for count in map(int, sys.argv[3:]):
-        store, full = os.path.join(work, "store.db"), os.path.join(work, f"full{count}.db")
-        alone = written(work, "alone", lines(count))
-        both = written(work, "both", [*lines(count), DELETION])
-        cost = (least(program, "-", both) - least(program, "-", alone)) / count
-        costs.setdefault("in memory", []).append(cost)
-        print(f"{count} annotations, by a line in memory: {cost:.1f} microseconds of a processor"
-              " an annotation", flush=True)
-        ended = play(program, full, ["import"], alone)
-        assert ended.status == 0, ended
-        line, none = written(work, "line", [DELETION]), written(work, "none", [])
-        cost = (least(program, store, line, full) - least(program, store, none, full)) / count
-        costs.setdefault("over a file", []).append(cost)
-        is_over = cost > MOST
-        print(f"{count} annotations, by a line over a file: {cost:.1f} microseconds of a processor"
-              f" an annotation, of {MOST:.0f}: {'over' if is_over else 'ok'}", flush=True)
-        over += [f"{count} over a file"] if is_over else []
-        copy_store(full, store)
-        served(program, store, count)
-        copy_store(full, store)
-        beside(program, store, count)
-    for what, (small, large) in costs.items():
-        is_over = large > LINEAR * small
-        print(f"{what}: {large / small:.2f} times as much an annotation among many, of {LINEAR}:"
-              f" {'over' if is_over else 'ok'}")
+    program, work, small, large = sys.argv[1], sys.argv[2], int(sys.argv[3]), int(sys.argv[4])
+    over, found = [], []
+    for size, count in ((small, large // small), (large, 1)):
+        in_memory, in_file, full = by_lines(program, work, size, count)
+        found.append((in_memory, in_file))
+        is_over = in_file > MOST
+        over += [f"{size} over a file"] if is_over else []
+        print(f"{size} annotations at once, by a line: {in_memory:.1f} microseconds of a processor"
+              f" an annotation in memory; over a file {in_file:.1f}, of at most {MOST:.0f}:"
+              f" {'over' if is_over else 'ok'}", flush=True)
+        for show in (served, beside):
+            copy_store(full, os.path.join(work, "store.db"))
+            show(program, os.path.join(work, "store.db"), size)
+    for what, few, many in zip(("in memory", "over a file"), *found):
+        is_over = many > LINEAR * few
         over += [f"linear {what}"] if is_over else []
+        print(f"{what}: {many / few:.2f} times as much an annotation where {large} go at once, of"
+              f" at most {LINEAR}: {'over' if is_over else 'ok'}")
     print(f"{len(over)} over")
     raise SystemExit(1 if over else 0)
 
