@@ -5,8 +5,8 @@ Words: the top of the repository, and the address of the served room, where ther
 
 First a library says whether the document is an OpenAPI description. Then its paths, methods,
 parameters, codes and statuses are compared with the tables in crates/an_routes, an_search,
-an_complete, an_code and an_http. Then each reply of the cases of `find` and `session` is held against
-what the document says of its method, path and status, and at last the replies of the room.
+an_complete, an_code and an_http. Then each reply of the cases of `find` and `session` is held
+against what the document says of its method, path and status, and at last the room's replies.
 """
 import json
 import os
@@ -23,7 +23,7 @@ TOP = sys.argv[1]
 ADDRESS = sys.argv[2] if len(sys.argv) > 2 else None
 METHODS = {"ReadOnly": "GET, HEAD, OPTIONS", "WriteOnly": "OPTIONS, PUT, DELETE",
            "Full": "GET, HEAD, OPTIONS, PUT, DELETE", "Absent": ""}
-# The kind of each path in crates/an_routes/src/paths.rt, and the constants of what GET and PUT read.
+# The kind of each path in crates/an_routes/src/paths.rt, and what GET and PUT read there.
 KINDS = {"/readers/{reader}": ("Reader", None, "NUMBER_READS"),
          "/manifests/{manifest}": ("Manifest", "READS_NOTHING", "MANIFEST_READS"),
          "/annotations/{owner}/{name}": ("Note", "READS_NOTHING", "NOTE_READS"),
@@ -149,8 +149,9 @@ class Document:
 
 def constants(text):
     """The constants that list parameters, by their names."""
+    found = re.findall(r"const (\w+): \[Parameter; \d+\] = \[(.*?)\]", text, re.S)
     return {name: {word.lower() for word in re.findall(r"Parameter::(\w+)", words)}
-            for name, words in re.findall(r"const (\w+): \[Parameter; \d+\] = \[(.*?)\]", text, re.S)}
+            for name, words in found}
 
 
 def check_tables(document):
@@ -355,8 +356,8 @@ READS = ["/manifests/log", "/manifests/map", "/manifests/none", "/manifests/-",
          "/manifests/log/annotations/?iris=1", "/manifests/log/annotations/?page=2",
          "/manifests/log/annotations/?page=1&iris=1", "/manifests/log/annotations/?iris=2",
          "/manifests/log/annotations/?page=0", "/search/log", "/search/log?q=heron",
-         "/search/log?q=ink&motivation=commenting&user=x&page=1&extra=1", "/search/log?q=a&page=999",
-         "/search/log?q=a&q=b", "/search/log?date=2024", "/search/none?q=a", "/search/log?q=%FF",
+         "/search/log?q=ink&motivation=commenting&user=x&page=1&extra=1",
+         "/search/log?q=a&page=999", "/search/log?q=a&q=b", "/search/log?date=2024", "/search/none?q=a", "/search/log?q=%FF",
          "/autocomplete/log?q=st", "/autocomplete/log?q=st&min=2&page=1", "/autocomplete/log",
          "/autocomplete/log?q=a&min=0", "/changes", "/changes?page=1", "/changes?page=2",
          "/changes?page=99999", "/changes?page=x", "/nowhere"]

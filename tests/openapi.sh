@@ -2,7 +2,7 @@
 # Holds docs/openapi.json, the description of the routes, against the tables of routes, parameters,
 # codes and statuses in the sources, against each reply that is due in the cases of `find` and
 # `session`, and against the replies of a served reading room (examples/reading-room/start), reads
-# and writes. A library says whether it is an OpenAPI 3.1 description at all: `openapi-spec-validator`
+# and writes. A library says whether it is an OpenAPI description at all: `openapi-spec-validator`
 # of PyPI, which is installed into a folder of the test where it isn't there. ANNO names the program,
 # by default the built one; with ANNO=none no room is served. It is no part of the gate. Ends with 0
 # where all is as it is due.
