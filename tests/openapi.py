@@ -415,7 +415,8 @@ def check_writes(document):
         (400, "/manifests/new?version=1", "tok-ines-room", {"type": "Manifest"}, "PUT"),
         (409, "/manifests/log?version=9&group=public", "tok-ines-room", {
             "type": "Manifest", "label": {"en": ["x"]},
-            "items": [{"id": "http://a.example/c", "type": "Canvas"}]}, "PUT"),
+            "items": [{"id": "http://a.example/c", "type": "Canvas", "height": 1, "width": 1}]},
+         "PUT"),
         (400, "/readers/new?version=1", "tok-ines-room", {"token": "x"}, "PUT"),
         (409, "/readers/new?version=1", "tok-ines-room", {
             "role": "reader", "token": "tok-leila-room", "user": "http://a.example/u",
