@@ -104,6 +104,11 @@ class Document:
         errors = jsonschema.Draft202012Validator(whole).iter_errors(tree)
         return next((error.message[:300] for error in errors), None)
 
+    def sent(self, target, body):
+        """Why the body of an accepted PUT isn't what the description asks for, or nothing."""
+        put = self.tree["paths"][self.path_of(target)]["put"]
+        return self.faults(put["requestBody"]["content"]["application/json"]["schema"], body)
+
     def check(self, what, method, target, status, fields, body):
         """Holds a reply against the description. `fields` is none where they aren't known."""
         path = self.path_of(target)
@@ -287,7 +292,7 @@ def requests_in(text):
             return
         length = re.search(rb"(?im)^content-length: *(\d+)\r?$", head)
         length = int(length[1]) if length else 0
-        yield first[1].decode(), first[2].decode(errors="replace")
+        yield first[1].decode(), first[2].decode(errors="replace"), rest[:length]
         text = rest[length:]
 
 
@@ -311,11 +316,13 @@ def replies_in(text, methods):
 
 def check_session(document, case):
     asks = list(requests_in(b"".join(case["input"])))
-    replies = replies_in(b"".join(case["output"]), [method for method, _ in asks])
-    for (method, target), (status, fields, body) in zip(asks, replies):
+    replies = replies_in(b"".join(case["output"]), [method for method, _, _ in asks])
+    for (method, target, sent), (status, fields, body) in zip(asks, replies):
         # What is no request is answered without a path.
         if "allow" in fields or status == 404:
             document.check(case["name"], method, target, status, fields, body)
+        if method == "PUT" and status in (200, 201):
+            due(f"{case['name']}: what {target} was sent", document.sent(target, sent), None)
 
 
 def check_cases(document):
