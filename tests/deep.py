@@ -123,7 +123,8 @@ class Reader(threading.Thread):
 def by_line(program, work, full, count, table):
     store = os.path.join(work, "line.db")
     copy_store(full, store)
-    ended = play(program, store, ["import"], written(work, [DELETION]), SECONDS, MOST)
+    given = written(work, [DELETION], "deletion")
+    ended = play(program, store, ["import"], given, SECONDS, MOST)
     table.row(f"{count} annotations are deleted by a line",
               is_done(ended, 0, "accepted 1 repeated 0 old 0\n"), told(ended))
     if ended.status == 0:
