@@ -112,7 +112,7 @@ def iris_of(lines):
 
 
 def differences(before, after, touched):
-    """The lines that are due where these two exports stand around writes to the touched objects."""
+    """The lines that are due between two exports, where these objects were written meanwhile."""
     before, after = iris_of(before), iris_of(after)
     found = []
     for iri in sorted(before.keys() | after.keys()):

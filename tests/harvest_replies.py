@@ -1,6 +1,7 @@
 """harvest_replies.py WORK: bodies and replies that no server should send, and files that aren't the
 harvester's; harvest.sh has the rest."""
 import contextlib
+import errno
 import importlib.machinery
 import importlib.util
 import io
@@ -12,6 +13,7 @@ import subprocess
 import sys
 import threading
 import time
+from unittest import mock
 
 from served import BASE, Table
 
@@ -175,7 +177,8 @@ def activities():
                        ("no moment", without(change("n3"), "endTime")),
                        ("no object", without(change("n3"), "object")),
                        ("an object that is a text", {**change("n3"), "object": "n3"}),
-                       ("an object without an id", {**change("n3"), "object": {"type": "Manifest"}}),
+                       ("an object without an id",
+                        {**change("n3"), "object": {"type": "Manifest"}}),
                        ("a canvas", change("n3", kind="Canvas")),
                        ("an object of several types", change("n3", kind=["Annotation"]))):
         yield what, item
@@ -241,7 +244,8 @@ def replies():
     yield "length", "no length", headed("Content-Type: application/json", body=body)
     yield "length", "two lengths that are one", headed(length, length, body=body)
     yield "length", "two lengths", headed(length, "content-length: 3", body=body)
-    yield "length", "a length of eleven digits", headed(f"Content-Length: {len(body):011}", body=body)
+    yield "length", "a length of eleven digits", headed(f"Content-Length: {len(body):011}",
+                                                        body=body)
     yield "length", "a length below 0", headed("Content-Length: -1", body=body)
     yield "length", "a length with a sign", headed(f"Content-Length: +{len(body)}", body=body)
     yield "length", "lengths in one field", headed(f"{length}, {len(body)}", body=body)
@@ -406,6 +410,20 @@ def play_files(player):
         status, _, why = player.run()
         player.table.row(what, status == 4 and why.startswith("refused: file: "), why.strip())
     player.path = path
+    play_failing_disk(player)
+
+
+def play_failing_disk(player):
+    """A disk that is full as the file is written, and one that fails as it is put in its place."""
+    for name in ("fsync", "replace"):
+        player.know(1, ["n1"])
+        before = player.bytes_kept()
+        with mock.patch.object(os, name, side_effect=OSError(errno.ENOSPC, "No space left")):
+            status, _, why = player.run()
+        player.table.row(
+            f"a disk that fails at {name}", status == 4 and why.startswith("refused: file: ")
+            and player.bytes_kept() == before and os.listdir(player.folder) == ["known.json"],
+            why.strip())
 
 
 def play_words(player):
@@ -417,8 +435,8 @@ def play_words(player):
         pass
     for words in (["--pages", "0"], ["--token-file", empty], ["--token-file", empty + ".not"],
                   ["--token-variable", "NOT_THERE"], ["--at", "ftp://a.example"], ["--token", "x"],
-                  ["--at", "http://a.example/"], ["--at", "http://a.example:port"], ["--at", "http://"],
-                  ["more"]):
+                  ["--at", "http://a.example/"], ["--at", "http://a.example:port"],
+                  ["--at", "http://"], ["more"]):
         before = player.bytes_kept()
         status, out, _ = player.run(*words)
         player.table.row(f"the words {' '.join(map(os.path.basename, words))}",
