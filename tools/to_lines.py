@@ -26,22 +26,27 @@ Names
     text has the id of its canvas, # and its own id, or line-N. Two ids with one name: the second is
     left out.
 
-What is mended, and told with its count
+What is mended, and reported with its count
     Regions become whole pixels, percents too where the canvas is known. Other numbers that aren't
     whole become texts, but heights and widths are rounded. HTML gets its format, and signs in place
     of entities; soft hyphens go. A target with items becomes these items. Labels become language
     maps. The id of an annotation is kept in `via`, and its creator in its bodies, since the server
     writes its own. Each module of tools/to_lines/ states its rules in full.
 
-What is left out, and told with its place and the reason
+What is left out
     What the server would refuse all the same, by its code; what is only named and not in the file;
-    what came before with the same id and another content.
+    what came before with the same id and another content. At the end each reason has a line, with
+    how often it was and where it was first; with --verbose each thing has one too, at once.
 
 Pages of text and canvases
     With --match order, the first page of text is on the first canvas of the manifest that was read
     last, or on that of --first-canvas, the next on the next; a file that can't be read counts as a
     page. With --match image, a page is on the one canvas whose ids have the name of its image, or
     that of its file where it names none.
+
+A manifest that is left out
+    What comes after it is put on no manifest that was read before it, but on that of --manifest;
+    pages of text in order only where none was read in between.
 
 It ends with 0 where all was written, 1 where something was left out, and 2 where the command isn't
 understood. It needs Python 3.8 or later, and nothing else.
@@ -97,8 +102,9 @@ def parser():
     add("--group", type=checked(is_name, "group"), default="public",
         help="whom the annotations are shown to: public, private or a group of the owner's")
     add("--manifest", metavar="M",
-        help="what the annotations are put on, where no manifest among the files has their canvas: "
-             "the name of a manifest that the server has, or its file, which gets no line")
+        help="what annotations are put on whose canvas no manifest among the files has, up to the "
+             "first of these, and after one that is left out: the name of a manifest that the "
+             "server has, or its file, which gets no line")
     add("--manifest-group", type=checked(is_manifest_group, "group of a manifest"),
         default="public", metavar="GROUP", help="whom the manifests are shown to")
     add("--base", type=checked(is_base, "base"),
@@ -115,6 +121,8 @@ def parser():
              "that begins with a small letter")
     add("--first-canvas", type=number_of, default=1, metavar="N",
         help="the number of the canvas of the first page of text")
+    add("--verbose", action="store_true",
+        help="report each thing that is left out, at once, with its place and the reason")
     return found
 
 
@@ -131,7 +139,7 @@ def main(words):
     """Converts the files that the words name, and gives the status."""
     options = parser().parse_args(words)
     options.at = options.at or moments.now()
-    report = Report()
+    report = Report(options.verbose)
     converter = Converter(options, report)
     number_behind(options.since, converter)
     if options.manifest:

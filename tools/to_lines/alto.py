@@ -9,6 +9,7 @@ import re
 import xml.etree.ElementTree as ElementTree
 
 from .ocr import Line, Page, number_of
+from .reasons import Unreadable
 
 IMAGE_PATH = ("Description", "sourceImageInformation", "fileName")
 
@@ -125,11 +126,11 @@ def page_of(element, image, is_pixel, parted):
 
 
 def pages_of(data):
-    """The pages of a file. What is no XML is a ValueError that says where."""
+    """The pages of a file. What is no XML is Unreadable, with where it isn't."""
     try:
         root = ElementTree.fromstring(data)
     except (ElementTree.ParseError, LookupError, ValueError) as error:
-        raise ValueError("no XML: %s" % error)
+        raise Unreadable("no XML", str(error))
     unit = below(root, "Description", "MeasurementUnit") or "pixel"
     parted = Parted()
     return [page_of(page, below(root, *IMAGE_PATH), unit == "pixel", parted)

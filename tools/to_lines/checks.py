@@ -3,6 +3,7 @@
 What is mended is asked once more here, so that whatever is written is accepted.
 """
 
+from .reasons import Reason
 from .targets import iri_in, types_of
 from .trees import DEEPEST, as_list, depth
 
@@ -89,18 +90,19 @@ def why_no_annotation(note):
     """Why the server refuses the annotation, or None."""
     targets = members_in("target", note)
     if "Annotation" not in as_list(note.get("type")):
-        return "note_type: its type isn't Annotation"
+        return Reason("note_type: its type isn't Annotation")
     if not targets:
-        return "note_target: it has no target"
-    for code, test, items, text in (
-            ("note_target", is_target, targets, "target %d names no resource by an IRI"),
-            ("note_selector", has_selectors, targets, "target %d has a malformed selector"),
-            ("note_body", is_body, members_in("body", note), "body %d has no text and no IRI"),
-            ("note_motivation", is_motivation, members_in("motivation", note),
-             "motivation %d is empty, has a blank or is no text")):
+        return Reason("note_target: it has no target")
+    for kind, test, items, item in (
+            ("note_target: a target without an IRI", is_target, targets, "target"),
+            ("note_selector: a malformed selector", has_selectors, targets, "target"),
+            ("note_body: a body without a text or an IRI", is_body, members_in("body", note),
+             "body"),
+            ("note_motivation: a motivation that is empty, has a blank or is no text",
+             is_motivation, members_in("motivation", note), "motivation")):
         number = first_bad(test, items)
         if number is not None:
-            return code + ": " + text % number
+            return Reason(kind, "%s %d" % (item, number))
     return why_no_tree(note)
 
 
@@ -121,15 +123,15 @@ def is_canvas(canvas):
 def why_no_manifest(tree):
     """Why the server refuses the manifest, or None."""
     if "Manifest" not in types_of(tree):
-        return "manifest_type: its type isn't Manifest"
+        return Reason("manifest_type: its type isn't Manifest")
     if not is_language_map(tree.get("label")):
-        return "manifest_label: its label is no language map"
+        return Reason("manifest_label: its label is no language map")
     if not isinstance(tree.get("items"), list) or not tree["items"]:
-        return "manifest_items: it has no canvases"
+        return Reason("manifest_items: it has no canvases")
     number = first_bad(is_canvas, tree["items"])
     if number is not None:
-        return ("manifest_canvas: canvas %d has not the type Canvas, an id, and a height and a "
-                "width from 1 to 4,294,967,295" % number)
+        return Reason("manifest_canvas: a canvas without the type Canvas, an id, or a height and a "
+                      "width from 1 to 4,294,967,295", "canvas %d" % number)
     return why_no_tree(tree)
 
 
@@ -137,5 +139,5 @@ def why_no_tree(tree):
     """A tree is refused where it is too deep."""
     deepest = depth(tree)
     if deepest > DEEPEST:
-        return "deep: %d arrays and objects inside each other, and not 100 at most" % deepest
+        return Reason("deep: more than 100 arrays and objects inside each other", str(deepest))
     return None

@@ -6,13 +6,14 @@ from . import alto, annotations, hocr, manifests, ocr, sources
 from .checks import why_no_annotation, why_no_manifest
 from .lines import LARGEST_BODY, LARGEST_INPUT, Lines
 from .names import Names, is_name, name_of, name_under
+from .reasons import Reason, Unreadable
 from .report import Place
 from .targets import source_of, types_of
 from .trees import as_list, compact, depth, mend_tree
 
 # Deeper files are left out whole, since Python reads no further in some of its versions.
 DEEPEST_FILE = 300
-TOO_DEEP = "deep: too many arrays, objects or elements inside each other to be read"
+TOO_DEEP = Reason("deep: too many arrays, objects or elements inside each other to be read")
 
 
 class Converter:
@@ -24,8 +25,12 @@ class Converter:
         self.lines = Lines()
         self.names = Names()
         self.canvases = manifests.Canvases()
+        # What annotations and pages of text are put on now, and what the command names for that.
         self.manifest = None
+        self.named = None
         self.pages = 0
+        # Whether the pages of text that come next are those of this manifest, in order.
+        self.has_its_pages = False
 
     # ---- files
 
@@ -35,6 +40,7 @@ class Converter:
             self.manifest = text
         else:
             self.read(text, self.look_at_manifest)
+        self.named = self.manifest
 
     def take_in(self, path):
         """Takes in a file of any kind."""
@@ -48,15 +54,17 @@ class Converter:
                 data = file.read()
             take(data, place)
         except OSError as error:
-            self.skip(path, place, "it can't be read: %s" % error.strerror)
+            self.skip(path, place, Reason("it can't be read", error.strerror))
+        except Unreadable as error:
+            self.skip(path, place, error.reason)
         except ValueError as error:
-            self.skip(path, place, str(error))
+            self.skip(path, place, Reason("it can't be read", str(error)))
         except RecursionError:
             self.skip(path, place, TOO_DEEP)
 
     def skip(self, path, place, reason):
         """Leaves out a file. It counts as a page of text: the next ones keep their canvas."""
-        place.left_out(reason)
+        place.left_out(*reason)
         if not path.lower().endswith(sources.JSON_SUFFIXES):
             self.pages += 1
 
@@ -80,7 +88,8 @@ class Converter:
         """Takes in the canvases of a manifest alone."""
         tree = self.tree_of(data)
         if not isinstance(tree, dict) or manifests.is_version_2(tree):
-            raise ValueError(manifests.VERSION_2 if isinstance(tree, dict) else "it is no manifest")
+            is_old = isinstance(tree, dict)
+            raise Unreadable(manifests.VERSION_2 if is_old else "it is no manifest")
         self.take_in_manifest(tree, place, is_written=False)
 
     def take_in_tree(self, tree, place):
@@ -93,7 +102,7 @@ class Converter:
         elif manifests.is_list_of_version_2(tree):
             place.left_out(manifests.VERSION_2)
         elif manifests.is_version_2(tree):
-            self.leave_out_manifest(place, manifests.VERSION_2)
+            self.leave_out_manifest(place, Reason(manifests.VERSION_2))
         elif "Manifest" in kinds:
             self.take_in_manifest(tree, place, is_written=True)
         elif "AnnotationCollection" in kinds:
@@ -140,14 +149,18 @@ class Converter:
         """What comes behind a manifest is put on it, pages of text from its first canvas on."""
         self.manifest = name
         self.pages = 0
+        self.has_its_pages = True
         self.canvases.add(name, kept)
         if any("#" in canvas["id"] for canvas in kept["items"]):
             place.note("a canvas has a # in its id: the server finds no annotations on it")
 
     def leave_out_manifest(self, place, reason):
-        """Leaves out a manifest: what comes behind it is put on no manifest before it."""
-        place.left_out(reason)
-        self.manifest = None
+        """Leaves out a manifest. What comes after it is put on none that was read before, but on
+        the one that the command names, where it names one."""
+        place.left_out(*reason)
+        if self.manifest != self.named:
+            self.manifest = self.named
+            self.has_its_pages = False
 
     def write_manifest(self, name, kept, place):
         if not self.is_new(("manifests", name), [compact(kept)], place):
@@ -194,7 +207,7 @@ class Converter:
             if isinstance(item, dict):
                 self.take_in_annotation(item, where, "%s#%d" % (holder or place.file, number))
             else:
-                where.left_out("it is no annotation, but %s" % (
+                where.left_out("it is no annotation, but " + (
                     "only the id of one" if isinstance(item, str) else "another value"))
 
     # ---- annotations
@@ -226,9 +239,9 @@ class Converter:
 
     def why_not_written(self, note, manifest):
         if self.options.owner is None:
-            return "annotations need --owner"
+            return Reason("annotations need --owner")
         if manifest is None:
-            return "no manifest: give its file before, or --manifest"
+            return Reason("no manifest: give its file before, or --manifest")
         return why_no_annotation(note)
 
     def write_annotation(self, kept, identifier, name, moment, place):
@@ -238,7 +251,7 @@ class Converter:
         reason = (self.why_not_written(kept, manifest)
                   or self.why_no_name("annotations", name, identifier))
         if reason:
-            place.left_out(reason)
+            place.left_out(*reason)
         elif self.is_new(("annotations", name), [moment, manifest, compact(kept)], place):
             self.tell_size(kept, place)
             self.lines.put_annotation(moment, self.options.owner, name, manifest,
@@ -262,13 +275,15 @@ class Converter:
     def why_no_name(self, kind, name, identifier):
         """Why the name can't be the id's, or None."""
         other = self.names.other_with((kind, name), identifier)
-        return "its name %s is that of %s" % (name, other) if other else None
+        if other is None:
+            return None
+        return Reason("its name is that of another id", "%s is that of %s" % (name, other))
 
     # ---- pages of lines of text
 
     def take_in_pages(self, pages, place):
         if not pages:
-            raise ValueError("it has no page")
+            raise Unreadable("it has no page")
         for number, page in enumerate(pages, 1):
             self.pages += 1
             self.take_in_ocr(page, place.within("page %d" % number) if len(pages) > 1 else place)
@@ -277,7 +292,7 @@ class Converter:
         """Takes in the lines of a page, on its canvas."""
         canvas, reason = self.canvas_for(page, place)
         if reason:
-            place.left_out(reason)
+            place.left_out(*reason)
             return
         for line in ocr.joined(ocr.numbered(page.lines), self.options.join_hyphens):
             where = place.within("line %s" % line.id)
@@ -292,10 +307,13 @@ class Converter:
     def canvas_for(self, page, place):
         """The canvas of a page, or why there is none."""
         if self.manifest not in self.canvases.of_manifest:
-            return None, "no canvases: give a manifest's file before, or by --manifest"
+            return None, Reason("no canvases: give a manifest's file before, or by --manifest")
         canvases = self.canvases.of_manifest[self.manifest]
         if self.options.match == "image":
             return ocr.canvas_by_image(page, place.file, canvases)
+        if not self.has_its_pages:
+            return None, Reason("its manifest was left out: with --match image it is put on the "
+                                "one of --manifest")
         return ocr.canvas_by_order(self.pages + self.options.first_canvas - 1, canvases)
 
     # ---- the end

@@ -12,6 +12,7 @@ alone, since that may be a hyphen of the word itself.
 import collections
 import decimal
 
+from .reasons import Reason
 from .regions import text_of, whole_region
 
 SOFT_HYPHEN = "\u00ad"
@@ -142,11 +143,12 @@ def canvas_by_image(page, file, canvases):
     found = [canvas for canvas in canvases if name in canvas.names]
     if len(found) == 1:
         return found[0], None
-    return None, "%d canvases have an image named %s" % (len(found), name)
+    return None, Reason("no canvas or several have an image of its page's name",
+                        "%d have %s" % (len(found), name))
 
 
 def canvas_by_order(number, canvases):
     """The canvas of this number, from 1, or why there is none."""
     if number <= len(canvases):
         return canvases[number - 1], None
-    return None, "its manifest has no canvas %d" % number
+    return None, Reason("its manifest has no canvas of its page's number", str(number))

@@ -1,8 +1,9 @@
-"""What is told on standard error.
+"""What is reported on standard error.
 
-What is left out is told at once, one line each: its file, its place there, its id, and why. What is
-mended is told at the end, one line for each kind, with how often it was and where it was first. The
-last line has the counts. A run that takes long says every few seconds how far it is.
+What is left out and what is mended is reported at the end, one line for each reason or kind, with
+how often it was and where it was first: the file, the place there and the id. With --verbose what
+is left out has a line each too, at once. The last line has the counts. A run that takes long says
+every few seconds how far it is.
 """
 
 import sys
@@ -12,10 +13,13 @@ EVERY_SECONDS = 5
 
 
 class Report:
-    def __init__(self, output=None):
+    def __init__(self, is_verbose=False, output=None):
+        self.is_verbose = is_verbose
         self.output = output or sys.stderr
         self.counts = {"manifests": 0, "annotations": 0, "mended": 0, "left out": 0}
         self.further = {"twice": 0, "lines without text": 0, "on no canvas of their manifest": 0}
+        # Of each reason and kind, how often it was and where it was first.
+        self.reasons = {}
         self.kinds = {}
         self.file = ""
         self.spoken = time.monotonic()
@@ -23,9 +27,14 @@ class Report:
     def say(self, text):
         print(text, file=self.output, flush=True)
 
-    def left_out(self, place, reason):
+    def left_out(self, place, kind, here):
         self.counts["left out"] += 1
-        self.say("left out: %s: %s" % (place, reason))
+        where = "%s: %s" % (place, here) if here else place
+        number, first = self.reasons.get(kind, (0, where))
+        self.reasons[kind] = (number + 1, first)
+        if self.is_verbose:
+            self.say("left out: %s: %s" % (place, ": ".join(filter(None, (kind, here)))))
+        self.progress()
 
     def mended(self, place, kind):
         self.counts["mended"] += 1
@@ -53,7 +62,9 @@ class Report:
         self.say("%s: %d annotations so far" % (self.file, self.counts["annotations"]))
 
     def end(self):
-        """Tells the kinds of mending, and the counts."""
+        """Reports the reasons, the kinds of mending, and the counts."""
+        for kind, (number, first) in self.reasons.items():
+            self.say("left out: %s: %d, first at %s" % (kind, number, first))
         for kind, (number, first) in self.kinds.items():
             self.say("mended: %s: %d, first at %s" % (kind, number, first))
         further = {name: number for name, number in self.further.items() if number}
@@ -62,9 +73,9 @@ class Report:
 
 
 class Place:
-    """Where something stands: its file, the place in it, and its id; and what is told of it.
+    """Where something stands: its file, the place in it, and its id; and what is reported of it.
 
-    What was mended of something is told once it is written: nobody asks of what is left out.
+    What was mended of something is reported once it is written: nobody asks of what is left out.
     """
 
     def __init__(self, report, file, where="", identifier=None):
@@ -87,12 +98,12 @@ class Place:
         self.kinds.append(kind)
 
     def written(self):
-        """Tells what was mended."""
+        """Reports what was mended."""
         for kind in self.kinds:
             self.report.mended(str(self), kind)
 
-    def left_out(self, reason):
-        self.report.left_out(str(self), reason)
+    def left_out(self, kind, here=""):
+        self.report.left_out(str(self), kind, here)
 
     def note(self, text):
         self.report.note(str(self), text)

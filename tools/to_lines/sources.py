@@ -11,6 +11,7 @@ import os
 import re
 
 from . import alto, hocr
+from .reasons import Unreadable
 
 MARKS = ((codecs.BOM_UTF8, "utf-8"), (codecs.BOM_UTF16_LE, "utf-16-le"),
          (codecs.BOM_UTF16_BE, "utf-16-be"))
@@ -29,14 +30,14 @@ def marked(data):
 
 
 def decoded(data, otherwise="utf-8"):
-    """The text of bytes. What is none is a ValueError that says where."""
+    """The text of bytes. What is none is Unreadable, with where it isn't."""
     encoding, rest = marked(data)
     try:
         return rest.decode(encoding or otherwise)
     except LookupError:
-        raise ValueError("its charset %s isn't known" % otherwise)
+        raise Unreadable("its charset isn't known", otherwise)
     except UnicodeDecodeError as error:
-        raise ValueError("no %s at byte %d" % (encoding or otherwise, error.start))
+        raise Unreadable("no %s" % (encoding or otherwise), "at byte %d" % error.start)
 
 
 def html_text(data):
@@ -46,20 +47,21 @@ def html_text(data):
 
 
 def refuse_constant(text):
-    raise ValueError("no JSON: %s is no number" % text)
+    raise Unreadable("no JSON", "%s is no number" % text)
 
 
 def json_tree(data):
-    """The JSON value of a file, its numbers exact. What is none is a ValueError that says where."""
+    """The JSON value of a file, its numbers exact. What is none is Unreadable, with where it isn't."""
     try:
         return json.loads(decoded(data), parse_float=decimal.Decimal,
                           parse_constant=refuse_constant)
     except json.JSONDecodeError as error:
-        raise ValueError("no JSON: line %d, column %d: %s" % (error.lineno, error.colno, error.msg))
+        where = "line %d, column %d: %s" % (error.lineno, error.colno, error.msg)
+        raise Unreadable("no JSON", where)
 
 
 def kind_of(data):
-    """`json`, `alto` or `hocr`. What is none of them is a ValueError that says so."""
+    """`json`, `alto` or `hocr`. What is none of them is Unreadable."""
     encoding, rest = marked(data)
     head = rest[:HEAD].decode(encoding or "utf-8", "replace").lstrip()
     if head[:1] in ("{", "["):
@@ -69,8 +71,8 @@ def kind_of(data):
     if head[:1] == "<" and hocr.is_hocr(rest.decode(encoding or "utf-8", "replace")):
         return "hocr"
     if "<PcGts" in head:
-        raise ValueError("PAGE XML, which isn't read: export it as ALTO")
-    raise ValueError("neither JSON, nor ALTO, nor hOCR")
+        raise Unreadable("PAGE XML, which isn't read: export it as ALTO")
+    raise Unreadable("neither JSON, nor ALTO, nor hOCR")
 
 
 def in_natural_order(name):
