@@ -3,9 +3,8 @@
 # what the guide shows; tests/guide.py says how a block is marked, and how what differs each time is
 # masked. The guide's servers and proxies are started and stopped by its own commands. Their ports,
 # 8080, 8081 and 8443, are others here, `anno` is the built program, or the one that ANNO names, and
-# `anno-harvest` is tools/harvest.
-# What the guide needs is installed. It is no part of the gate. Ends with 0 where all is printed as
-# it is shown.
+# `anno-harvest`, `backup_store` and `check_store` are those of tools/. What the guide needs is
+# installed. It is no part of the gate. Ends with 0 where all is printed as it is shown.
 set -eu
 top=$(cd "$(dirname "$0")/.." && pwd)
 if [ -z "${ANNO-}" ]; then
@@ -26,5 +25,7 @@ trap 'rm -rf "$work"' EXIT
 mkdir "$work/bin" "$work/empty"
 ln -s "$(realpath "$ANNO")" "$work/bin/anno"
 ln -s "$top/tools/harvest" "$work/bin/anno-harvest"
+ln -s "$top/tools/backup_store" "$top/tools/check_store" "$work/bin/"
+unset ANNO
 port=$((20000 + RANDOM % 10000))
 python3 -B "$top/tests/guide.py" "$top/docs/GUIDE.md" "$work/bin/anno" "$work/empty" $port

@@ -51,7 +51,7 @@ def refuse_constant(text):
 
 
 def json_tree(data):
-    """The JSON value of a file, its numbers exact. What is none is Unreadable, with where it isn't."""
+    """The JSON value of a file, its numbers exact. What is none is Unreadable, with where."""
     try:
         return json.loads(decoded(data), parse_float=decimal.Decimal,
                           parse_constant=refuse_constant)
