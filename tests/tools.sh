@@ -5,9 +5,10 @@
 # that is cut off at any step leaves nothing that is served by half. A check passes stores that are
 # well, and no other, and changes none. Installs by apt-get, where they aren't there: sqlite3, curl,
 # python3. ANNO names the program, by default the built one. Ends with 0 where all is as it is due.
-set -u
+set -eu
 . "$(dirname "$0")/program.sh"
 need sqlite3:sqlite3 curl:curl /usr/bin/python3:python3 setpriv:util-linux
+set +e
 export ANNO=$program
 tools=$top/tools
 # Below the ports that the system gives to clients.
@@ -117,6 +118,20 @@ run check_store empty.db >/dev/null
 due 'an empty file' "$(tail -n 1 printed)" 'empty.db is NOT well'
 due 'no file' "$(run check_store none.db)" 'backup_store: none.db: No such file or directory| 2'
 due 'no file is made' "$(ls none.db* 2>&1 | wc -l)" 1
+
+# A check with programs that show too little, or leave other cells.
+printf '#!/bin/sh\n"%s" "$@" | head -n -1\n' "$program" >shows-less
+printf '#!/bin/sh\n"%s" "$@"\nsqlite3 "$1" "DELETE FROM cell WHERE tab = 4"\n' "$program" \
+  >leaves-less
+chmod +x shows-less leaves-less
+ANNO=$work/shows-less run check_store room.db >/dev/null
+due 'a program that shows too little' "$(grep WRONG printed)" 'WRONG: opened: everybody sees'\
+' manifests 2, annotations 291, and by the cells it is manifests 2, annotations 292'
+ANNO=$work/leaves-less run check_store room.db >/dev/null
+due 'a program that leaves other cells' "$(grep WRONG printed)" \
+  'WRONG: closed: the cells are others than before'
+due 'no program' "$(ANNO=$work/none run check_store room.db)" \
+  "check_store: none isn't there: name the program by ANNO| 2"
 due 'no words' "$(run check_store)" 'check_store: the words are STORE| 2'
 
 # ---- a copy
