@@ -1,4 +1,11 @@
 //! What every crate of the annotation server speaks of: texts, lists, names, moments and trees.
+//! Contracts see a `Text`, a `List` or a `Name` as the list of what it holds, so two of them are
+//! equal where their content is.
+//!
+//! ```text
+//! moment_of("2026-05-01T10:00:00Z")  Ok(moment), and moment_text of it is that text again
+//! moment_of("2026-02-30T10:00:00Z")  Err(MomentError::Range)
+//! ```
 #![tactic(auto)]
 
 pub use bytes::Bytes;

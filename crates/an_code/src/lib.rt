@@ -1,4 +1,9 @@
-//! The codes by which refusals are told, and the names of the parameters of a query.
+//! The codes by which refusals are reported, and the names of the parameters of a query.
+//!
+//! ```text
+//! Code::Absent.text()                            "absent"
+//! Code::Twice { name: Parameter::Page }.text()   "twice"
+//! ```
 #![tactic(auto)]
 
 pub use code::Code;

@@ -1,4 +1,8 @@
-//! The IRIs of what the server gives. Each begins with the server's base, as `http://a.example`.
+//! The IRIs of what the server gives. Each begins with the server's base.
+//!
+//! ```text
+//! manifest_iri(alloc, "http://a.example", "m1")  Ok("http://a.example/manifests/m1")
+//! ```
 #![tactic(auto)]
 
 ghost use Rattle.std.specs.Prelude.{◌≡◌, IfOk, string_bytes};

@@ -1,4 +1,9 @@
 //! Rows that are kept in a list and found by their keys.
+//!
+//! ```text
+//! rows.put(row)              takes the place of the row with this key, or stands at the end
+//! rows.find(None, &name)     Some(&row) where a row has this key
+//! ```
 #![tactic(auto)]
 
 pub use hashes::Hashes;

@@ -1,4 +1,11 @@
 //! The small machine: which writes are accepted, and what they come to.
+//!
+//! ```text
+//! decide(alloc, &book, moment, &caller, &command)
+//!     Ok(Decided { entry: Some(entry), reply })   accepted: the entry has its rows and activities
+//!     Ok(Decided { entry: None, reply })          it had been done already
+//!     Err(Refused::NotWriter)                     the first refusal that is due
+//! ```
 #![tactic(auto)]
 
 pub use an_state::{

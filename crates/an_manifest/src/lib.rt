@@ -1,5 +1,10 @@
 //! Manifests of the IIIF Presentation API 3.0: their trees, their canvases, and how they are
 //! served.
+//!
+//! ```text
+//! manifest_refusal({"type":"Manifest","label":{"en":["A book"]},"items":[]})
+//!     Some(SheetError::Items): a manifest has one canvas at least
+//! ```
 #![tactic(auto)]
 
 pub use dress::dress_manifest;

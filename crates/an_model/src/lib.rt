@@ -1,4 +1,9 @@
 //! Annotations (Web Annotation Data Model): the tree that is kept of one, and what it says.
+//!
+//! ```text
+//! note_refusal({"type":"Annotation","target":"http://a.example/c1"})   None: it can be kept
+//! note_refusal({"type":"Annotation","target":[7]})   Some(NoteError::Target { at: 0 })
+//! ```
 #![tactic(auto)]
 
 pub use dressed::dress;

@@ -1,4 +1,10 @@
 //! Who may read what: groups, audiences and their classes, readers, and how callers are known.
+//!
+//! ```text
+//! may(&who, &audience)   true where `who` is in the outer group and is the owner or in the inner
+//! as_seen(&who, Some(&before), Some(&after))   Some(Kind::Delete) where `who` could read what was
+//!                                              there before, and can't read what is there after
+//! ```
 #![tactic(auto)]
 
 pub use classes::Classes;

@@ -1,5 +1,10 @@
 //! Which cells stand for a state, how rows are written into them and read from them, and which
 //! cells an entry changes.
+//!
+//! ```text
+//! row_text(alloc, &row)                  Ok(bytes): the JSON text that stands in the row's cell
+//! read_row(alloc, table, key, &bytes)    Ok(row) again, or Err(RowError::..) where it is damaged
+//! ```
 #![tactic(auto)]
 
 pub use changes::cells_of;

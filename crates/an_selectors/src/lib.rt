@@ -1,4 +1,9 @@
 //! What annotations select of a text or an image: selectors, regions, and places in a text.
+//!
+//! ```text
+//! read_xywh("xywh=pixel:10,20,300,40")   the region at 10, 20 that is 300 wide and 40 high
+//! read_xywh("xywh=percent:0,0,5,5")      None: only pixels are read
+//! ```
 #![tactic(auto)]
 
 pub use an_base::Span;

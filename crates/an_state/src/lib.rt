@@ -1,4 +1,10 @@
 //! What the server knows: rows, entries, the book that keeps them, and looks at it.
+//!
+//! ```text
+//! book.room(&entry)             makes room for what the entry changes, or is out of memory
+//! book.apply(entry)             changes it, and takes no memory
+//! book.note_row(&owner, &name)  Some(&row): the row that it has now
+//! ```
 #![tactic(auto)]
 
 pub use activity::{Activity, Seen};

@@ -1,5 +1,12 @@
 //! What the server meets outside: links that give bytes and take bytes, two kinds of link that
 //! stand in memory, and clocks.
+//!
+//! ```text
+//! read_on(&mut link, &mut room, &mut held)
+//!     Ok(5)                  five bytes came, and they stand at the end of `held`
+//!     Ok(0)                  the input has ended
+//!     Err(LinkError::ReadFault)   the read failed, the link has counted it, `held` is as it was
+//! ```
 #![tactic(auto)]
 
 pub use clock::{Clock, SetClock};
