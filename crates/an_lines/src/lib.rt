@@ -1,5 +1,11 @@
 //! What plays lines: `find`, `import` and `trial`, and `export`, which prints lines; and how a run
 //! ends.
+//!
+//! ```text
+//! import(alloc, &mut link, &mut desk)
+//!     Status::Done      all lines were written: "accepted 6 repeated 0 old 0" was printed
+//!     Status::Refused   those before a refused line: "line 7 refused: not_own" was printed
+//! ```
 #![tactic(auto)]
 
 pub use exporting::export;
