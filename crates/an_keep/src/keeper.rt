@@ -1,4 +1,4 @@
-ghost use Rattle.std.specs.Prelude.{◌≡◌, ◌≤◌, IfOk, IfSome, OnOk, OnErr};
+ghost use Rattle.std.specs.Prelude.{◌≡◌, ◌≤◌, IfOk, IfSome, OnOk, OnErr, false};
 ghost use Rattle.an_keep.specs.Cells.{Ascend, first_of, next_after, put_changes};
 ghost use Rattle.an_base.specs.Faults.{Rises};
 ghost use Rattle.an_keep.specs.Keeper.{Turns, Stays, StaysOrBegins};
@@ -27,9 +27,9 @@ impl From<AllocError> for KeepError {
 /// What keeps cells, each under a table and a key.
 ///
 /// A keeper may tell its cells or not. One that doesn't begins to tell them in a call of `first`
-/// alone, whatever that answers, as one that has to open a file does. It may stop telling them in
-/// any call. A call answers `Failed` only where the count of faults rises, and the count never
-/// falls. It stands still at `u64::MAX`.
+/// only, whatever that answers, and only where keepers of its kind may begin to. It may stop telling
+/// them in any call. A call answers `Failed` only where the count of faults rises, and the count
+/// never falls. It stands still at `u64::MAX`.
 pub trait Keeper: Drop {
     ghost use Rattle.std.specs.Prelude.{Bool, ℕ};
     ghost use Rattle.an_keep.specs.Keeper.{Told};
@@ -41,6 +41,9 @@ pub trait Keeper: Drop {
 
     // Whether the count of this kind of keeper is 0 for good.
     ghost is_sure: { Bool };
+
+    // Whether a keeper of this kind may begin to tell its cells.
+    ghost may_begin: { Bool };
 
     /// Does all of these changes; of two changes of one cell the later counts. With an error it
     /// does none of them.
@@ -60,6 +63,7 @@ pub trait Keeper: Drop {
 
         // No call of it changes a cell.
         ensures stays { StaysOrBegins (told self.old) (told self.new) }
+        ensures never { may_begin ≡ false → Stays (told self.old) (told self.new) }
         ensures counted { result ≡ Err KeepError.Failed
             → Rises (faults self.old) (faults self.new) }
         ensures faults_kept { faults self.old ≤ faults self.new };

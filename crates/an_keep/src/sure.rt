@@ -33,13 +33,15 @@ impl SureKeeper {
 }
 
 impl Keeper for SureKeeper {
-    ghost use Rattle.std.specs.Prelude.{Some, true, refl};
+    ghost use Rattle.std.specs.Prelude.{Some, false, true, refl};
 
     ghost told = { λ keeper. Some keeper.cells };
 
     ghost faults = { λ _. 0 };
 
     ghost is_sure = { true };
+
+    ghost may_begin = { false };
 
     ghost sure_keeps = { λ sure keeper. refl };
 
