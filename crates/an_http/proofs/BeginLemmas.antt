@@ -6,11 +6,12 @@ use Rattle.an_world.specs.Link.{Traffic, ReadsOn}
 use Rattle.an_code.specs.declared.code.Code.{Code}
 use Rattle.an_code.specs.declared.code.Code.TheVariants as code
 use Rattle.an_http.specs.declared.plan.Plan.{Plan}
-use Rattle.an_http.specs.Head.{head_limit, head_length}
+use Rattle.an_message.specs.Framing.{head_length}
+use Rattle.an_message.specs.Fill.{IsHeadless, IsLong}
+use Rattle.an_message.proofs.HeadLemmas.{head_length-within, head_length-append}
+use Rattle.an_http.specs.Head.{head_limit}
 use Rattle.an_http.specs.Requests.{Wrong, Front, Nothing, Plans, headless, behind, BeginsAt, Begins}
 use Rattle.an_http.specs.Next.{IsOpen, HoldsNone}
-use Rattle.an_http.specs.Fill.{IsHeadless}
-use Rattle.an_http.proofs.HeadLemmas.{head_length-within, head_length-append}
 
 -- what stands where no head ends
 pub headless-begins : (held : List ℕ) (place : Option ℕ) → place ≡ None → BeginsAt held place (headless (length held))
@@ -25,7 +26,7 @@ open_by count few = by (count == 0) (nat_lt count head_limit) (grind (arith, nat
     by false true h = tt
     by false false h = cc
 
-pub holds_none : (held : List ℕ) → IsHeadless held → HoldsNone held
+pub holds_none : (held : List ℕ) → IsHeadless head_limit held → HoldsNone held
 holds_none held h = record {
   piece = headless (length held);
   begins = headless-begins held (head_length held) h.none;
@@ -33,7 +34,7 @@ holds_none held h = record {
 }
 
 -- a head that is longer than a head may be
-pub long-begins : (held : List ℕ) (n : ℕ) (place : Option ℕ) → place ≡ Some n → head_limit < n → BeginsAt held place (Wrong code.Head)
+long-begins : (held : List ℕ) (n : ℕ) (place : Option ℕ) → place ≡ Some n → head_limit < n → BeginsAt held place (Wrong code.Head)
 long-begins held n None is long = cc
 long-begins held n (Some m) is long = by _ (nat_lt head_limit m) (grind (arith, nat_tests))
   where
@@ -42,7 +43,7 @@ long-begins held n (Some m) is long = by _ (nat_lt head_limit m) (grind (arith, 
     by P false h = cc
 
 -- as many bytes as a head may have, in which none ends
-pub full-begins : (held : List ℕ) (place : Option ℕ) → place ≡ None → head_limit ≤ length held → BeginsAt held place (Wrong code.Head)
+full-begins : (held : List ℕ) (place : Option ℕ) → place ≡ None → head_limit ≤ length held → BeginsAt held place (Wrong code.Head)
 full-begins held (Some m) none long = cc
 full-begins held None none long = by (length held == 0) (nat_lt (length held) head_limit) (grind (arith, nat_tests)) (grind (arith, nat_tests))
   where
@@ -50,6 +51,14 @@ full-begins held None none long = by (length held == 0) (nat_lt (length held) he
     by true short h k = cc
     by false true h k = cc
     by false false h k = refl
+
+-- no head ends within the limit
+pub wrong-begins : (held : List ℕ) → IsLong head_limit held → Begins held (Wrong code.Head)
+wrong-begins held h = by (head_length held) refl
+  where
+    by : (place : Option ℕ) → head_length held ≡ place → BeginsAt held place (Wrong code.Head)
+    by None is = full-begins held None refl (h.none is)
+    by (Some n) is = long-begins held n (Some n) refl (h.some n is)
 
 -- a head of the plan stands there, however many bytes stand behind it
 planned-begins : (held : List ℕ) (n : ℕ) (plan : Result Plan Code) (place : Option ℕ) → place ≡ Some n → n ≤ head_limit → Plans (take n held) plan

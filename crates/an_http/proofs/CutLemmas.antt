@@ -7,9 +7,10 @@ use Rattle.an_code.specs.declared.code.Code.TheVariants as code
 use Rattle.an_http.specs.declared.plan.Plan.{Plan}
 use Rattle.an_http.specs.declared.request.Request.{Request}
 use Rattle.httparse.proofs.GrammarLemmas.{request_unique}
-use Rattle.an_http.specs.Head.{Head, head_limit, head_length, head_of, ReadsHead}
+use Rattle.an_message.specs.Framing.{head_length}
+use Rattle.an_message.proofs.HeadLemmas.{head_length-within, head_length-append}
+use Rattle.an_http.specs.Head.{Head, head_limit, head_of, ReadsHead}
 use Rattle.an_http.specs.Requests.{Piece, Whole, Wrong, Front, Nothing, PlansAs, Plans, headless, with_body, request_of, behind, BeginsAt, Begins, Cuts, IsLast, Requests}
-use Rattle.an_http.proofs.HeadLemmas.{head_length-within, head_length-append}
 
 -- two readings of one head say the same
 heads_unique : (text : List ℕ) (one other : Option Head) → ReadsHead text one → ReadsHead text other → one ≡ other

@@ -1,10 +1,9 @@
--- Names in any case, and texts of ASCII.
-use Rattle.std.proofs.Common.{◌≡◌, ℕ, ◌<◌, List, Bool, true, false, ◌&&◌, ◌↔◌, IsTrue, IsUtf8, bytes_eq, refl, sym, arith}
+-- Texts of ASCII.
+use Rattle.std.proofs.Common.{◌≡◌, ℕ, ◌<◌, List, Bool, true, false, ◌&&◌, IsTrue, IsUtf8, arith}
 use Rattle.std.specs.List.{All, list_all}
 use Rattle.std.proofs.lemmas.Bool.Decides.{nat_tests}
 use Rattle.std.proofs.lemmas.List.Elements.{All-weaker}
 use Rattle.std.proofs.lemmas.List.Sums.{AllPass-from_list_all}
-use Rattle.std.proofs.lemmas.Slice.Eq.{bytes_eq-Decides}
 use Rattle.std.specs.Str.{is_utf8}
 use Rattle.std.proofs.lemmas.Str.{IsUtf8-from_ascii, is_utf8-from_IsUtf8}
 use Rattle.std.proofs.lemmas.Str.Ascii.{IsAscii-from_all}
@@ -13,18 +12,6 @@ use Rattle.httparse.specs.Spans.{span_bytes, IsRequestOf}
 use Rattle.httparse.specs.declared.spans.HeaderSpan.{HeaderSpan}
 use Rattle.httparse.specs.declared.spans.RequestSpans.{RequestSpans}
 use Rattle.an_base.specs.Token.{is_token_sign, is_token}
-
--- two tests that hold together are one
-both : (a b : Bool) → (a ≡ true → b ≡ true) → (b ≡ true → a ≡ true) → a ≡ b
-both true true h k = refl
-both true false h k = sym (h refl)
-both false true h k = k refl
-both false false h k = refl
-
--- a test of two texts
-pub same_letters : (b : Bool) (one other : List ℕ) → (IsTrue b) ↔ (one ≡ other) → b ≡ bytes_eq one other
-same_letters b one other h =
-    both b (bytes_eq one other) (λ e. (bytes_eq-Decides one other).1 (h.0 e)) (λ e. h.1 ((bytes_eq-Decides one other).0 e))
 
 -- bytes of which each passes a test that ASCII alone passes
 utf8_by : (test : ℕ → Bool) → ((b : ℕ) → test b ≡ true → b < 128) → (bytes : List ℕ) → All (λ b. test b ≡ true) bytes → IsUtf8 bytes

@@ -13,14 +13,14 @@ use Rattle.an_http.specs.declared.next.Next.TheVariants as next
 use Rattle.an_http.specs.declared.plan.Plan.{Plan}
 use Rattle.an_http.specs.declared.request.Request.{Request}
 use Rattle.an_http.specs.Fields.{body_limit}
-use Rattle.an_http.specs.Head.{head_limit, head_length}
+use Rattle.an_message.specs.Framing.{head_length}
+use Rattle.an_message.specs.Fill.{IsHeadless, IsLong, IsFilled, IsFull}
+use Rattle.an_message.proofs.HeadLemmas.{head_length-within}
+use Rattle.an_http.specs.Head.{head_limit}
 use Rattle.an_http.specs.Status.{status_of}
 use Rattle.an_http.specs.Requests.{Whole, Wrong, Front, Nothing, Plans, headless, with_body, request_of, Begins}
 use Rattle.an_http.specs.Next.{Says, IsCut, IsNext, at_end}
-use Rattle.an_http.specs.Fill.{IsHeadless, IsFilled}
-use Rattle.an_http.specs.Fill.{IsFull}
-use Rattle.an_http.proofs.HeadLemmas.{head_length-within}
-use Rattle.an_http.proofs.BeginLemmas.{headless-begins, holds_none, more-planned}
+use Rattle.an_http.proofs.BeginLemmas.{headless-begins, holds_none, more-planned, wrong-begins}
 
 -- how many bytes are held at most, behind what was read for a head, and for a body
 few-head : (held all : ℕ) → all ≤ max held head_limit → all ≤ max held (head_limit + body_limit)
@@ -36,7 +36,7 @@ few-none : (held : ℕ) → held ≤ max held (head_limit + body_limit)
 few-none held = grind arith
 
 -- the end of the input, where no head ends
-end-cut : (old new : Option Traffic) (held held' : List ℕ) → IsHeadless held' → IsAtEnd new → ReadsOn old new held held'
+end-cut : (old new : Option Traffic) (held held' : List ℕ) → IsHeadless head_limit held' → IsAtEnd new → ReadsOn old new held held'
     → length held' ≤ max (length held) (head_limit + body_limit) → IsCut old new held held' (at_end (length held'))
 end-cut old new held held' none end reads few = record {
   all = held';
@@ -104,17 +104,17 @@ next_then old mid new held held' held'' (Err ReadFault) first few next = (ReadsO
 next_then old mid new held held' held'' (Err Memory) first few next = ReadsOn-then old mid new held held' held'' first next
 
 -- no head ends within the limit
-pub long_next : (old new : Option Traffic) (held held' : List ℕ) → Begins held' (Wrong code.Head) → ReadsOn old new held held' → length held' ≤ max (length held) head_limit
+pub long_next : (old new : Option Traffic) (held held' : List ℕ) → IsLong head_limit held' → ReadsOn old new held held' → length held' ≤ max (length held) head_limit
     → IsNext old new held held' (Ok (next.Bad (status_of code.Head) code.Head))
-long_next old new held held' begins reads few = wrong-cut old new held held' code.Head begins reads (few-head (length held) (length held') few)
+long_next old new held held' long reads few = wrong-cut old new held held' code.Head (wrong-begins held' long) reads (few-head (length held) (length held') few)
 
 -- the input ended before a head did
-pub ended_next : (old new : Option Traffic) (held held' : List ℕ) (count : ℕ) → count ≡ length held' → IsHeadless held' × IsAtEnd new → ReadsOn old new held held' → length held' ≤ max (length held) head_limit
+pub ended_next : (old new : Option Traffic) (held held' : List ℕ) (count : ℕ) → count ≡ length held' → IsHeadless head_limit held' × IsAtEnd new → ReadsOn old new held held' → length held' ≤ max (length held) head_limit
     → IsNext old new held held' (Ok (at_end count))
 ended_next old new held held' count is (none, end) reads few = rw is (end-cut old new held held' none end reads (few-head (length held) (length held') few))
 
 -- a head could not be read
-pub unfilled_next : (old new : Option Traffic) (held held' : List ℕ) (error : LinkError) → IsFilled new held' (Err error) → ReadsOn old new held held'
+pub unfilled_next : (old new : Option Traffic) (held held' : List ℕ) (error : LinkError) → IsFilled head_limit new held' (Err error) → ReadsOn old new held held'
     → IsNext old new held held' (Err error)
 unfilled_next old new held held' ReadFault none reads = (reads, holds_none held' none)
 unfilled_next old new held held' Memory none reads = reads

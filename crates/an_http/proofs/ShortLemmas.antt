@@ -1,31 +1,27 @@
 -- How long the requests are that bytes begin with.
 use Rattle.std.proofs.Common.{◌≡◌, ℕ, ◌+◌, ◌≤◌, List, [], ◌∷◌, length, take, drop, Bool, true, false, not, ◌==◌, nat_lt, nat_le, if◌then◌else◌, Option, Some, None, Result, Ok, Err, MatchBool, codes, refl, sym, ap, length-drop, length-take, arith}
 use Rattle.std.proofs.lemmas.Bool.Decides.{nat_tests}
-use Rattle.std.specs.Str.Parse.{digits_value}
-use Rattle.an_base.specs.Outcome.{first_of, unless, when}
 use Rattle.an_code.specs.declared.code.Code.{Code}
 use Rattle.an_code.specs.declared.code.Code.TheVariants as code
 use Rattle.an_http.specs.declared.plan.Plan.{Plan}
 use Rattle.an_http.specs.declared.request.Request.{Request}
-use Rattle.an_http.specs.Fields.{body_length, body_limit, is_length, length_in, no_length}
+use Rattle.an_http.specs.Fields.{body_length, body_limit, length_within, no_length}
 use Rattle.an_http.specs.declared.method.Method.{Method}
 use Rattle.an_http.specs.declared.method.Method.TheVariants as method
-use Rattle.an_http.specs.Head.{Head, head_length, head_limit, values_of}
+use Rattle.an_message.specs.Framing.{head_length, length_of, values_of}
+use Rattle.an_http.specs.Head.{Head, head_limit}
 use Rattle.an_http.specs.Requests.{Begins, BeginsAt, Front, Nothing, Plans, PlansAs, Whole, Wrong, behind, body_of, plan_by, request_of, with_body}
 
 same_ok : (r : Result ℕ Code) (a b : ℕ) → r ≡ Ok a → r ≡ Ok b → a ≡ b
 same_ok r a b at is = cc
 
-length_short : (value : List ℕ) (n : ℕ) → length_in value ≡ Ok n → n ≤ body_limit
-length_short value n = by (not (is_length value)) (nat_lt body_limit v) refl
+length_short : (length : Option ℕ) (n : ℕ) → length_within length ≡ Ok n → n ≤ body_limit
+length_short None n is = absurd (cc)
+length_short (Some v) n is = by (nat_lt body_limit v) refl is
   where
-    v : ℕ
-    v = digits_value 10 value
-
-    by : (b c : Bool) → nat_lt body_limit v ≡ c → unless (first_of (when b code.Length ∷ when c code.Large ∷ [])) v ≡ Ok n → n ≤ body_limit
-    by true c at is = absurd (cc)
-    by false true at is = absurd (cc)
-    by false false at is = let same = same_ok (Ok v) v n refl is in grind (arith, nat_tests)
+    by : (large : Bool) → nat_lt body_limit v ≡ large → (if large then Err code.Large else Ok v) ≡ Ok n → n ≤ body_limit
+    by true at is = absurd (cc)
+    by false at is = let same = same_ok (Ok v) v n refl is in grind (arith, nat_tests)
 
 unlengthed_short : (method : Option Method) (n : ℕ) → no_length method ≡ Ok n → n ≤ body_limit
 unlengthed_short None n is = let same = same_ok (Ok 0) 0 n refl is in omega arith
@@ -37,7 +33,7 @@ unlengthed_short (Some method.Delete) n is = let same = same_ok (Ok 0) 0 n refl 
 
 body_short : (method : Option Method) (values : List (List ℕ)) (n : ℕ) → body_length method values ≡ Ok n → n ≤ body_limit
 body_short method [] n is = unlengthed_short method n is
-body_short method (value ∷ []) n is = length_short value n is
+body_short method (value ∷ []) n is = length_short (length_of value) n is
 body_short method (a ∷ b ∷ values) n is = absurd (cc)
 
 body_of-short : (head : Head) (n : ℕ) → body_of head ≡ Ok n → n ≤ body_limit

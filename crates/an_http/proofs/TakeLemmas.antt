@@ -1,18 +1,11 @@
 -- How a request is taken out of the bytes that are held.
-use Rattle.std.proofs.Common.{◌≡◌, ℕ, ◌+◌, ◌-◌, ◌≤◌, List, ◌++◌, length, take, drop, Bool, true, false, nat_le, if◌then◌else◌, refl, sym, ◌∙◌, arith}
+use Rattle.std.proofs.Common.{◌≡◌, ℕ, ◌+◌, ◌-◌, ◌≤◌, List, length, take, drop, Bool, true, false, nat_le, if◌then◌else◌, refl, arith}
 use Rattle.std.proofs.lemmas.Bool.Decides.{nat_tests}
-use Rattle.std.proofs.lemmas.List.{drop-drop, length-drop, take-append-le, take_rest}
-use Rattle.std.proofs.Math.Seq.{take-length}
+use Rattle.std.proofs.lemmas.List.{drop-drop, length-drop, take_rest}
 use Rattle.an_http.specs.declared.plan.Plan.{Plan}
 use Rattle.an_http.specs.declared.request.Request.{Request}
 use Rattle.an_http.specs.Requests.{Whole, Front, with_body, request_of}
 use Rattle.an_code.specs.declared.code.Code.TheVariants as code
-
--- the front goes to the end, and is cut off there
-pub rotated : (bytes : List ℕ) (count : ℕ) → count ≤ length bytes → take (length bytes - count) (drop count bytes ++ take count bytes) ≡ drop count bytes
-rotated bytes count within =
-    let long : length (drop count bytes) ≡ length bytes - count = length-drop count bytes in
-    take-append-le (length bytes - count) (drop count bytes) (take count bytes) (omega arith) ∙ rw (sym long) (take-length (drop count bytes))
 
 -- the body and what stands behind it
 pub taking : (held held' : List ℕ) (end total : ℕ) (plan : Plan) (request : Request) → total ≡ end + plan.length → total ≤ length held

@@ -1,12 +1,10 @@
 -- What the fields of a head say of the request. Each word is of the values of the fields of one
 -- name, in their order.
 use Rattle.std.specs.Prelude.{ℕ, List, [], ◌∷◌, length, take, drop, codes, Bool, false, not, ◌&&◌}
-use Rattle.std.specs.Prelude.{◌||◌, ◌==◌, nat_lt, nat_le, nat_eq, if◌then◌else◌, Option, Some, None}
+use Rattle.std.specs.Prelude.{◌||◌, ◌==◌, nat_lt, nat_eq, if◌then◌else◌, Option, Some, None}
 use Rattle.std.specs.Prelude.{Result, Ok, Err}
-use Rattle.std.specs.Char.{is_ascii_digit}
-use Rattle.std.specs.List.{list_all, starts_with}
-use Rattle.std.specs.Str.Parse.{digits_value}
-use Rattle.an_base.specs.Outcome.{when, first_of, unless, only_if}
+use Rattle.std.specs.List.{starts_with}
+use Rattle.an_base.specs.Outcome.{only_if}
 use Rattle.an_base.specs.Token.{is_token}
 use Rattle.an_code.specs.declared.code.Code.{Code}
 use Rattle.an_code.specs.declared.code.Code.TheVariants as code
@@ -17,23 +15,16 @@ use Rattle.an_http.specs.declared.method.Method.{Method}
 use Rattle.an_http.specs.declared.method.Method.TheVariants.{Put}
 use Rattle.an_http.specs.declared.fields.Case.{Case}
 use Rattle.an_http.specs.declared.fields.Case.TheVariants.{Exact, Any}
-use Rattle.an_http.specs.Head.{is_same_name}
+use Rattle.an_message.specs.Framing.{is_same_name, length_of}
 
 -- how many bytes a body may have
 abbrev pub body_limit : ℕ
 body_limit = 1048576
 
--- 1 to 10 digits
-abbrev pub is_length : List ℕ → Bool
-is_length value =
-    nat_lt 0 (length value) && nat_le (length value) 10 && list_all is_ascii_digit value
-
--- the one value of Content-Length: a length, and not above the limit (RFC 9112, section 6.3)
-abbrev pub length_in : List ℕ → Result ℕ Code
-length_in value = unless (first_of (
-    when (not (is_length value)) code.Length
-    ∷ when (nat_lt body_limit (digits_value 10 value)) code.Large
-    ∷ [])) (digits_value 10 value)
+-- how many bytes the body has, by the length that Content-Length writes (RFC 9112, section 6.3)
+abbrev pub length_within : Option ℕ → Result ℕ Code
+length_within None = Err code.Length
+length_within (Some n) = if nat_lt body_limit n then Err code.Large else Ok n
 
 -- how many bytes the body has without Content-Length, which a PUT needs
 abbrev pub no_length : Option Method → Result ℕ Code
@@ -43,7 +34,7 @@ no_length _ = Ok 0
 -- how many bytes the body has, by Content-Length
 abbrev pub body_length : Option Method → List (List ℕ) → Result ℕ Code
 body_length method [] = no_length method
-body_length method (value ∷ []) = length_in value
+body_length method (value ∷ []) = length_within (length_of value)
 body_length method (_ ∷ _ ∷ _) = Err code.Length
 
 -- the token behind `Bearer` in any case and one space (RFC 6750, section 2.1)

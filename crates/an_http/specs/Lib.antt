@@ -4,6 +4,5 @@ pub mod Fields
 pub mod Status
 pub mod Requests
 pub mod Next
-pub mod Fill
 pub mod Replies
 pub mod Errors

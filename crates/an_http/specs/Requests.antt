@@ -6,7 +6,8 @@ use Rattle.an_code.specs.declared.code.Code.{Code}
 use Rattle.an_code.specs.declared.code.Code.TheVariants as code
 use Rattle.an_http.specs.declared.request.Request.{Request}
 use Rattle.an_http.specs.declared.plan.Plan.{Plan}
-use Rattle.an_http.specs.Head.{Head, head_limit, head_length, values_of, ReadsHead}
+use Rattle.an_message.specs.Framing.{head_length, values_of}
+use Rattle.an_http.specs.Head.{Head, head_limit, ReadsHead}
 use Rattle.an_http.specs.Fields.{body_length, auth_of, prefer_of, closes}
 
 -- how many bytes the body has, or the first refusal of the head: a coded body isn't read

@@ -1,18 +1,16 @@
 //! What the fields of a head say of its request. Each function takes the values of the fields of
 //! one name, in their order.
 ghost use Rattle.std.specs.Prelude.{◌≡◌, ◌≤◌, map, length, IsTrue, IfOk, option_map, codes};
-ghost use Rattle.std.specs.Char.{is_ascii_digit};
-ghost use Rattle.std.specs.List.{list_all};
-ghost use Rattle.std.specs.Str.Parse.{digits_value};
-ghost use Rattle.an_http.specs.Fields.{body_limit, is_length, length_in, no_length, body_length};
+ghost use Rattle.an_http.specs.Fields.{body_limit, length_within, no_length, body_length};
 ghost use Rattle.an_http.specs.Fields.{token_of, signed_by, auth_of, begins, says, any_says};
 ghost use Rattle.an_http.specs.Fields.{prefer_of, closes};
 
-use crate::head::{is_same_name, text_of};
+use crate::head::text_of;
 use crate::method::Method;
 use crate::request::Auth;
 use an_base::{Prefer, Text, is_token};
 use an_code::Code;
+use an_message::{is_same_name, read_length};
 use std::alloc::{AllocError, Global};
 
 /// How many bytes a body may have.
@@ -32,7 +30,7 @@ pub(crate) fn body_length(method: Option<Method>, values: &[&[u8]]) -> Result<us
 {
     match values {
         [] => no_length(method),
-        [value] => length_in(value),
+        [value] => length_within(read_length(value)),
         [_, _, ..] => Err(Code::Length),
     }
 }
@@ -47,43 +45,18 @@ fn no_length(method: Option<Method>) -> Result<usize, Code>
     }
 }
 
-fn length_in(value: &[u8]) -> Result<usize, Code>
-    ensures body { result ≡ length_in value.now }
+fn length_within(length: Option<u64>) -> Result<usize, Code>
+    ensures body { result ≡ length_within length }
     ensures within { IfOk result (λ length. length ≤ body_limit) }
 {
-    if !is_length(value) {
-        return Err(Code::Length);
+    match length {
+        Some(length) => if length > BODY_LIMIT {
+            Err(Code::Large)
+        } else {
+            Ok(length as usize)
+        },
+        None => Err(Code::Length),
     }
-    let length = number_of(value);
-    if length > BODY_LIMIT {
-        return Err(Code::Large);
-    }
-    Ok(length as usize)
-}
-
-fn is_length(value: &[u8]) -> bool
-    ensures { result ≡ is_length value.now }
-{
-    !value.is_empty() && value.len() <= 10 && are_digits(value)
-}
-
-fn are_digits(value: &[u8]) -> bool
-    ensures { result ≡ list_all is_ascii_digit value.now }
-{
-    value.iter().all(|b| b.is_ascii_digit())
-}
-
-/// The number that at most 10 digits write.
-fn number_of(digits: &[u8]) -> u64
-    requires few { length digits.now ≤ 10 }
-    requires digits { IsTrue (list_all is_ascii_digit digits.now) }
-    ensures { result ≡ digits_value 10 digits.now }
-{
-    let mut number = 0;
-    for digit in digits {
-        number = number * 10 + u64::from(*digit - b'0');
-    }
-    number
 }
 
 /// Who signs, by Authorization.

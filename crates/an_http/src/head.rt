@@ -1,11 +1,10 @@
-ghost use Rattle.std.specs.Prelude.{◌≡◌, ◌+◌, ◌≤◌, map, drop, length, IsTrue, IfOk, option_map};
-ghost use Rattle.std.specs.List.{All};
+ghost use Rattle.std.specs.Prelude.{◌≡◌, map, IsTrue, IfOk};
 ghost use Rattle.std.specs.Str.{is_utf8};
-ghost use Rattle.httparse.specs.Spans.{IsHeaderWithin, header_bytes};
-ghost use Rattle.an_http.specs.Head.{begins_with_end, head_length, is_same_name, values_of};
+ghost use Rattle.an_message.specs.Framing.{values_of};
 ghost use Rattle.an_http.specs.Head.{ReadsHead};
 
 use crate::method::{Method, method_of};
+use an_message::values_in;
 use httparse::Status;
 use httparse::spans::{EMPTY_HEADER_SPAN, HeaderSpan, RequestSpans, parse_request};
 use std::alloc::{AllocError, Global};
@@ -94,26 +93,6 @@ impl<'a> ParsedHead<'a> {
     }
 }
 
-/// The values of the fields of this name, in their order, where those fields stand in these bytes.
-fn values_in<'a>(
-    alloc: Global,
-    text: &'a [u8],
-    fields: &[HeaderSpan],
-    name: &[u8],
-) -> Result<Vec<&'a [u8]>, AllocError>
-    requires { All (IsHeaderWithin (length text.now)) fields.now }
-    ensures values { IfOk result (λ v. map (λ value. value.now) v.items
-        ≡ values_of name.now (map (header_bytes text.now) fields.now)) }
-{
-    let mut values = Vec::new(alloc);
-    for field in fields {
-        if is_same_name(field.name.of(text), name) {
-            values.push(field.value.of(text))?;
-        }
-    }
-    Ok(values)
-}
-
 /// The text that these bytes are.
 pub(crate) fn text_of(bytes: &[u8]) -> &str
     requires { IsTrue (is_utf8 bytes.now) }
@@ -123,33 +102,4 @@ pub(crate) fn text_of(bytes: &[u8]) -> &str
         Ok(text) => text,
         Err(_) => unreachable!(),
     }
-}
-
-/// Whether these are the same letters, in any case of ASCII.
-#[tactic(auto, using(crate::proofs::NameLemmas::same_letters))]
-pub(crate) fn is_same_name(one: &[u8], other: &[u8]) -> bool
-    ensures { result ≡ is_same_name one.now other.now }
-{
-    one.eq_ignore_ascii_case(other)
-}
-
-#[tactic(auto, using(crate::proofs::HeadLemmas::scanning))]
-/// Where the first head ends, in bytes of which none ends before `from`.
-pub(crate) fn head_end(bytes: &[u8], from: usize) -> Option<usize>
-    requires { from ≤ length bytes.now }
-    ensures { result ≡ option_map (λ n. from + n) (head_length (drop from bytes.now)) }
-{
-    for at in from..bytes.len() {
-        if begins_with_end(&bytes[at..]) {
-            return Some(at + 4);
-        }
-    }
-    None
-}
-
-fn begins_with_end(bytes: &[u8]) -> bool
-    ensures within { IsTrue result → 4 ≤ length bytes.now }
-    ensures end { result ≡ begins_with_end bytes.now }
-{
-    bytes.starts_with(b"\r\n\r\n")
 }

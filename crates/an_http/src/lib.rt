@@ -1,4 +1,12 @@
 //! Requests in, replies out: HTTP/1.1 over one link (RFC 9110 and RFC 9112).
+//!
+//! ```text
+//! next_request(alloc, &mut link, &mut buffer)
+//!     Ok(Next::Request(request))      a whole request came, in whatever pieces; it is taken
+//!     Ok(Next::Bad { status, code })  it is refused: a reply is due, and the connection closes
+//!     Ok(Next::End)                   the input ended between requests
+//!     Err(LinkError::ReadFault)       the link failed a read, and has counted it
+//! ```
 #![tactic(auto)]
 
 pub use an_world::LinkError;
@@ -15,7 +23,6 @@ pub use status::{Status, status_of};
 mod buffer;
 mod errors;
 mod fields;
-mod fill;
 mod head;
 mod laws;
 mod method;

@@ -1,7 +1,8 @@
 ghost use Rattle.std.specs.Prelude.{◌≡◌, ◌+◌, ◌≤◌, drop, take, length, max, Some, Ok, Err, IfOk};
 ghost use Rattle.std.specs.Prelude.{OnErr};
 ghost use Rattle.an_base.specs.Faults.{Rises};
-ghost use Rattle.an_http.specs.Head.{head_limit, head_length};
+ghost use Rattle.an_message.specs.Framing.{head_length};
+ghost use Rattle.an_http.specs.Head.{head_limit};
 ghost use Rattle.an_http.specs.Fields.{body_limit};
 ghost use Rattle.an_http.specs.Status.{status_of};
 ghost use Rattle.an_http.specs.Requests.{Whole, Plans, with_body};
@@ -9,13 +10,16 @@ ghost use Rattle.an_http.specs.Next.{IsNext, at_end};
 ghost use Rattle.an_http.specs.declared.next.Next.TheVariants.{Bad};
 
 use crate::buffer::Buffer;
-use crate::fill::{HeadFill, fill_head, fill_to};
 use crate::plan::{Plan, read_plan};
 use crate::request::Request;
 use crate::status::{Status, status_of};
 use an_code::Code;
+use an_message::{HeadFill, fill_head, fill_to, remove_front};
 use an_world::{Link, LinkError};
 use std::alloc::{AllocError, Global};
+
+/// How many bytes a head may have.
+const HEAD_LIMIT: usize = 16_384;
 
 /// What comes next over a connection.
 #[derive(Debug, Drop, PartialEq, Eq)]
@@ -63,7 +67,7 @@ fn next_in<L: Link>(alloc: Global, link: &mut L, held: &mut Vec<u8>) -> Result<N
     ensures read_faults_kept { L.read_faults link.old ≤ L.read_faults link.new }
     ensures write_faults_kept { L.write_faults link.old ≤ L.write_faults link.new }
 {
-    match fill_head(link, held) {
+    match fill_head(link, held, HEAD_LIMIT) {
         Ok(HeadFill::Found(end)) => behind_head(alloc, link, held, end),
         Ok(HeadFill::Long) => Ok(refused(Code::Head)),
         Ok(HeadFill::Ended) => Ok(at_end(held.len())),
@@ -167,14 +171,4 @@ fn take_request(
     let request = plan.with_body(alloc, &held.as_slice()[end..])?;
     remove_front(held, total);
     Ok(request)
-}
-
-#[tactic(auto, using(crate::proofs::TakeLemmas::rotated))]
-fn remove_front(held: &mut Vec<u8>, count: usize)
-    requires { count ≤ length held.old.items }
-    ensures { held.new.items ≡ drop count held.old.items }
-{
-    let rest = held.len() - count;
-    held.rotate_left(count);
-    held.truncate(rest);
 }

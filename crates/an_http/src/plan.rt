@@ -1,5 +1,5 @@
 ghost use Rattle.std.specs.Prelude.{◌≡◌, ◌≤◌, length, take, codes, IfOk};
-ghost use Rattle.an_http.specs.Head.{values_of};
+ghost use Rattle.an_message.specs.Framing.{values_of};
 ghost use Rattle.an_http.specs.Fields.{body_limit, auth_of, prefer_of, closes};
 ghost use Rattle.an_http.specs.Requests.{Plans, body_of, plan_with, plan_of, request_of};
 

@@ -1,4 +1,13 @@
 //! One connection: requests are read, answered and replied to in turn, up to its end.
+//!
+//! ```text
+//! serve_link(alloc, &mut link, &mut service, &context)
+//!     Ended::Closed      all that was due is answered: a request closed, was refused, the input
+//!                        ended, or it was the 1,000th request
+//!     Ended::ReadFault   the link failed a read; each whole request before it is answered
+//!     Ended::WriteFault  the link failed a write; the last reply may be cut off
+//!     Ended::Memory      memory ran out; the last reply says so
+//! ```
 #![tactic(auto)]
 
 pub use ended::Ended;

@@ -1,6 +1,6 @@
 use Rattle.std.proofs.Common.{sym, ◌∙◌, arith}
-use Rattle.an_http.proofs.HeadLemmas.{scan-next}
-use Rattle.an_http.proofs.head.head_end.Goals as goal
+use Rattle.an_message.proofs.HeadLemmas.{scan-next}
+use Rattle.an_message.proofs.head.head_end.Goals as goal
 
 pub loop-at-preserved : goal.loop-at-preserved
 loop-at-preserved c =

@@ -2,7 +2,7 @@
 use Rattle.std.proofs.Common.{◌≡◌, ℕ, ◌+◌, ◌-◌, ◌<◌, ◌≤◌, List, [], ◌∷◌, ◌++◌, length, get_or, take, drop, codes, Bool, true, false, if◌then◌else◌, bytes_eq, Option, Some, None, option_map, refl, sym, ap, ◌∙◌, zero, suc, add-one, arith, drop-cons}
 use Rattle.std.proofs.lemmas.List.{drop_all, length-take, take-append-le, take_rest}
 use Rattle.std.proofs.lemmas.Slice.Eq.{bytes_eq-Decides}
-use Rattle.an_http.specs.Head.{begins_with_end, head_length}
+use Rattle.an_message.specs.Framing.{begins_with_end, head_length}
 
 -- four bytes that are CR LF CR LF
 end-long : (bytes : List ℕ) → begins_with_end bytes ≡ true → 4 ≤ length bytes

@@ -1,6 +1,6 @@
 use Rattle.std.proofs.Common.{arith}
-use Rattle.an_http.proofs.FieldLemmas.{number-next}
-use Rattle.an_http.proofs.fields.number_of.Goals as goal
+use Rattle.an_message.proofs.LengthLemmas.{number-next}
+use Rattle.an_message.proofs.length.number_of.Goals as goal
 
 pub loop-digit-preserved : goal.loop-digit-preserved
 loop-digit-preserved c =

@@ -1,6 +1,6 @@
 use Rattle.std.proofs.Common.{◌-◌, ◌≤◌, length, max}
 use Rattle.an_world.specs.Link.{ReadsOn}
-use Rattle.an_http.proofs.fill.fill_to.Given as goal
+use Rattle.an_message.proofs.fill.fill_to.Given as goal
 
 abbrev pub invariant-pieces : goal.invariant-pieces
 invariant-pieces g l = record {
