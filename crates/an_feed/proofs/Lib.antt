@@ -1,0 +1,4 @@
+pub mod NameLemmas
+pub mod IriLemmas
+pub mod ServedLemmas
+pub mod HarvestLemmas

@@ -1,0 +1,6 @@
+pub mod FeedLemmas
+pub mod LatestLemmas
+pub mod LiveLemmas
+pub mod WalkLemmas
+pub mod ReplyLemmas
+pub mod PieceLemmas
