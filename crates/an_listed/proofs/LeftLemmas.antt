@@ -1,5 +1,5 @@
 -- Where what stays isn't taken out, the lists become the same.
-use Rattle.std.proofs.Common.{◌≡◌, ℕ, ◌<◌, Bool, true, false, cond, eqb, ◌&&◌, ◌||◌, not, List, [], ◌∷◌, length, get_or, filter, map, Option, Some, None, sym, ap, ◌∙◌, refl}
+use Rattle.std.proofs.Common.{◌≡◌, ℕ, ◌<◌, Bool, true, false, cond, eqb, ◌&&◌, ◌||◌, not, List, [], ◌∷◌, length, get_or, filter, map, Option, Some, None, sym, ap, ◌∙◌, refl, arith}
 use Rattle.std.proofs.Math.ListN.{set}
 use Rattle.std.specs.Prelude.{bytes_eq}
 use Rattle.std.proofs.lemmas.Bool.{and_parts, eqb-true, or_parts}
@@ -92,6 +92,103 @@ module _ (old new : Filed) (slot : Slot) where
       by None after is has = rw is refl
       by (Some live) None is has = rw (is, has) refl
       by (Some live) (Some its) is has = rw (is, has) (whole-by slot live old.class new.class its (eqb old.class new.class && bytes_eq live.manifest its.manifest) refl (rw has at none))
+
+-- ---- what is taken out of the old row is nowhere where the new one is listed
+
+term_of : (slot : Slot) (m t : List ℕ) (c : ℕ) → same_slot slot (slot_of m t c) ≡ true → slot.term ≡ t
+term_of slot m t c same =
+    let outer = and_parts (bytes_eq slot.manifest m) (bytes_eq slot.term t && eqb slot.class c) same in
+    (bytes_eq-Decides slot.term t).0 (and_parts (bytes_eq slot.term t) (eqb slot.class c) outer.1).0
+
+eq-bytes : (a b : List ℕ) → a ≡ b → bytes_eq a b ≡ true
+eq-bytes a b e = (bytes_eq-Decides a b).1 e
+
+some-stay : (slot : Slot) (m : List ℕ) (c : ℕ) (t : List ℕ) (ts : List TermTotal) → same_slot slot (slot_of m t c) ≡ true → is_posted slot (parts m c ts) ≡ true → has_text t (map (λ e. e.term) ts) ≡ true
+some-stay slot m c t [] here there = there
+some-stay slot m c t (x ∷ ts) here there = by (same_slot slot (slot_of m x.term c)) refl there (λ rest. some-stay slot m c t ts here rest)
+  where
+    found : (b : Bool) → b ≡ true → (b || has_text t (map (λ e. e.term) ts)) ≡ true
+    found true is = refl
+    found false is = cc
+
+    later : (b : Bool) → has_text t (map (λ e. e.term) ts) ≡ true → (b || has_text t (map (λ e. e.term) ts)) ≡ true
+    later true rest = refl
+    later false rest = rest
+
+    by : (b : Bool) → same_slot slot (slot_of m x.term c) ≡ b → (b || is_posted slot (parts m c ts)) ≡ true
+        → (is_posted slot (parts m c ts) ≡ true → has_text t (map (λ e. e.term) ts) ≡ true) → (bytes_eq x.term t || has_text t (map (λ e. e.term) ts)) ≡ true
+    by true is there rest = found (bytes_eq x.term t) (eq-bytes x.term t (sym (term_of slot m x.term c is) ∙ term_of slot m t c here))
+    by false is there rest = later (bytes_eq x.term t) (rest there)
+
+apart-left : (slot : Slot) (m : List ℕ) (c : ℕ) (others terms : List TermTotal) → is_posted slot (parts m c others) ≡ true → is_posted slot (left_parts m c (Some others) terms) ≡ false
+apart-left slot m c others [] there = refl
+apart-left slot m c others (t ∷ ts) there = by (stays (Some others) t.term) refl (apart-left slot m c others ts there)
+  where
+    by : (b : Bool) → stays (Some others) t.term ≡ b → is_posted slot (left_parts m c (Some others) ts) ≡ false
+        → is_posted slot (parts m c (cond (not b) (t ∷ filter (λ x. not (stays (Some others) x.term)) ts) (filter (λ x. not (stays (Some others) x.term)) ts))) ≡ false
+    by true is rest = rest
+    by false is rest = here (same_slot slot (slot_of m t.term c)) refl
+      where
+        here : (b : Bool) → same_slot slot (slot_of m t.term c) ≡ b → (b || is_posted slot (left_parts m c (Some others) ts)) ≡ false
+        here true same = let e : true ≡ false = sym (some-stay slot m c t.term others same there) ∙ is in cc
+        here false same = rest
+
+posted-at : (slot : Slot) (m : List ℕ) (c : ℕ) (ts : List TermTotal) → is_posted slot (parts m c ts) ≡ true → (slot.manifest ≡ m) × (slot.class ≡ c)
+posted-at slot m c [] there = cc
+posted-at slot m c (t ∷ ts) there = by (same_slot slot (slot_of m t.term c)) refl there (λ rest. posted-at slot m c ts rest)
+  where
+    by : (b : Bool) → same_slot slot (slot_of m t.term c) ≡ b → (b || is_posted slot (parts m c ts)) ≡ true
+        → (is_posted slot (parts m c ts) ≡ true → (slot.manifest ≡ m) × (slot.class ≡ c)) → (slot.manifest ≡ m) × (slot.class ≡ c)
+    by true same there rest =
+        let outer = and_parts (bytes_eq slot.manifest m) (bytes_eq slot.term t.term && eqb slot.class c) same in
+        ((bytes_eq-Decides slot.manifest m).0 outer.0, eqb-true slot.class c (and_parts (bytes_eq slot.term t.term) (eqb slot.class c) outer.1).1)
+    by false same there rest = rest there
+
+apart-classes : (slot : Slot) (m own : List ℕ) (c class : ℕ) (ts others : List TermTotal) → (eqb c class && bytes_eq m own) ≡ false → is_posted slot (parts own class others) ≡ true → is_posted slot (parts m c ts) ≡ false
+apart-classes slot m own c class ts others apart there = by (is_posted slot (parts m c ts)) refl
+  where
+    by : (b : Bool) → is_posted slot (parts m c ts) ≡ b → b ≡ false
+    by false is = refl
+    by true is =
+        let a = posted-at slot m c ts is in
+        let b = posted-at slot own class others there in
+        let classes : c ≡ class = sym a.1 ∙ b.1 in
+        let same : eqb c class ≡ true = grind (arith, classes) in
+        let both : (eqb c class && bytes_eq m own) ≡ true = rw (same, eq-bytes m own (sym a.0 ∙ b.0)) refl in
+        let e : true ≡ false = sym both ∙ apart in
+        cc
+
+module _ (slot : Slot) (live : LiveNote) (class other : ℕ) (its : LiveNote) where
+  apart-words-by : (b : Bool) → (eqb class other && bytes_eq live.manifest its.manifest) ≡ b → is_posted slot (parts its.manifest other (totals_of (note_terms its.tree))) ≡ true
+      → is_posted slot (left_parts live.manifest class (under slot live class other its b) (totals_of (note_terms live.tree))) ≡ false
+  apart-words-by true both there =
+      apart-left slot live.manifest class (totals_of (note_terms its.tree)) (totals_of (note_terms live.tree))
+      (sym (same-parts slot live.manifest class its other (totals_of (note_terms its.tree)) both) ∙ there)
+  apart-words-by false both there =
+      left-posted slot live.manifest class None (totals_of (note_terms live.tree)) (λ t h. refl)
+      ∙ apart-classes slot live.manifest its.manifest class other (totals_of (note_terms live.tree)) (totals_of (note_terms its.tree)) both there
+
+  apart-whole-by : (b : Bool) → (eqb class other && bytes_eq live.manifest its.manifest) ≡ b → is_posted slot (parts its.manifest other (empty_term ∷ [])) ≡ true
+      → is_posted slot (left_empty live.manifest class (under slot live class other its b)) ≡ false
+  apart-whole-by true both there = refl
+  apart-whole-by false both there = apart-classes slot live.manifest its.manifest class other (empty_term ∷ []) (empty_term ∷ []) both there
+
+module _ (old new : Filed) (slot : Slot) where
+  pub apart-words : is_posted slot (word_parts new) ≡ true → is_posted slot (left_words old (staying_terms old new)) ≡ false
+  apart-words there = by old.note.live new.note.live refl refl
+    where
+      by : (before after : Option LiveNote) → old.note.live ≡ before → new.note.live ≡ after → is_posted slot (left_words old (staying_terms old new)) ≡ false
+      by None after is has = rw is refl
+      by (Some live) None is has = let e : false ≡ true = rw has at there in cc
+      by (Some live) (Some its) is has = rw (is, has) (apart-words-by slot live old.class new.class its (eqb old.class new.class && bytes_eq live.manifest its.manifest) refl (rw has at there))
+
+  pub apart-whole : is_posted slot (whole_parts new) ≡ true → is_posted slot (left_whole old (staying_terms old new)) ≡ false
+  apart-whole there = by old.note.live new.note.live refl refl
+    where
+      by : (before after : Option LiveNote) → old.note.live ≡ before → new.note.live ≡ after → is_posted slot (left_whole old (staying_terms old new)) ≡ false
+      by None after is has = rw is refl
+      by (Some live) None is has = let e : false ≡ true = rw has at there in cc
+      by (Some live) (Some its) is has = rw (is, has) (apart-whole-by slot live old.class new.class its (eqb old.class new.class && bytes_eq live.manifest its.manifest) refl (rw has at there))
 
 -- ---- a place that is put in or out once more
 

@@ -1,17 +1,17 @@
 -- Memory for rows, one after the other.
-use Rattle.std.proofs.Common.{◌≡◌, ℕ, zero, suc, ◌+◌, ◌<◌, ◌≤◌, Bool, true, false, ◌||◌, List, [], ◌∷◌, ◌++◌, ◌⊎◌, inl, inr, length, get_or, drop, sym, ap, ◌∙◌, refl, arith}
+use Rattle.std.proofs.Common.{◌≡◌, ℕ, zero, suc, ◌+◌, ◌<◌, ◌≤◌, Bool, true, false, not, ◌||◌, List, [], ◌∷◌, ◌++◌, ◌⊎◌, inl, inr, length, get_or, drop, sym, ap, ◌∙◌, refl, arith}
 use Rattle.std.specs.List.{flat_map}
 use Rattle.std.proofs.lemmas.List.{drop_more}
 use Rattle.std.proofs.lemmas.List.Concat.{flat_map-cons}
-use Rattle.an_postings.specs.Postings.{Lists}
+use Rattle.an_postings.specs.Postings.{Lists, room_in}
 use Rattle.an_slots.specs.Rows.{is_posted}
 use Rattle.an_slots.specs.Slot.{Slot}
 use Rattle.an_listed.specs.Filed.{whole_parts, word_parts}
-use Rattle.an_listed.specs.Room.{HasRoom, HasSpace, IsEnough, IsKept, IsSame, times}
+use Rattle.an_listed.specs.Room.{HasRoom, HasSpace, IsEnough, IsKept, IsKeptBut, IsSame, times}
 use Rattle.an_listed.specs.Stands.{Listings}
 use Rattle.an_listed.specs.declared.filed.Filed.{Filed}
 use Rattle.an_listed.specs.declared.register.Register.{Register}
-use Rattle.an_listed.proofs.RoomLemmas.{enough-more, is_posted-append, times-append}
+use Rattle.an_listed.proofs.RoomLemmas.{enough-more, is_posted-append, times-append, times-none}
 
 -- ---- the parts of rows, row by row
 
@@ -60,6 +60,45 @@ space-kept coming old new words whole space = record {
   words = enough-more (flat_map word_parts coming) old.words new.words words space.words;
   whole = enough-more (flat_map whole_parts coming) old.whole new.whole whole space.whole;
 }
+
+-- ---- space that is kept but where a row was taken out
+
+or_not : (a b : Bool) → b ≡ false → (a || not b) ≡ true
+or_not true b h = refl
+or_not false true h = cc
+or_not false false h = refl
+
+or_false : (b : Bool) → (b || false) ≡ b
+or_false true = refl
+or_false false = refl
+
+module _ (p : Filed → List (Slot × ℕ)) (row : Filed) (left : List (Slot × ℕ)) (old new : Lists) (stays : Bool) where
+  one-posted : (slot : Slot) → is_posted slot (flat_map p (row ∷ [])) ≡ is_posted slot (p row)
+  one-posted slot = ap (is_posted slot) (flat_map-cons p row []) ∙ is_posted-append slot (p row) [] ∙ or_false (is_posted slot (p row))
+
+  enough-but : IsKeptBut stays left old new → ((slot : Slot) → is_posted slot (p row) ≡ true → is_posted slot left ≡ false)
+      → IsEnough (flat_map p (row ∷ [])) old → IsEnough (flat_map p (row ∷ [])) new
+  enough-but kept apart enough slot = by (is_posted slot (p row)) refl
+    where
+      by : (b : Bool) → is_posted slot (p row) ≡ b → times slot (flat_map p (row ∷ [])) ≤ room_in new slot
+      by false none = let n = times-none slot (flat_map p (row ∷ [])) (one-posted slot ∙ none) in omega (arith, n)
+      by true there = let e = enough slot in let k = kept slot (or_not stays (is_posted slot left) (apart slot there)) in omega (arith, e, k)
+
+pub space-but : (row : Filed) (words whole : List (Slot × ℕ)) (old new : Register) (stays : Bool) → IsKeptBut stays words old.words new.words → IsKeptBut stays whole old.whole new.whole
+    → ((slot : Slot) → is_posted slot (word_parts row) ≡ true → is_posted slot words ≡ false)
+    → ((slot : Slot) → is_posted slot (whole_parts row) ≡ true → is_posted slot whole ≡ false)
+    → HasSpace (row ∷ []) old → HasSpace (row ∷ []) new
+space-but row words whole old new stays words_kept whole_kept words_apart whole_apart space = record {
+  words = enough-but word_parts row words old.words new.words stays words_kept words_apart space.words;
+  whole = enough-but whole_parts row whole old.whole new.whole stays whole_kept whole_apart space.whole;
+}
+
+-- where rows are to come, all is kept
+pub kept-all : (left : List (Slot × ℕ)) (old new : Lists) (stays : Bool) → stays ≡ true → IsKeptBut stays left old new → IsKept old new
+kept-all left old new stays is kept slot = kept slot (ap (λ (b : Bool). b || not (is_posted slot left)) is)
+
+pub space-none : (r : Register) → HasSpace [] r
+space-none r = record { words = λ slot. omega arith; whole = λ slot. omega arith }
 
 -- ---- the space of the first row
 

@@ -12,7 +12,7 @@ use Rattle.an_slots.specs.Slot.{Slot}
 use Rattle.an_state.specs.View.{is_on}
 use Rattle.an_listed.specs.declared.filed.Filed.{Filed}
 
--- the rows with this one at the place, or behind all of them
+-- the rows with this one at the place, or after all of them
 abbrev pub put_at : ℕ → Filed → List Filed → List Filed
 put_at place row rows =
     if nat_lt place (length rows) then slice_set rows place row else rows ++ row ∷ []

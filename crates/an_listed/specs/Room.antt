@@ -1,5 +1,6 @@
 -- Memory for rows that are still to be put.
-use Rattle.std.specs.Prelude.{◌≡◌, ℕ, ◌+◌, ◌≤◌, ◌^◌, List, count_by, flat_map, length, true}
+use Rattle.std.specs.Prelude.{◌≡◌, ℕ, ◌+◌, ◌≤◌, ◌^◌, Bool, ◌||◌, List, count_by, flat_map}
+use Rattle.std.specs.Prelude.{length, not, true}
 use Rattle.std.specs.Prelude.{Option, Some, None}
 use Rattle.an_base.specs.Totals.{capped}
 use Rattle.an_postings.specs.Postings.{Lists, count_in, places_in, room_in}
@@ -44,6 +45,12 @@ HasWanted wanted ps lists =
 -- no room is lost
 abbrev pub IsKept : Lists → Lists → Type 0
 IsKept old new = (slot : Slot) → room_in old slot ≤ room_in new slot
+
+-- no room is lost, but perhaps that of these parts, and not even theirs where it stays
+abbrev pub IsKeptBut : Bool → List (Slot × ℕ) → Lists → Lists → Type 0
+IsKeptBut stays ps old new =
+    (slot : Slot) → (stays || not (is_posted slot ps)) ≡ true
+    → room_in old slot ≤ room_in new slot
 
 -- The places and the counts are as they were, and no room is lost.
 pub record IsSame (old new : Register) : Type 0 where

@@ -44,32 +44,10 @@ impl Register {
     {
         let lists = self.words.lists_of(manifest, term);
         if length_of(lists) / WALKED > places.len() {
-            looked_up(alloc, lists, rows, classes, who, places)
-        } else {
-            self.walked(alloc, rows, classes, who, manifest, term, places)
+            return looked_up(alloc, lists, rows, classes, who, places);
         }
-    }
-
-    /// The same by all places with the term that the caller may read.
-    fn walked(
-        &self,
-        alloc: Global,
-        rows: &[Filed],
-        classes: &Classes,
-        who: &Who<'_>,
-        manifest: &Name,
-        term: &str,
-        places: &[usize],
-    ) -> Result<Vec<usize>, AllocError>
-        requires stands { Stands self.now rows.now }
-        requires rise { Rises 0 places.now }
-        ensures having { IfOk result (λ having. having.items ≡ filter (λ place. has place
-            (places_from (λ row. reads_on (identity who.now) classes.now manifest.now row
-            && has_term term.now row.note) 0 rows.now)) places.now) }
-    {
         let others = self.with_term(alloc, classes, who, manifest, term)?;
-        let having = common(alloc, places, others.as_slice())?;
-        Ok(having)
+        common(alloc, places, others.as_slice())
     }
 }
 

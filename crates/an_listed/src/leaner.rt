@@ -8,14 +8,14 @@ use an_base::{Name, TermList};
 use an_postings::Postings;
 use std::mem::replace;
 
-/// Puts a row over another, which is kept among those that are gone where it was found otherwise.
-/// It takes no memory.
+/// Puts a row over another, which is kept among those that are gone, where it isn't done with. It
+/// takes no memory.
 pub(crate) fn put_over(
     rows: &mut Vec<Filed>,
     gone: &mut Vec<Filed>,
     place: usize,
     row: Filed,
-    alike: bool,
+    done: bool,
 )
     requires place { place < vec_len rows.old }
     requires room { vec_len gone.old < vec_capacity gone.old }
@@ -26,7 +26,7 @@ pub(crate) fn put_over(
     ensures gone_capacity { vec_capacity gone.new ≡ vec_capacity gone.old }
 {
     let old = replace(&mut rows[place], row);
-    if !alike {
+    if !done {
         gone.push_reserved(old);
     }
 }

@@ -1,4 +1,10 @@
 //! The rows of annotations beside the lists by which they are found.
+//!
+//! ```text
+//! listed.room(&[row])   Ok(()): there is memory for the row and its lists
+//! listed.put(0, row)    the row is at the place 0, and found by its words
+//! listed.with_term(alloc, &classes, &who, &manifest, "heron")  Ok([0]), where the caller may read it
+//! ```
 #![tactic(auto)]
 
 pub use filed::Filed;

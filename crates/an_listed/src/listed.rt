@@ -74,7 +74,7 @@ impl Listed {
     }
 
     /// Takes the memory that these rows need, in whatever order and at whatever places they are
-    /// put. Its only error is want of memory, which more than 2^32 rows are answered with too.
+    /// put. Its only error is out of memory, which more than 2^32 rows are answered with too.
     pub fn room(&mut self, rows: &[Filed]) -> Result<(), AllocError>
         ensures ok { OnOk result (HasRoom rows.now self.new) }
         ensures rows { self.new.rows ≡ self.old.rows }
@@ -103,7 +103,7 @@ impl Listed {
         Ok(())
     }
 
-    /// Puts a row at a place: in place of the row there, or behind all. It takes no memory.
+    /// Puts a row at a place: in place of the row there, or after all. It takes no memory.
     pub fn put(&mut self, place: usize, row: Filed)
         requires place { place ≤ length self.old.rows }
         requires room { HasRoom (row ∷ []) self.old }
@@ -113,8 +113,11 @@ impl Listed {
     {
         self.room -= 1;
         if place < self.rows.len() {
-            let alike = self.register.replace(self.rows.as_slice(), place, &row);
-            put_over(&mut self.rows, &mut self.gone, place, row, alike);
+            let more = self.room > 0;
+            let done = self
+                .register
+                .replace(self.rows.as_slice(), place, &row, more);
+            put_over(&mut self.rows, &mut self.gone, place, row, done);
         } else {
             self.register.push(self.rows.as_slice(), &row);
             self.rows.push_reserved(row);

@@ -1,11 +1,11 @@
 ghost use Rattle.std.specs.Prelude.{◌≡◌, ◌+◌, ◌++◌, ◌∷◌, ◌<◌, ◌≤◌, ◌^◌, [], List, ℕ, length};
-ghost use Rattle.std.specs.Prelude.{slice_set};
+ghost use Rattle.std.specs.Prelude.{slice_set, true};
 ghost use Rattle.std.specs.Option.{option_copied};
 ghost use Rattle.an_postings.specs.Postings.{count_in, places_in};
 ghost use Rattle.an_slots.specs.Rows.{IsThere, added, parts, parts_at, posted, taken, unposted};
 ghost use Rattle.an_slots.specs.Slot.{Slot};
 ghost use Rattle.an_listed.specs.Filed.{empty_term, whole_parts, word_parts};
-ghost use Rattle.an_listed.specs.Room.{HasSpace, IsEnough, IsKept};
+ghost use Rattle.an_listed.specs.Room.{HasSpace, IsEnough, IsKeptBut};
 ghost use Rattle.an_listed.specs.Staying.{left_empty, left_whole, left_words};
 ghost use Rattle.an_listed.specs.Stands.{Stands, left_parts};
 
@@ -16,27 +16,28 @@ use an_base::{Name, TermList};
 use an_postings::Postings;
 
 impl Register {
-    /// Puts a row in place of another, which costs no look-up where both are found alike: whether
-    /// they are. It takes no memory.
-    pub(crate) fn replace(&mut self, rows: &[Filed], place: usize, row: &Filed) -> bool
+    /// Puts a row in place of another, which costs no look-up where both are found alike. Where no
+    /// more rows are to come, the memory of what the old one was found by is given back: whether
+    /// that needs no `let_go` any more. It takes no memory.
+    pub(crate) fn replace(&mut self, rows: &[Filed], place: usize, row: &Filed, more: bool) -> bool
         requires stands { Stands self.old rows.now }
         requires place { place < length rows.now }
         requires space { HasSpace (row.now ∷ []) self.old }
         ensures stands { Stands self.new (slice_set rows.now place row.now) }
-        ensures rest { (rest : List Filed)
+        ensures rest { more ≡ true → (rest : List Filed)
             → HasSpace (row.now ∷ rest) self.old → HasSpace rest self.new }
     {
         let old = &rows[place];
         if is_alike(old, row) {
             true
         } else {
-            self.take(old, staying_terms(old, row), place);
+            self.take(old, staying_terms(old, row), place, more);
             self.put(row, place);
-            false
+            !more
         }
     }
 
-    /// Puts a row behind all. It takes no memory.
+    /// Puts a row after all. It takes no memory.
     pub(crate) fn push(&mut self, rows: &[Filed], row: &Filed)
         requires stands { Stands self.old rows.now }
         requires few { length rows.now < 2 ^ 32 }
@@ -49,7 +50,7 @@ impl Register {
     }
 
     /// Takes out what is listed of a row, but for the places of the terms that stay.
-    fn take(&mut self, row: &Filed, staying: Option<&TermList>, place: usize)
+    fn take(&mut self, row: &Filed, staying: Option<&TermList>, place: usize, more: bool)
         requires place { place < 2 ^ 32 }
         requires there { IsThere (count_in self.old.words) (word_parts row.now) }
         ensures words { places_in self.new.words ≡ unposted place (places_in self.old.words)
@@ -58,13 +59,15 @@ impl Register {
             (left_whole row.now (option_copied staying.entry)) }
         ensures counts { count_in self.new.words
             ≡ taken (count_in self.old.words) (word_parts row.now) }
-        ensures word_room { IsKept self.old.words self.new.words }
-        ensures whole_room { IsKept self.old.whole self.new.whole }
+        ensures word_room { IsKeptBut more (left_words row.now (option_copied staying.entry))
+            self.old.words self.new.words }
+        ensures whole_room { IsKeptBut more (left_whole row.now (option_copied staying.entry))
+            self.old.whole self.new.whole }
     {
         match row.note.get().live() {
             Some(live) => {
                 let terms = live.tree.terms();
-                self.take_under(live.manifest, row.class, terms, staying, place);
+                self.take_under(live.manifest, row.class, terms, staying, place, more);
             }
             None => {}
         }
@@ -77,6 +80,7 @@ impl Register {
         terms: &TermList,
         staying: Option<&TermList>,
         place: usize,
+        more: bool,
     )
         requires place { place < 2 ^ 32 }
         requires there { IsThere (count_in self.old.words) (parts manifest.now class terms.now) }
@@ -86,11 +90,23 @@ impl Register {
             (left_empty manifest.now class (option_copied staying.entry)) }
         ensures counts { count_in self.new.words
             ≡ taken (count_in self.old.words) (parts manifest.now class terms.now) }
-        ensures word_room { IsKept self.old.words self.new.words }
-        ensures whole_room { IsKept self.old.whole self.new.whole }
+        ensures word_room { IsKeptBut more
+            (left_parts manifest.now class (option_copied staying.entry) terms.now)
+            self.old.words self.new.words }
+        ensures whole_room { IsKeptBut more
+            (left_empty manifest.now class (option_copied staying.entry))
+            self.old.whole self.new.whole }
     {
-        take_words(&mut self.words, manifest, class, terms, staying, place);
-        take_whole(&mut self.whole, manifest, class, staying, place);
+        take_words(
+            &mut self.words,
+            manifest,
+            class,
+            terms,
+            staying,
+            place,
+            more,
+        );
+        take_whole(&mut self.whole, manifest, class, staying, place, more);
     }
 
     /// Lists a row.
@@ -146,13 +162,15 @@ fn take_whole(
     class: usize,
     staying: Option<&TermList>,
     place: usize,
+    more: bool,
 )
     requires place { place < 2 ^ 32 }
     ensures places { places_in whole.new ≡ unposted place (places_in whole.old)
         (left_empty manifest.now class (option_copied staying.entry)) }
-    ensures kept { IsKept whole.old whole.new }
+    ensures kept { IsKeptBut more (left_empty manifest.now class (option_copied staying.entry))
+        whole.old whole.new }
 {
     if staying.is_none() {
-        whole.remove(manifest, "", class, place);
+        whole.take_out(manifest, "", class, place, 0, more);
     }
 }

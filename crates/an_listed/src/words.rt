@@ -1,10 +1,11 @@
-ghost use Rattle.std.specs.Prelude.{◌≡◌, ◌+◌, ◌++◌, ◌<◌, ◌^◌, List, ℕ, OnOk, if◌then◌else◌};
+ghost use Rattle.std.specs.Prelude.{◌≡◌, ◌+◌, ◌-◌, ◌++◌, ◌<◌, ◌≤◌, ◌^◌, ◌||◌, List, ℕ, OnOk};
+ghost use Rattle.std.specs.Prelude.{if◌then◌else◌, not, true};
 ghost use Rattle.std.specs.Option.{option_copied};
-ghost use Rattle.an_postings.specs.Postings.{count_in, places_in};
+ghost use Rattle.an_postings.specs.Postings.{count_in, places_in, room_in};
 ghost use Rattle.an_slots.specs.Places.{without_place};
 ghost use Rattle.an_slots.specs.Rows.{IsThere, added, parts, parts_at, posted, taken, unposted};
-ghost use Rattle.an_slots.specs.Slot.{Slot, at, slot_of};
-ghost use Rattle.an_listed.specs.Room.{HasWanted, IsEnough, IsKept};
+ghost use Rattle.an_slots.specs.Slot.{Slot, at, same_slot, slot_of};
+ghost use Rattle.an_listed.specs.Room.{HasWanted, IsEnough, IsKept, IsKeptBut};
 ghost use Rattle.an_listed.specs.Stands.{left_parts, stays};
 
 use crate::needs::wanted;
@@ -35,7 +36,7 @@ pub(crate) fn room_for_words(
 }
 
 /// Takes how often each of these terms occurs from its count, and the place out of its list, where
-/// the term doesn't stay.
+/// the term doesn't stay. Where no more rows are to come, such a list keeps no memory of no use.
 pub(crate) fn take_words(
     words: &mut Postings,
     manifest: &Name,
@@ -43,6 +44,7 @@ pub(crate) fn take_words(
     terms: &TermList,
     staying: Option<&TermList>,
     place: usize,
+    more: bool,
 )
     requires place { place < 2 ^ 32 }
     requires there { IsThere (count_in words.old) (parts manifest.now class terms.now) }
@@ -50,33 +52,51 @@ pub(crate) fn take_words(
         (left_parts manifest.now class (option_copied staying.entry) terms.now) }
     ensures count { count_in words.new
         ≡ taken (count_in words.old) (parts manifest.now class terms.now) }
-    ensures kept { IsKept words.old words.new }
+    ensures kept { IsKeptBut more
+        (left_parts manifest.now class (option_copied staying.entry) terms.now)
+        words.old words.new }
 {
     for at in 0..terms.len() {
         let term = terms.term(at);
-        words.take(manifest, term, class, terms.total(at));
-        take_place(words, manifest, class, term, staying, place);
+        take_term(
+            words,
+            manifest,
+            class,
+            term,
+            staying,
+            place,
+            terms.total(at),
+            more,
+        );
     }
 }
 
-fn take_place(
+fn take_term(
     words: &mut Postings,
     manifest: &Name,
     class: usize,
     term: &str,
     staying: Option<&TermList>,
     place: usize,
+    times: u64,
+    more: bool,
 )
     requires place { place < 2 ^ 32 }
+    requires enough { times ≤ count_in words.old (slot_of manifest.now term.now class) }
     ensures places { places_in words.new
         ≡ (if stays (option_copied staying.entry) term.now then places_in words.old
         else at (slot_of manifest.now term.now class) (without_place place)
         (places_in words.old)) }
-    ensures count { count_in words.new ≡ count_in words.old }
-    ensures kept { IsKept words.old words.new }
+    ensures count { count_in words.new
+        ≡ at (slot_of manifest.now term.now class) (λ m. m - times) (count_in words.old) }
+    ensures kept { (slot : Slot) → (more || (stays (option_copied staying.entry) term.now
+        || not (same_slot slot (slot_of manifest.now term.now class)))) ≡ true
+        → room_in words.old slot ≤ room_in words.new slot }
 {
-    if !stays(staying, term) {
-        words.remove(manifest, term, class, place);
+    if stays(staying, term) {
+        words.take(manifest, term, class, times);
+    } else {
+        words.take_out(manifest, term, class, place, times, more);
     }
 }
 

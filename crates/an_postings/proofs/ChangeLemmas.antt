@@ -1,5 +1,5 @@
 -- What is changed under a text, and under two texts, one in the other.
-use Rattle.std.proofs.Common.{◌≡◌, ℕ, ◌+◌, ◌^◌, ◌<◌, ◌≤◌, Bool, true, false, cond, eqb, ◌&&◌, List, [], sym, ap, ◌∙◌, subst, refl, arith}
+use Rattle.std.proofs.Common.{◌≡◌, ℕ, ◌+◌, ◌^◌, ◌<◌, ◌≤◌, Bool, true, false, cond, eqb, not, ◌&&◌, ◌||◌, List, [], sym, ap, ◌∙◌, subst, refl, arith}
 use Rattle.std.specs.Prelude.{bytes_eq}
 use Rattle.std.proofs.lemmas.Bool.{and_parts, eqb-true}
 use Rattle.std.proofs.lemmas.Slice.Eq.{bytes_eq-Decides}
@@ -84,6 +84,11 @@ module _ {A : Type 0} (m t : List ℕ) (related : List A → List A → Type 0) 
     pub nested-least : ((c : ℕ) → read (under t (under m old)) c ≤ read (under t (under m new)) c)
         → (slot : Slot) → read (under slot.term (under slot.manifest old)) slot.class ≤ read (under slot.term (under slot.manifest new)) slot.class
     nested-least h slot = nested (λ a b n o. (c : ℕ) → read o c ≤ read n c) (λ b x c. omega arith) (λ x c. omega arith) h slot slot.class
+
+    pub nested-least_but : (stays : Bool) (class : ℕ) → ((c : ℕ) → (stays || not (eqb c class)) ≡ true → read (under t (under m old)) c ≤ read (under t (under m new)) c)
+        → (slot : Slot) → (stays || not (same_slot slot (slot_of m t class))) ≡ true → read (under slot.term (under slot.manifest old)) slot.class ≤ read (under slot.term (under slot.manifest new)) slot.class
+    nested-least_but stays class h slot =
+        nested (λ a b n o. (c : ℕ) → (stays || not (a && (b && eqb c class))) ≡ true → read o c ≤ read n c) (λ b x c k. omega arith) (λ x c k. omega arith) h slot slot.class
 
     pub nested-spent : (class : ℕ) → ((c : ℕ) → read (under t (under m old)) c ≤ read (under t (under m new)) c + cond (eqb c class) 1 0)
         → IsSpentAt (slot_of m t class) (λ slot. read (under slot.term (under slot.manifest old)) slot.class) (λ slot. read (under slot.term (under slot.manifest new)) slot.class)

@@ -1,5 +1,5 @@
 -- Lists that are dropped: of a class, of a term, of a manifest.
-use Rattle.std.proofs.Common.{◌≡◌, ℕ, zero, suc, ◌+◌, ◌≤◌, Bool, true, false, cond, eqb, List, [], ◌∷◌, None, String, string_bytes, get_or, sym, ap, ◌∙◌, refl, arith, ⊎_elim}
+use Rattle.std.proofs.Common.{◌≡◌, ℕ, zero, suc, ◌+◌, ◌≤◌, Bool, true, false, cond, eqb, not, List, [], ◌∷◌, None, String, string_bytes, get_or, sym, ap, ◌∙◌, refl, arith, ⊎_elim}
 use Rattle.std.specs.Prelude.{bytes_eq}
 use Rattle.std.specs.List.{remove}
 use Rattle.std.specs.Map.{lookup, remove_entry}
@@ -13,8 +13,8 @@ use Rattle.an_slots.specs.Texts.{texts, under}
 use Rattle.an_slots.proofs.ClassedLemmas.{commute, either, same_at, told_at-at, told_at-below}
 use Rattle.an_slots.proofs.NestLemmas.{under-missing}
 use Rattle.an_postings.specs.declared.class_postings.ClassPostings.{ClassPostings}
-use Rattle.an_postings.specs.Change.{IsChangedUnder, IsLeaner}
-use Rattle.an_postings.specs.Lists.{EachRises, IsOrdered, class_of, places_of, number_of, count_at, places_at}
+use Rattle.an_postings.specs.Change.{IsChangedUnder, IsLeaner, IsOut}
+use Rattle.an_postings.specs.Lists.{EachRises, IsOrdered, class_of, places_of, number_of, room_of, count_at, places_at, room_at}
 
 -- ---- the list of a class
 
@@ -63,6 +63,25 @@ module _ (class : ℕ) (xs : List ClassPostings) (i : ℕ) (old : ClassPostings)
     count = same_at class (count_at xs) (count_at (remove xs i)) 0 (λ c. told_at-remove class_of number_of 0 class 0 xs i c here o.0)
         (sym none ∙ ap number_of is ∙ sym (told_at-at class_of number_of 0 class xs i old here));
   }
+
+  -- the room of another class is the same
+  pub remove_others : (c : ℕ) → eqb c class ≡ false → room_at xs c ≤ room_at (remove xs i) c
+  remove_others c other = let e = told_at-remove class_of room_of 0 class 0 xs i c here o.0 ∙ ap (λ (b : Bool). cond b 0 (room_at xs c)) other in omega (arith, e)
+
+-- a place is taken out, and then memory is given back
+pub out-leaner : (class place times : ℕ) (old kept new : List ClassPostings) → IsOut true class place times old kept → IsLeaner kept new → ((c : ℕ) → eqb c class ≡ false → room_at kept c ≤ room_at new c) → IsOut false class place times old new
+out-leaner class place times old kept new out leaner others = record {
+  places = λ c. leaner.places c ∙ out.places c;
+  count = λ c. leaner.count c ∙ out.count c;
+  room = λ c h.
+      let a = out.room c refl in
+      let b = others c (not-true (eqb c class) h) in
+      omega (arith, a, b);
+}
+  where
+    not-true : (b : Bool) → not b ≡ true → b ≡ false
+    not-true false h = refl
+    not-true true h = cc
 
 pub leaner-nothing : IsLeaner [] []
 leaner-nothing = record { places = λ c. refl; count = λ c. refl }

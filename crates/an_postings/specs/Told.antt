@@ -24,7 +24,7 @@ number_at manifest classes term (Some row) =
 abbrev pub number_in : List ℕ → List ℕ → List (Option Row) → List ℕ → ℕ
 number_in manifest classes rows term = sum_by (number_at manifest classes term) rows
 
--- It tells exactly the terms with the prefix whose number isn't 0, ascending by their bytes, each
+-- It has exactly the terms with the prefix whose number isn't 0, ascending by their bytes, each
 -- with its number, or the greatest of 64 bits where that is more. No two lists do.
 pub record Tells (prefix : List ℕ) (number : List ℕ → ℕ) (told : List TermTotal) : Type 0 where
   pub ascending : Ascend (map (λ t. t.term) told)

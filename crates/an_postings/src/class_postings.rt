@@ -5,12 +5,12 @@ ghost use Rattle.std.specs.VecDeque.{deque_len, deque_capacity};
 ghost use Rattle.an_base.specs.Totals.{capped};
 ghost use Rattle.an_slots.specs.Classed.{IsAt, IsGap};
 ghost use Rattle.an_slots.specs.Places.{Rises, ascending, has, with_place, without_place};
-ghost use Rattle.an_postings.specs.Change.{IsAdded, IsLeaner, IsRemoved, IsRoomier, IsTaken};
+ghost use Rattle.an_postings.specs.Change.{IsAdded, IsLeaner, IsOut, IsRemoved, IsRoomier, IsTaken};
 ghost use Rattle.an_postings.specs.Lists.{IsOrdered, class_of, count_at, more_often};
 ghost use Rattle.an_postings.specs.Lists.{places_at, room_at};
 
 use crate::gather::{classes_of, places_in};
-use crate::leaner::let_go_at;
+use crate::leaner::{let_go_at, take_out_at};
 use crate::places::{add_to, remove_from};
 use crate::totals::total_in;
 use std::alloc::{AllocError, Global};
@@ -86,6 +86,18 @@ impl TermPostings {
         ensures taken { IsTaken class times self.old self.new }
     {
         take_in(&mut self.lists, class, times);
+    }
+
+    /// Takes the place out of the list of a class, and so many times from its count; where no
+    /// memory stays, what is of no use any more is given back as by `let_go`. Whether no list is
+    /// left. It takes no memory.
+    pub fn take_out(&mut self, class: usize, place: u32, times: u64, stays: bool) -> bool
+        requires enough { times ≤ count_at self.old class }
+        ensures out { IsOut stays class place times self.old self.new }
+        ensures none { result ≡ true → self.new ≡ [] }
+    {
+        take_out_in(&mut self.lists, class, place, times, stays);
+        self.lists.is_empty()
     }
 
     /// Drops the list of a class that has no place and no count, and gives back memory that has
@@ -243,6 +255,18 @@ fn take_one(own: &mut ClassPostings, times: u64)
     ensures count { own.new.count ≡ own.old.count - times }
 {
     own.count -= u128::from(times);
+}
+
+fn take_out_in(lists: &mut Vec<ClassPostings>, class: usize, place: u32, times: u64, stays: bool)
+    requires ordered { IsOrdered lists.old.items }
+    requires enough { times ≤ count_at lists.old.items class }
+    ensures ordered { IsOrdered lists.new.items }
+    ensures out { IsOut stays class place times lists.old.items lists.new.items }
+{
+    match place_of(lists.as_slice(), class) {
+        Ok(at) => take_out_at(lists, at, class, place, times, stays),
+        Err(_) => {}
+    }
 }
 
 fn let_go_in(lists: &mut Vec<ClassPostings>, class: usize)

@@ -8,7 +8,7 @@ ghost use Rattle.an_postings.specs.Postings.{Lists, count_in};
 ghost use Rattle.an_postings.specs.Totals.{Climbs, told_from};
 ghost use Rattle.an_postings.specs.Told.{Tells, number_in, number_of_term};
 
-/// Of counts that stand for rows, what is told with a prefix is exactly the terms with the prefix
+/// Of counts that stand for rows, what is found by a prefix is exactly the terms with the prefix
 /// that occur on the manifest in the classes, and how often each does. There is one such list: the
 /// totals of a list of terms, where each term is in that list as often as it occurs.
 pub fn all_is_told()

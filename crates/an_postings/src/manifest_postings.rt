@@ -4,8 +4,8 @@ ghost use Rattle.std.specs.List.{sum_by};
 ghost use Rattle.an_base.specs.Totals.{capped};
 ghost use Rattle.an_slots.specs.Places.{Rises, ascending, has};
 ghost use Rattle.an_slots.specs.Texts.{under};
-ghost use Rattle.an_postings.specs.Change.{IsAdded, IsChangedUnder, IsLeaner, IsRemoved, IsRoomier};
-ghost use Rattle.an_postings.specs.Change.{IsTaken};
+ghost use Rattle.an_postings.specs.Change.{IsAdded, IsChangedUnder, IsLeaner, IsOut, IsRemoved};
+ghost use Rattle.an_postings.specs.Change.{IsRoomier, IsTaken};
 ghost use Rattle.an_postings.specs.Lists.{IsOrdered, count_at, places_at, room_at};
 ghost use Rattle.an_postings.specs.Totals.{Climbs, told_from};
 
@@ -101,6 +101,45 @@ impl ManifestPostings {
         match self.terms.get_mut(term) {
             Some(postings) => postings.take(class, times),
             None => {}
+        }
+    }
+
+    /// Takes the place out of the list of a term in a class, and so many times from its count; where
+    /// no memory stays, what is of no use any more is given back as by `let_go`. Whether no term is
+    /// left. It takes no memory.
+    pub fn take_out(
+        &mut self,
+        term: &str,
+        class: usize,
+        place: u32,
+        times: u64,
+        stays: bool,
+    ) -> bool
+        requires enough { times ≤ count_at (under term.now self.old) class }
+        ensures out { IsChangedUnder term.now (IsOut stays class place times) self.old self.new }
+        ensures none { result ≡ true → self.new ≡ [] }
+    {
+        self.take_out_of(term, class, place, times, stays);
+        self.terms.is_empty()
+    }
+
+    fn take_out_of(&mut self, term: &str, class: usize, place: u32, times: u64, stays: bool)
+        requires enough { times ≤ count_at (under term.now self.old) class }
+        ensures out { IsChangedUnder term.now (IsOut stays class place times) self.old self.new }
+    {
+        if self.take_out_in(term, class, place, times, stays) {
+            drop(self.terms.remove(term));
+        }
+    }
+
+    fn take_out_in(&mut self, term: &str, class: usize, place: u32, times: u64, stays: bool) -> bool
+        requires enough { times ≤ count_at (under term.now self.old) class }
+        ensures out { IsChangedUnder term.now (IsOut stays class place times) self.old self.new }
+        ensures none { result ≡ true → under term.now self.new ≡ [] }
+    {
+        match self.terms.get_mut(term) {
+            Some(postings) => postings.take_out(class, place, times, stays),
+            None => false,
         }
     }
 

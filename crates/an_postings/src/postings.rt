@@ -1,12 +1,12 @@
-ghost use Rattle.std.specs.Prelude.{◌≡◌, ◌-◌, ◌<◌, ◌≤◌, ◌^◌, ℕ, [], false, IfOk, IsTrue, OnOk};
-ghost use Rattle.std.specs.Prelude.{flat_map, true};
+ghost use Rattle.std.specs.Prelude.{◌≡◌, ◌-◌, ◌<◌, ◌≤◌, ◌^◌, ◌||◌, ℕ, [], false, IfOk, IsTrue};
+ghost use Rattle.std.specs.Prelude.{OnOk, flat_map, not, true};
 ghost use Rattle.std.specs.List.{sum_by};
 ghost use Rattle.an_base.specs.Totals.{capped};
 ghost use Rattle.an_slots.specs.Places.{Rises, ascending, has, with_place, without_place};
-ghost use Rattle.an_slots.specs.Slot.{Slot, at, slot_of};
+ghost use Rattle.an_slots.specs.Slot.{Slot, at, same_slot, slot_of};
 ghost use Rattle.an_slots.specs.Texts.{under};
-ghost use Rattle.an_postings.specs.Change.{IsAdded, IsChangedUnder, IsLeaner, IsRemoved, IsRoomier};
-ghost use Rattle.an_postings.specs.Change.{IsTaken};
+ghost use Rattle.an_postings.specs.Change.{IsAdded, IsChangedUnder, IsLeaner, IsOut, IsRemoved};
+ghost use Rattle.an_postings.specs.Change.{IsRoomier, IsTaken};
 ghost use Rattle.an_postings.specs.Lists.{IsOrdered, more_often};
 ghost use Rattle.an_postings.specs.Postings.{IsSpentAt, count_in, has_room, places_in, room_in};
 ghost use Rattle.an_postings.specs.Totals.{Climbs, told_from};
@@ -170,6 +170,69 @@ impl Postings {
         match self.manifests.get_mut(manifest) {
             Some(terms) => terms.take(term, class, times),
             None => {}
+        }
+    }
+
+    /// Takes the place out of the list of a manifest, term and class, and counts the term there so
+    /// many times less, as `remove` and `take` do. Where no memory stays there, what is of no use
+    /// any more is given back as by `let_go`. It takes no memory.
+    pub fn take_out(
+        &mut self,
+        manifest: &Name,
+        term: &str,
+        class: usize,
+        place: usize,
+        times: u64,
+        stays: bool,
+    )
+        requires place { place < 2 ^ 32 }
+        requires enough { times ≤ count_in self.old (slot_of manifest.now term.now class) }
+        ensures places { places_in self.new
+            ≡ at (slot_of manifest.now term.now class) (without_place place) (places_in self.old) }
+        ensures count { count_in self.new
+            ≡ at (slot_of manifest.now term.now class) (λ m. m - times) (count_in self.old) }
+        ensures room { (slot : Slot)
+            → (stays || not (same_slot slot (slot_of manifest.now term.now class))) ≡ true
+            → room_in self.old slot ≤ room_in self.new slot }
+    {
+        self.take_out_under(manifest.as_str(), term, class, place as u32, times, stays);
+    }
+
+    fn take_out_under(
+        &mut self,
+        manifest: &str,
+        term: &str,
+        class: usize,
+        place: u32,
+        times: u64,
+        stays: bool,
+    )
+        requires enough { times ≤ count_in self.old (slot_of manifest.now term.now class) }
+        ensures out { IsChangedUnder manifest.now
+            (IsChangedUnder term.now (IsOut stays class place times)) self.old self.new }
+    {
+        if self.take_out_in(manifest, term, class, place, times, stays) {
+            drop(self.manifests.remove(manifest));
+        }
+    }
+
+    fn take_out_in(
+        &mut self,
+        manifest: &str,
+        term: &str,
+        class: usize,
+        place: u32,
+        times: u64,
+        stays: bool,
+    ) -> bool
+        requires enough { times ≤ count_in self.old (slot_of manifest.now term.now class) }
+        ensures out { IsChangedUnder manifest.now
+            (IsChangedUnder term.now (IsOut stays class place times)) self.old self.new }
+        ensures none { result ≡ true → under manifest.now self.new ≡ [] }
+    {
+        match self.manifests.get_mut(manifest) {
+            Some(terms) => terms.take_out(term, class, place, times, stays),
+            None => false,
         }
     }
 

@@ -1,4 +1,4 @@
--- What a snapshot stands for, and what it is behind each entry.
+-- What a snapshot stands for, and what it is after each entry.
 use Rattle.std.specs.Prelude.{ℕ, ◌+◌, ◌-◌, ◌^◌, min, if◌then◌else◌}
 use Rattle.an_state.specs.Entries.{after}
 use Rattle.an_state.specs.State.{State, empty}
@@ -13,7 +13,7 @@ pub record Absorbed : Type 0 where
 abbrev pub nothing : Absorbed
 nothing = record { state = empty; count = 0 }
 
--- the number behind this one; the last one stands still
+-- the number after this one; the last one stands still
 unfoldable pub counted : ℕ → ℕ
 counted count = min (count + 1) (2 ^ 128 - 1)
 

@@ -52,7 +52,7 @@ added_by_row (kept.Manifest row) = []
 added_by_row (kept.Note row) = []
 added_by_row (kept.Activity activity) = activity ∷ []
 
--- the activities that an entry adds behind those before
+-- the activities that an entry adds after those before
 abbrev pub added_by : Entry → List Activity
 added_by (Restored row) = added_by_row row
 added_by (Done command moment by rows activities) = flat_map added_by_row rows ++ activities

@@ -36,6 +36,6 @@ keep_groups s (row ∷ rows) = keeps_group s row && keep_groups (with_row s row)
 abbrev pub notes_stand : State → Bool
 notes_stand s = list_all (stands_on_live s) s.notes
 
--- no manifest's group changes, and behind the entry live annotations stand on live manifests
+-- no manifest's group changes, and after the entry live annotations stand on live manifests
 unfoldable pub fits : State → Entry → Bool
 fits s entry = keep_groups s (rows_of entry) && notes_stand (after s entry)

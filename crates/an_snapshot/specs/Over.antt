@@ -24,14 +24,14 @@ manifest_over s manifests name =
     latest (row_of manifest_key (record { owner = None; name = name }) manifests)
     (manifest_row s name)
 
--- the manifests behind a row
+-- the manifests after a row
 abbrev pub manifests_with : Row → List ManifestState → List ManifestState
 manifests_with (kept.Reader row) manifests = manifests
 manifests_with (kept.Manifest row) manifests = put_row manifest_key row manifests
 manifests_with (kept.Note row) manifests = manifests
 manifests_with (kept.Activity activity) manifests = manifests
 
--- the annotations behind a row
+-- the annotations after a row
 abbrev pub notes_with : Row → List NoteState → List NoteState
 notes_with (kept.Reader row) notes = notes
 notes_with (kept.Manifest row) notes = notes

@@ -27,7 +27,7 @@ Leaves s rows None = keep_groups s rows ≡ false
 Leaves s rows (Some left) =
     (keep_groups s rows ≡ true) × AreLeft rows left.manifests.rows left.notes.rows
 
--- no manifest's group changes, and behind the rows live annotations stand on live manifests
+-- no manifest's group changes, and after the rows live annotations stand on live manifests
 abbrev pub rows_fit : State → List Row → Bool
 rows_fit s rows = keep_groups s rows && notes_stand (with_rows rows s)
 
@@ -44,7 +44,7 @@ Plans s classes rows (Some steps) =
     (rows_fit s rows ≡ true) × (map row_of_step steps ≡ rows)
     × All (IsStep (with_rows rows s) classes) steps
 
--- what an entry comes to behind a state, where it fits
+-- what an entry comes to at a state, where it fits
 abbrev pub IsPlanned : State → List Audience → Entry → Option Prepared → Type 0
 IsPlanned s classes entry None = fits s entry ≡ false
 IsPlanned s classes entry (Some prepared) =
@@ -58,7 +58,7 @@ HasAllRoom book lists entry None = ⊤
 HasAllRoom book lists entry (Some prepared) =
     (needs entry ≤ book.room) × HasRoom (flat_map filed_in prepared.steps.items) lists
 
--- the state with these rows, and these activities behind
+-- the state with these rows, and these activities after its own
 abbrev pub state_behind : State → List Row → List Activity → State
 state_behind s rows activities =
     let t = with_rows rows s in

@@ -53,7 +53,7 @@ impl Changes {
         Ok(())
     }
 
-    /// Puts a change behind all. It takes no memory.
+    /// Puts a change after all. It takes no memory.
     pub fn push(&mut self, change: FiledChange)
         requires room { 0 < self.old.room }
         ensures rows { self.new.rows ≡ self.old.rows ++ change ∷ [] }
@@ -64,7 +64,7 @@ impl Changes {
     }
 }
 
-/// Puts changes behind all in order. It takes no memory.
+/// Puts changes after all, in order. It takes no memory.
 pub(crate) fn add_changes(changes: &mut Changes, added: Vec<FiledChange>)
     requires room { length added.items ≤ changes.old.room }
     ensures rows { changes.new.rows ≡ changes.old.rows ++ added.items }

@@ -50,7 +50,7 @@ pub(crate) fn count_seen(classes: &Classes, changes: &[FiledChange], who: &Who<'
     count
 }
 
-/// Where the changes begin that come behind so many which the caller sees.
+/// Where the changes begin that come after so many which the caller sees.
 fn place_behind(classes: &Classes, changes: &[FiledChange], who: &Who<'_>, count: usize) -> usize
     requires filed { All (IsChangeFiled classes.now) changes.now }
     ensures within { result ≤ length changes.now }

@@ -82,7 +82,7 @@ impl Snapshot {
     }
 
     /// Applies an entry. One that doesn't fit leaves the state as it is, and is counted. Its only
-    /// error is want of memory, and then nothing changes.
+    /// error is out of memory, and then nothing changes.
     #[tactic(auto, unfolding(crate::specs::Absorbed::counted))]
     pub fn apply(&mut self, entry: &Entry) -> Result<(), AllocError>
         ensures ok { OnOk result (self.new ≡ absorbed self.old entry.now) }

@@ -12,5 +12,5 @@ none-copied (Some lent) h = cc
 
 pub returns-then-is_none-clause-places : goal.returns-then-is_none-clause-places
 returns-then-is_none-clause-places c =
-    c.remove.ensures.places
+    c.take_out.ensures.places
     ∙ ap (λ (b : Bool). unposted c.args.place (places_in c.args.whole.now) (cond b [] (parts c.args.manifest.now c.args.class (empty_term ∷ [])))) (sym (none-copied c.args.staying (c.is_none.ensures ∙ ap not c.if-is_none.true)))

@@ -2,7 +2,7 @@ use Rattle.std.proofs.Common.{◌≡◌, drop}
 use Rattle.std.specs.Option.{option_copied}
 use Rattle.an_postings.specs.Postings.{count_in, places_in}
 use Rattle.an_slots.specs.Rows.{IsThere, parts, taken, unposted}
-use Rattle.an_listed.specs.Room.{IsKept}
+use Rattle.an_listed.specs.Room.{IsKeptBut}
 use Rattle.an_listed.specs.Stands.{left_parts}
 use Rattle.an_listed.proofs.words.take_words.Given as goal
 
@@ -14,5 +14,5 @@ invariant-loop-at l = record {
       ≡ unposted l.place (places_in l.fn.words) (left_parts l.manifest l.class (option_copied l.staying) l.terms);
   count : taken (count_in l.words) (parts l.manifest l.class (drop l.at l.terms))
       ≡ taken (count_in l.fn.words) (parts l.manifest l.class l.terms);
-  kept : IsKept l.fn.words l.words;
+  kept : IsKeptBut l.more (left_parts l.manifest l.class (option_copied l.staying) l.terms) l.fn.words l.words;
 }

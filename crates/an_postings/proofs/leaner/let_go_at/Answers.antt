@@ -1,8 +1,8 @@
 use Rattle.std.proofs.Common.{refl, arith}
 use Rattle.an_slots.proofs.ClassedLemmas.{at_within}
 use Rattle.an_postings.specs.Lists.{class_of}
-use Rattle.an_postings.proofs.LeanLemmas.{remove_leaner, remove_ordered}
-use Rattle.an_postings.proofs.ListLemmas.{old_rises, set_leaner, set_ordered}
+use Rattle.an_postings.proofs.LeanLemmas.{remove_leaner, remove_ordered, remove_others}
+use Rattle.an_postings.proofs.ListLemmas.{old_rises, set_leaner, set_ordered, set_others}
 use Rattle.an_postings.proofs.leaner.let_go_at.Goals as goal
 
 pub index-requires : goal.index-requires
@@ -31,3 +31,12 @@ returns-else-is_bare-clause-ordered c =
 pub returns-else-is_bare-clause-leaner : goal.returns-else-is_bare-clause-leaner
 returns-else-is_bare-clause-leaner c =
     set_leaner c.args.class c.args.lists.now.items c.args.at c.index_mut.result.now c.requires.here c.index_mut.ensures.value (record { class = c.index_mut.result.now.class; places = c.slim.new.places; count = c.index_mut.result.now.count }) refl c.slim.ensures.places refl
+
+pub returns-then-is_bare-clause-others : goal.returns-then-is_bare-clause-others
+returns-then-is_bare-clause-others c =
+    rw (c.slim_lists.ensures.lists, c.remove.ensures.items)
+    (remove_others c.args.class c.args.lists.now.items c.args.at c.index.result.now c.requires.here c.index.ensures c.requires.ordered)
+
+pub returns-else-is_bare-clause-others : goal.returns-else-is_bare-clause-others
+returns-else-is_bare-clause-others c =
+    set_others c.args.class c.args.lists.now.items c.args.at c.index_mut.result.now c.requires.here c.index_mut.ensures.value (record { class = c.index_mut.result.now.class; places = c.slim.new.places; count = c.index_mut.result.now.count }) refl
