@@ -1,4 +1,10 @@
 //! Completions: the terms of a manifest's annotations that begin as a prefix does.
+//!
+//! ```text
+//! read_ask(alloc, "q=he&min=2")   Ok(ask), which asks for the terms in "he.." that occur twice
+//! read_ask(alloc, "min=2")        Err(QueryAskError::NoPrefix)
+//! complete(alloc, &look, &who, &manifest, &ask, &settings, &mut steps)   Ok(the page of these terms)
+//! ```
 #![tactic(auto)]
 
 pub use ask::{Ask, QueryAskError, read_ask};

@@ -5,13 +5,14 @@ ghost use Rattle.an_policy.specs.Audience.{identity};
 ghost use Rattle.an_state.specs.State.{NoteState};
 ghost use Rattle.an_state.specs.Terms.{totals_in};
 ghost use Rattle.an_state.specs.View.{view_of};
+ghost use Rattle.an_search.specs.Known.{AreKnown};
 ghost use Rattle.an_search.specs.Wanted.{matches};
 ghost use Rattle.an_complete.specs.Complete.{asked_notes, first_terms, is_enough};
 ghost use Rattle.an_complete.specs.Cost.{filter_cost};
 
 use an_base::{Name, Steps, TermTotal, TermTotals};
 use an_policy::Who;
-use an_search::{Wanted, matches, wants_nothing};
+use an_search::{Last, Wanted, known_first, matches_after, wants_nothing};
 use an_state::{Look, NoteRow, add_row};
 use std::alloc::{AllocError, Global};
 use std::sync::ledger::Ledger;
@@ -64,9 +65,10 @@ fn count<T: Look, L: Ledger>(
     ensures steps_least { steps.old ≤ steps.new }
 {
     let mut totals = TermTotals::new(alloc);
+    let mut last = known_first(filters);
     for place in places {
         match look.note_at(*place, steps) {
-            Some(row) => try_row(&mut totals, row, prefix, filters)?,
+            Some(row) => try_row(&mut totals, row, prefix, filters, &mut last)?,
             None => {}
         }
     }
@@ -74,16 +76,19 @@ fn count<T: Look, L: Ledger>(
 }
 
 /// Counts the terms of the annotation if the filters let it pass.
-fn try_row(
+fn try_row<'a>(
     totals: &mut TermTotals,
-    row: &NoteRow,
+    row: &'a NoteRow,
     prefix: &str,
     filters: &Wanted,
+    last: &mut Last<'a>,
 ) -> Result<(), AllocError>
+    requires known { AreKnown filters.now last.old }
     ensures row { OnOk result ((rows : List NoteState) → totals.old ≡ totals_in prefix.now rows
         → totals.new ≡ totals_in prefix.now (rows ++ filter (matches filters.now) (row.now ∷ []))) }
+    ensures known { OnOk result (AreKnown filters.now last.new) }
 {
-    if matches(row, filters) {
+    if matches_after(row, filters, last) {
         add_row(totals, row, prefix)
     } else {
         Ok(())

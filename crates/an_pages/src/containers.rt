@@ -26,7 +26,7 @@ use std::alloc::{AllocError, Global};
 use std::sync::ledger::Ledger;
 
 /// The container of the annotations on a manifest that the caller may read (Web Annotation
-/// Protocol, section 4), with its first page unless the container alone is preferred. A hidden
+/// Protocol, section 4), with its first page unless only the container is preferred. A hidden
 /// manifest is answered as one that never was.
 #[tactic(auto, unfolding(crate::specs::Container::container_of))]
 pub fn container<T: Look, L: Ledger>(

@@ -1,5 +1,10 @@
 //! The answers to reads of one thing, a manifest or an annotation, and of the annotations on a
 //! canvas or in a container.
+//!
+//! ```text
+//! annotation(alloc, &look, &who, &owner, &name, &settings)   Ok(body) where `who` may read it,
+//!     Err(PageError::Gone) where it could once, and else Err(PageError::Absent)
+//! ```
 #![tactic(auto)]
 
 pub use canvas::canvas_page;

@@ -6,6 +6,7 @@ pub mod PairLemmas
 pub mod OtherLemmas
 pub mod PlaceLemmas
 pub mod HitLemmas
+pub mod HeldLemmas
 pub mod SetLemmas
 pub mod RangeLemmas
 pub mod ViewLemmas

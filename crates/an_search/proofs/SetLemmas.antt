@@ -1,5 +1,5 @@
 -- Tests of texts, and of the same texts in another order or more often.
-use Rattle.std.proofs.Common.{◌≡◌, ℕ, suc, ◌+◌, ◌<◌, List, [], ◌∷◌, length, get_or, drop, Bool, true, false, ◌&&◌, ◌||◌, not, refl, sym, ap, ◌∙◌, ⊎_elim, drop-cons, add-one}
+use Rattle.std.proofs.Common.{◌≡◌, ℕ, suc, ◌+◌, ◌<◌, List, [], ◌∷◌, length, get_or, drop, Bool, true, false, ◌&&◌, ◌||◌, not, refl, sym, ap, ◌∙◌, ⊎_elim, drop-cons, add-one, arith}
 use Rattle.std.proofs.lemmas.Bool.{and_from, and_parts, both_ways, or_cases, or_left, or_right}
 use Rattle.std.proofs.lemmas.Slice.Eq.{bytes_eq-Decides}
 use Rattle.std.specs.List.{list_all, list_any}
@@ -77,6 +77,19 @@ pub share_ascending : (us vs : List (List ℕ)) → list_any (λ text. has_text 
 share_ascending us vs =
     any-ascending (λ text. has_text text (ascending us)) vs ∙ share_back (ascending us) vs
     ∙ any-ascending (λ text. has_text text vs) us ∙ share_back vs us
+
+-- the only one of texts in order is shared where it is among the others
+pub one_shared : (pieces own : List (List ℕ)) → length (ascending own) ≡ 1 → has_text (get_or (ascending own) 0 []) pieces ≡ list_any (λ piece. has_text piece own) pieces
+one_shared pieces own one = only (ascending own) one ∙ any-ascending (λ text. has_text text pieces) own ∙ share_back pieces own
+  where
+    or_false : (a : Bool) → a ≡ (a || false)
+    or_false true = refl
+    or_false false = refl
+
+    only : (texts : List (List ℕ)) → length texts ≡ 1 → has_text (get_or texts 0 []) pieces ≡ list_any (λ text. has_text text pieces) texts
+    only [] one = absurd (omega (arith, one))
+    only (text ∷ []) one = or_false (has_text text pieces)
+    only (text ∷ other ∷ texts) one = absurd (omega (arith, one))
 
 -- ---- a loop along texts
 

@@ -13,4 +13,6 @@ pub mod Dates
 pub mod Query
 pub mod Wanted
 pub mod Ordered
+pub mod Known
+pub mod Held
 pub mod Form

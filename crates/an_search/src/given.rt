@@ -98,29 +98,29 @@ pub fn others_in(
     ensures others { IfOk result (λ others. others ≡ others_of reads.now pairs.now) }
 {
     let mut others = Vec::new(alloc);
-    let mut told = BTreeSet::new(alloc);
+    let mut seen = BTreeSet::new(alloc);
     for pair in pairs {
         let name = &pair.name;
-        if is_new(reads, &mut told, name.as_str())? {
+        if is_new(reads, &mut seen, name.as_str())? {
             others.push(name.copy()?)?;
         }
     }
     Ok(List::from_vec(others))
 }
 
-/// Whether the name is that of no parameter that is read, and isn't told yet. Then it is told.
+/// Whether the name is that of no parameter that is read, and hasn't come yet. Then it has come.
 fn is_new<'a>(
     reads: &[Parameter],
-    told: &mut BTreeSet<&'a str>,
+    seen: &mut BTreeSet<&'a str>,
     name: &'a str,
 ) -> Result<bool, AllocError>
     ensures new { IfOk result (λ new. new
-        ≡ (is_other reads.now name.now && not (is_lent name.now told.old))) }
-    ensures told { OnOk result ((other : List ℕ) → is_lent other told.new
-        ≡ ((is_other reads.now name.now && bytes_eq name.now other) || is_lent other told.old)) }
+        ≡ (is_other reads.now name.now && not (is_lent name.now seen.old))) }
+    ensures seen { OnOk result ((other : List ℕ) → is_lent other seen.new
+        ≡ ((is_other reads.now name.now && bytes_eq name.now other) || is_lent other seen.old)) }
 {
     if is_other(reads, name) {
-        add_lent(told, name)
+        add_lent(seen, name)
     } else {
         Ok(false)
     }

@@ -1,5 +1,7 @@
-ghost use Rattle.std.specs.Prelude.{◌≡◌, ℕ, ◌+◌, ◌≤◌, ◌&&◌, List, filter, length, map, not};
-ghost use Rattle.std.specs.Prelude.{IfOk, OnOk};
+ghost use Rattle.std.specs.Prelude.{◌≡◌, ℕ, ◌+◌, ◌≤◌, ◌++◌, ◌&&◌, List, filter, length, map, not};
+ghost use Rattle.std.specs.Prelude.{IfOk, OnOk, slice_get};
+ghost use Rattle.std.specs.Option.{option_copied};
+ghost use Rattle.an_base.specs.Outcome.{passes};
 ghost use Rattle.an_base.specs.TextSet.{ascending, has_text};
 ghost use Rattle.an_policy.specs.Audience.{identity};
 ghost use Rattle.an_state.specs.Places.{Rises};
@@ -7,7 +9,10 @@ ghost use Rattle.an_state.specs.View.{readable_places, view_of};
 ghost use Rattle.an_search.specs.Cost.{candidates};
 ghost use Rattle.an_search.specs.Found.{candidate_places, is_first, is_suited_at, is_wanted_at};
 ghost use Rattle.an_search.specs.Found.{suits, with_terms};
+ghost use Rattle.an_search.specs.Held.{suited_of};
+ghost use Rattle.an_search.specs.Known.{AreKnown};
 
+use crate::known::{Last, known_first};
 use crate::pieces::Pieces;
 use crate::wanted::{Wanted, fits_but_terms, wants_terms_alone};
 use an_base::{Name, Steps, Text};
@@ -16,9 +21,12 @@ use an_state::{Look, NoteRow};
 use std::alloc::{AllocError, Global};
 use std::sync::ledger::Ledger;
 
+/// How many annotations are fetched before the first of them is judged.
+const TOGETHER: usize = 64;
+
 /// The places of the annotations on a manifest that the caller may read and that are wanted,
-/// ascending. Each that has the first term is fetched once. Which of them have the other terms the
-/// lists of the terms tell, the shortest first, up to the first that leaves none.
+/// ascending. Each that has the first term is fetched once. The lists of the other terms say which
+/// of them have these, the shortest first, up to the first that leaves none.
 pub(crate) fn hit_places<T: Look, L: Ledger>(
     alloc: Global,
     look: &T,
@@ -82,8 +90,15 @@ fn candidate_places<T: Look>(
     }
 }
 
-/// Those of the places where the annotations have what is wanted but for terms.
-#[tactic(auto, using(crate::proofs::PieceLemmas::pieces_left))]
+/// A place, and the annotation's row there.
+#[derive(Clone, Copy)]
+pub(crate) struct Held<'a> {
+    pub(crate) place: usize,
+    pub(crate) row: Option<&'a NoteRow>,
+}
+
+/// Those of the places where the annotations have what is wanted but for terms. Where only terms
+/// are wanted nothing of an annotation is read, so that none has to be waited for.
 fn suited_among<T: Look, L: Ledger>(
     alloc: Global,
     look: &T,
@@ -97,9 +112,32 @@ fn suited_among<T: Look, L: Ledger>(
     ensures steps_most { steps.new ≤ steps.old + length places.now }
     ensures steps_least { steps.old ≤ steps.new }
 {
+    if wants_terms_alone(wanted) {
+        one_by_one(alloc, look, places, wanted, steps)
+    } else {
+        together(alloc, look, places, wanted, steps)
+    }
+}
+
+/// The same, where each is judged once it is fetched.
+#[tactic(auto, using(crate::proofs::PieceLemmas::pieces_left))]
+fn one_by_one<T: Look, L: Ledger>(
+    alloc: Global,
+    look: &T,
+    places: &[usize],
+    wanted: &Wanted,
+    steps: &mut Steps<L>,
+) -> Result<Vec<usize>, AllocError>
+    ensures places { IfOk result (λ suited. suited.items
+        ≡ filter (is_suited_at (T.state look.now).notes wanted.now) places.now) }
+    ensures steps { OnOk result (steps.new ≡ steps.old + length places.now) }
+    ensures steps_most { steps.new ≤ steps.old + length places.now }
+    ensures steps_least { steps.old ≤ steps.new }
+{
     let mut suited = Vec::with_capacity(alloc, places.len())?;
+    let mut last = known_first(wanted);
     for place in places {
-        if is_suited_at(look, *place, wanted, steps) {
+        if is_suited_at(look, *place, wanted, &mut last, steps) {
             suited.push(*place)?;
         }
     }
@@ -108,31 +146,154 @@ fn suited_among<T: Look, L: Ledger>(
 
 /// Whether there is an annotation at the place that was deleted or has what is wanted but for
 /// terms.
-fn is_suited_at<T: Look, L: Ledger>(
-    look: &T,
+fn is_suited_at<'a, T: Look, L: Ledger>(
+    look: &'a T,
     place: usize,
     wanted: &Wanted,
+    last: &mut Last<'a>,
     steps: &mut Steps<L>,
 ) -> bool
+    requires known { AreKnown wanted.now last.old }
     ensures suited { result ≡ is_suited_at (T.state look.now).notes wanted.now place }
+    ensures known { AreKnown wanted.now last.new }
     ensures step { steps.new ≡ steps.old + 1 }
 {
     match look.note_at(place, steps) {
-        Some(row) => suits(row, wanted),
+        Some(row) => suits(row, wanted, last),
         None => false,
     }
 }
 
-/// Whether the annotation was deleted or has what is wanted but for terms. Where terms alone are
+/// The same, where some are fetched before the first of them is judged.
+fn together<T: Look, L: Ledger>(
+    alloc: Global,
+    look: &T,
+    places: &[usize],
+    wanted: &Wanted,
+    steps: &mut Steps<L>,
+) -> Result<Vec<usize>, AllocError>
+    ensures places { IfOk result (λ suited. suited.items
+        ≡ filter (is_suited_at (T.state look.now).notes wanted.now) places.now) }
+    ensures steps { OnOk result (steps.new ≡ steps.old + length places.now) }
+    ensures steps_most { steps.new ≤ steps.old + length places.now }
+    ensures steps_least { steps.old ≤ steps.new }
+{
+    let mut suited = Vec::with_capacity(alloc, places.len())?;
+    let mut held = Vec::with_capacity(alloc, TOGETHER)?;
+    let mut last = known_first(wanted);
+    for place in places {
+        held.push(held_at(look, *place, steps))?;
+        if held.len() >= TOGETHER {
+            suited = with_suited(suited, held.as_slice(), wanted, &mut last)?;
+            held.clear();
+        }
+    }
+    with_suited(suited, held.as_slice(), wanted, &mut last)
+}
+
+fn held_at<'a, T: Look, L: Ledger>(look: &'a T, place: usize, steps: &mut Steps<L>) -> Held<'a>
+    ensures place { result.place ≡ place }
+    ensures row { option_copied result.row ≡ slice_get (T.state look.now).notes place }
+    ensures step { steps.new ≡ steps.old + 1 }
+{
+    let row = look.note_at(place, steps);
+    Held { place, row }
+}
+
+/// The places, and those of these where the annotations have what is wanted but for terms.
+#[tactic(auto, using(crate::proofs::PieceLemmas::pieces_left))]
+fn with_suited<'a>(
+    suited: Vec<usize>,
+    held: &[Held<'a>],
+    wanted: &Wanted,
+    last: &mut Last<'a>,
+) -> Result<Vec<usize>, AllocError>
+    requires known { AreKnown wanted.now last.old }
+    ensures suited { IfOk result
+        (λ places. places.items ≡ suited.items ++ suited_of wanted.now held.now) }
+    ensures known { OnOk result (AreKnown wanted.now last.new) }
+{
+    let mut suited = suited;
+    suited.reserve(read_ahead(held, wanted))?;
+    for one in held {
+        if is_suited(one.row, wanted, last) {
+            suited.push(one.place)?;
+        }
+    }
+    Ok(suited)
+}
+
+/// About how many of them may suit. Nothing is promised of it. What is read here of an annotation
+/// isn't waited for when it is judged; and these reads, unlike those of one annotation after the
+/// other, don't wait for each other.
+fn read_ahead(held: &[Held<'_>], wanted: &Wanted) -> usize {
+    if wants_terms_alone(wanted) {
+        return 0;
+    }
+    let live = live_count(held);
+    if wanted.iris.as_slice().is_empty() && wanted.motivations.as_slice().is_empty() {
+        return live;
+    }
+    live.min(motivation_count(held))
+}
+
+fn live_count(held: &[Held<'_>]) -> usize {
+    let mut count = 0usize;
+    for one in held {
+        match one.row {
+            Some(row) => count = count.saturating_add(one_if(row.live().is_some())),
+            None => {}
+        }
+    }
+    count
+}
+
+fn one_if(test: bool) -> usize {
+    if test { 1 } else { 0 }
+}
+
+fn motivation_count(held: &[Held<'_>]) -> usize {
+    let mut count = 0usize;
+    for one in held {
+        match one.row {
+            Some(row) => count = count.saturating_add(motivation_count_of(row)),
+            None => {}
+        }
+    }
+    count
+}
+
+fn motivation_count_of(row: &NoteRow) -> usize {
+    match row.live() {
+        Some(live) => live.tree.motivations().len(),
+        None => 0,
+    }
+}
+
+/// Whether there is an annotation that was deleted or has what is wanted but for terms.
+fn is_suited<'a>(row: Option<&'a NoteRow>, wanted: &Wanted, last: &mut Last<'a>) -> bool
+    requires known { AreKnown wanted.now last.old }
+    ensures suited { result ≡ passes (suits wanted.now) (option_copied row.entry) }
+    ensures known { AreKnown wanted.now last.new }
+{
+    match row {
+        Some(row) => suits(row, wanted, last),
+        None => false,
+    }
+}
+
+/// Whether the annotation was deleted or has what is wanted but for terms. Where only terms are
 /// wanted nothing of it is read.
-fn suits(row: &NoteRow, wanted: &Wanted) -> bool
-    ensures { result ≡ suits wanted.now row.now }
+fn suits<'a>(row: &'a NoteRow, wanted: &Wanted, last: &mut Last<'a>) -> bool
+    requires known { AreKnown wanted.now last.old }
+    ensures suits { result ≡ suits wanted.now row.now }
+    ensures known { AreKnown wanted.now last.new }
 {
     if wants_terms_alone(wanted) {
         return true;
     }
     match row.live() {
-        Some(live) => fits_but_terms(&live, wanted),
+        Some(live) => fits_but_terms(&live, wanted, last),
         None => true,
     }
 }

@@ -86,7 +86,7 @@ impl Paging {
 /// How a page is named where another one, or the list, links to it.
 #[derive(Clone, Copy)]
 pub enum PageForm {
-    /// By its IRI alone.
+    /// Only by its IRI.
     Iri,
     /// By its IRI and its type, which is that of pages of annotations.
     Annotations,

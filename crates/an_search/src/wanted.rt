@@ -1,4 +1,4 @@
-ghost use Rattle.std.specs.Prelude.{◌≡◌, ◌==◌, [], IfOk, filter, map, if◌then◌else◌};
+ghost use Rattle.std.specs.Prelude.{◌≡◌, ◌==◌, [], IfOk, codes, filter, map, if◌then◌else◌};
 ghost use Rattle.std.specs.List.{filter_map, list_any, slice_split};
 ghost use Rattle.std.specs.Option.{option_copied};
 ghost use Rattle.an_terms.specs.Terms.{terms_of};
@@ -7,6 +7,7 @@ ghost use Rattle.an_state.specs.Live.{lent_note};
 ghost use Rattle.an_model.specs.Bodies.{iris_of, note_terms};
 ghost use Rattle.an_model.specs.Note.{motivations_of};
 ghost use Rattle.an_search.specs.Dates.{pieces_of, range_of};
+ghost use Rattle.an_search.specs.Known.{AreKnown, IsKnown};
 ghost use Rattle.an_search.specs.Wanted.{fits, fits_but_terms, fits_motivations, fits_ranges};
 ghost use Rattle.an_search.specs.Wanted.{fits_users, given_pieces, has_all, is_iri};
 ghost use Rattle.an_search.specs.Wanted.{matches, wanted_by, wanted_iris, wanted_of, wanted_ranges};
@@ -14,6 +15,7 @@ ghost use Rattle.an_search.specs.Wanted.{wanted_terms, wants_nothing, wants_term
 
 use crate::dates::{DateRange, range_of};
 use crate::filters::Filters;
+use crate::known::{Known, Last, is_piece, known_first};
 use crate::pieces::{Pieces, share_one};
 use crate::query::Query;
 use crate::ranges::Ranges;
@@ -215,26 +217,54 @@ fn ranges_among(alloc: Global, pieces: &[Text]) -> Result<List<DateRange>, Alloc
 pub fn matches(row: &NoteRow, wanted: &Wanted) -> bool
     ensures fits { result ≡ matches wanted.now row.now }
 {
+    let mut last = known_first(wanted);
+    matches_after(row, wanted, &mut last)
+}
+
+/// The same of an annotation after others, of which it is known what was looked up last.
+pub fn matches_after<'a>(row: &'a NoteRow, wanted: &Wanted, last: &mut Last<'a>) -> bool
+    requires known { AreKnown wanted.now last.old }
+    ensures fits { result ≡ matches wanted.now row.now }
+    ensures known { AreKnown wanted.now last.new }
+{
     match row.live() {
-        Some(live) => fits(&live, wanted),
+        Some(live) => fits(&live, wanted, last),
         None => false,
     }
 }
 
-fn fits(live: &LiveNote<'_>, wanted: &Wanted) -> bool
-    ensures { result ≡ fits wanted.now (lent_note live.now) }
+fn fits<'a>(live: &LiveNote<'a>, wanted: &Wanted, last: &mut Last<'a>) -> bool
+    requires known { AreKnown wanted.now last.old }
+    ensures fits { result ≡ fits wanted.now (lent_note live.now) }
+    ensures known { AreKnown wanted.now last.new }
 {
-    has_terms(live.tree, &wanted.terms) && fits_but_terms(live, wanted)
+    if !has_terms(live.tree, &wanted.terms) {
+        return false;
+    }
+    fits_but_terms(live, wanted, last)
 }
 
 /// Whether the annotation has the IRIs, and fits the filters. Takes no memory.
-pub(crate) fn fits_but_terms(live: &LiveNote<'_>, wanted: &Wanted) -> bool
+pub(crate) fn fits_but_terms<'a>(live: &LiveNote<'a>, wanted: &Wanted, last: &mut Last<'a>) -> bool
+    requires known { AreKnown wanted.now last.old }
     ensures fits { result ≡ fits_but_terms wanted.now (lent_note live.now) }
+    ensures known { AreKnown wanted.now last.new }
 {
-    has_iris(live.tree, &wanted.iris)
-        && fits_motivations(live.tree, &wanted.motivations)
-        && fits_ranges(&wanted.ranges, live.created)
-        && fits_users(&wanted.users, live.creator.get())
+    if !has_iris(live.tree, &wanted.iris) {
+        return false;
+    }
+    if !fits_motivations(
+        live.tree,
+        &wanted.motivations,
+        last.wants_others,
+        &mut last.motivation,
+    ) {
+        return false;
+    }
+    if !fits_ranges(&wanted.ranges, live.created) {
+        return false;
+    }
+    fits_users(&wanted.users, live.creator.get(), &mut last.creator)
 }
 
 /// Whether the annotation has the IRIs. Each is looked up once, up to the first that it lacks, so
@@ -274,18 +304,38 @@ fn has_each_term(note: &KeptNote, terms: &TextSet) -> bool
     true
 }
 
-fn fits_motivations(note: &KeptNote, pieces: &Pieces) -> bool
-    ensures { result ≡ fits_motivations pieces.now (motivations_of note.now) }
+fn fits_motivations<'a>(
+    note: &'a KeptNote,
+    pieces: &Pieces,
+    wants_others: bool,
+    known: &mut Known<'a>,
+) -> bool
+    requires known { IsKnown pieces.now known.old }
+    requires others { wants_others ≡ has_text (codes "non-painting") pieces.now }
+    ensures fits { result ≡ fits_motivations pieces.now (motivations_of note.now) }
+    ensures known { IsKnown pieces.now known.new }
 {
-    pieces.as_slice().is_empty()
-        || has_one_motivation(note, pieces)
-        || (pieces.has("non-painting") && !note.has_motivation("painting"))
+    if pieces.as_slice().is_empty() {
+        return true;
+    }
+    if has_one_motivation(note, pieces, known) {
+        return true;
+    }
+    wants_others && !note.has_motivation("painting")
 }
 
-fn has_one_motivation(note: &KeptNote, pieces: &Pieces) -> bool
-    ensures { result ≡ list_any (λ piece. has_text piece (motivations_of note.now)) pieces.now }
+/// Whether one of its motivations is a piece. Most annotations have one.
+fn has_one_motivation<'a>(note: &'a KeptNote, pieces: &Pieces, known: &mut Known<'a>) -> bool
+    requires known { IsKnown pieces.now known.old }
+    ensures found { result
+        ≡ list_any (λ piece. has_text piece (motivations_of note.now)) pieces.now }
+    ensures known { IsKnown pieces.now known.new }
 {
-    share_one(pieces.ordered(), note.motivations())
+    let own = note.motivations();
+    if own.len() == 1 {
+        return is_piece(pieces, known, own.text(0));
+    }
+    share_one(pieces.ordered(), own)
 }
 
 fn fits_ranges(ranges: &Ranges, moment: Moment) -> bool
@@ -294,8 +344,13 @@ fn fits_ranges(ranges: &Ranges, moment: Moment) -> bool
     ranges.as_slice().is_empty() || ranges.has(moment)
 }
 
-fn fits_users(users: &Pieces, creator: &Text) -> bool
-    ensures { result ≡ fits_users users.now creator.now }
+fn fits_users<'a>(users: &Pieces, creator: &'a Text, known: &mut Known<'a>) -> bool
+    requires known { IsKnown users.now known.old }
+    ensures fits { result ≡ fits_users users.now creator.now }
+    ensures known { IsKnown users.now known.new }
 {
-    users.as_slice().is_empty() || users.has(creator.as_str())
+    if users.as_slice().is_empty() {
+        return true;
+    }
+    is_piece(users, known, creator.as_str())
 }

@@ -1,0 +1,12 @@
+use Rattle.std.proofs.Common.{◌≡◌, ◌+◌, ◌++◌, drop}
+use Rattle.std.specs.Prelude.{filter}
+use Rattle.an_search.specs.Found.{is_suited_at}
+use Rattle.an_search.specs.Known.{AreKnown}
+use Rattle.an_search.proofs.hits.one_by_one.Given as goal
+
+-- the suited places that are left stand after those so far, it is known what was looked up last, and each place took a step
+abbrev pub invariant-loop-place : goal.invariant-loop-place
+invariant-loop-place g l =
+    let test = is_suited_at (g.T.Look.state l.look).notes l.wanted in
+    (l.suited.items ++ filter test (drop l.place-index l.places) ≡ filter test l.places) × AreKnown l.wanted l.last
+    × (l.steps ≡ l.fn.steps + l.place-index)
