@@ -1,3 +1,4 @@
 pub mod RunLemmas
 pub mod ServeLemmas
+pub mod Exact
 pub mod Isolation

@@ -1,12 +1,12 @@
 -- How the calls of a run at a keeper add up to its end.
 use Rattle.std.proofs.Common.{◌≡◌, ℕ, ℤ, Bool, ◌<◌, ◌≤◌, inr, ⊎_elim, List, [], Option, Some, None, IfSome, IfNone, IsSome, refl, sym, subst, arith}
 use Rattle.std.proofs.lemmas.Bool.{false≢true}
-use Rattle.an_keep.specs.Keeper.{Told}
-use Rattle.an_rows.specs.Cells.{cells}
+use Rattle.an_keep.specs.Keeper.{StaysOrBegins, Told}
 use Rattle.an_state.specs.State.{State}
 use Rattle.an_state.specs.View.{View}
 use Rattle.an_search.specs.Site.{Site}
-use Rattle.an_shelf.specs.Opening.{WasDamagedBy}
+use Rattle.an_shelf.specs.Opening.{IsDamagedBy, WasDamagedBy}
+use Rattle.an_shelf.proofs.OpeningLemmas.{was-damaged}
 use Rattle.an_shelf.specs.declared.error.OpenError.{OpenError}
 use Rattle.an_shelf.specs.declared.error.OpenError.TheVariants as error
 use Rattle.an_base.specs.Faults.{Rises}
@@ -16,15 +16,14 @@ use Rattle.an_session.specs.Trail.{Item}
 use Rattle.an_session.specs.declared.ended.Ended.{Ended}
 use Rattle.an_session.specs.declared.ended.Ended.TheVariants as ended
 use Rattle.an_lines.specs.ImportEnds.{Imports}
-use Rattle.an_app.specs.Unopened.{IsCause, Unopened, unopened_text}
+use Rattle.an_app.specs.Unopened.{IsCause, Unopened, UnopenedAt, unopened_text}
 use Rattle.an_app.specs.AtStore.{ExportsAt}
 use Rattle.an_lines.specs.Export.{export_report, export_told, view_named}
 use Rattle.an_app.specs.SessionEnds.{ended_status}
 use Rattle.an_app.specs.Serving.{DoorEnd, ServesTo}
 use Rattle.an_lines.specs.Status.{Exchanges, Finds, IsUnfailing, Misunderstands, PrintsFront, ReadsLittle, misunderstood}
 use Rattle.an_lines.specs.Told.{IsTold, Tells}
-use Rattle.an_laws.specs.Events.{Keeps}
-use Rattle.an_app.specs.Outside.{Outside, WasLeft, outside_of}
+use Rattle.an_app.specs.Outside.{Outside, outside_of}
 use Rattle.an_app.specs.Runs.{ReadsInput, Runs}
 use Rattle.an_forms.specs.declared.form.Form.{Form}
 use Rattle.an_forms.specs.declared.form.Form.TheVariants as form
@@ -105,21 +104,22 @@ Unopened-for Cause Other Failed old new status.NoReader other run = absurd run
 Unopened-for Cause Other Failed old new status.DoorFailed other run = absurd run
 
 -- why a keeper wasn't opened; the link isn't asked
-pub open_cause : {K : Type 0} (told_by : K → Told) (can_fail : Type 0) (keeper : K) (failed : OpenError) → (failed ≡ error.Keeper → can_fail) → WasDamagedBy told_by (told_by keeper) failed
-    → (why : OpenError) → ((why ≡ failed) × ¬ (why ≡ error.Memory)) → IsCause (outside_of told_by (told_by keeper) can_fail ⊥ ⊥) why
-open_cause told_by can_fail keeper failed unkept damaged error.Keeper (is, some) = unkept (sym is)
-open_cause told_by can_fail keeper failed unkept damaged (error.Damaged tab key) (is, some) = subst (WasDamagedBy told_by (told_by keeper)) (sym is) damaged
-open_cause told_by can_fail keeper failed unkept damaged error.Memory (is, some) = absurd (some refl)
+pub open_cause : (before after : Told) (can_fail : Type 0) (failed : OpenError) → (failed ≡ error.Keeper → can_fail) → WasDamagedBy before after failed
+    → (why : OpenError) → ((why ≡ failed) × ¬ (why ≡ error.Memory)) → IsCause (outside_of before after can_fail ⊥ ⊥) why
+open_cause before after can_fail failed unkept damaged error.Keeper (is, some) = unkept (sym is)
+open_cause before after can_fail failed unkept damaged (error.Damaged tab key) (is, some) = subst (WasDamagedBy before after) (sym is) damaged
+open_cause before after can_fail failed unkept damaged error.Memory (is, some) = absurd (some refl)
 
--- a keeper that is given back was left so
-pub left : {K : Type 0} (told_by : K → Told) (kept : K) (before told : Told) (s t : State) → told_by kept ≡ told → s ≡ t → Keeps before s told → WasLeft told_by before t
-left told_by kept before told s t tells is keeps = record { kept = kept; keeps = subst (λ s. Keeps before s (told_by kept)) is (subst (Keeps before s) (sym tells) keeps) }
+-- a run whose store isn't opened changes no cell
+pub unopened-at : (before kept after : Told) (can_fail writes : Type 0) (failed : OpenError) (old new : Option Traffic) (end : Status) → StaysOrBegins before kept → IsDamagedBy kept failed
+    → (failed ≡ error.Keeper → can_fail) → after ≡ kept → Unopened (λ why. (why ≡ failed) × ¬ (why ≡ error.Memory)) writes old new end → UnopenedAt (outside_of before after can_fail ⊥ writes) old new end
+unopened-at before kept after can_fail writes failed old new end stays damaged unkept same told =
+    subst (λ now. UnopenedAt (outside_of before now can_fail ⊥ writes) old new end) (sym same)
+    (stays, Unopened-for _ _ _ _ _ _ (open_cause before kept can_fail failed unkept (was-damaged before kept failed stays damaged)) told)
 
--- what is told still is kept
-pub keeps_told : (before told : Told) (s : State) → (IsSome told → IsSome before) → IfSome told (λ found. found ≡ cells s) → Keeps before s told
-keeps_told before None s since are = tt
-keeps_told None (Some found) s since are = absurd (false≢true (since refl))
-keeps_told (Some before) (Some found) s since are = are
+stays-same : (before after : Told) → after ≡ before → StaysOrBegins before after
+stays-same None after same = tt
+stays-same (Some cells) after same = subst (StaysOrBegins (Some cells)) (sym same) refl
 
 -- a small input is no more than so many requests may have
 pub little_requests : (old new : Option Traffic) → ReadsLittle old new → ReadsRequests old new
@@ -133,21 +133,29 @@ little_requests (Some old) (Some new) little = record {
   most = omega (arith, little.most);
 }
 
+unopened-nothing : (outside : Outside) (traffic : Option Traffic) → outside.after ≡ outside.before → UnopenedAt outside traffic traffic status.Memory
+unopened-nothing outside traffic same = (stays-same outside.before outside.after same, Unopened-no_memory (IsCause outside) outside.write_failed traffic)
+
 -- ---- all forms
 
 -- memory ran out before the form was read
-pub Runs-nothing_read : (outside : Outside) (door : DoorEnd) (clock : ℤ → Bool) (now : Line) (form : Option Form)
+pub Runs-nothing_read : (outside : Outside) (door : DoorEnd) (clock : ℤ → Bool) (now : Line) (form : Option Form) → outside.after ≡ outside.before
     → IfSome form (Runs outside door clock now now status.Memory)
 unfolding ExportsAt
-Runs-nothing_read outside door clock now None = tt
-Runs-nothing_read outside door clock now (Some (form.Find site)) =
-    Finds-no_memory site outside.read_failed outside.write_failed now.traffic now.traffic ([], reads-nothing now.traffic, omega arith)
-Runs-nothing_read outside door clock now (Some form.Import) = inr (Unopened-no_memory (IsCause outside) outside.write_failed now.traffic)
-Runs-nothing_read outside door clock now (Some (form.Export by)) = inr (Unopened-no_memory (IsCause outside) outside.write_failed now.traffic)
-Runs-nothing_read outside door clock now (Some (form.Session site)) = inr (Unopened-no_memory (IsCause outside) outside.write_failed now.traffic)
-Runs-nothing_read outside door clock now (Some (form.Serve serving)) = inr (Unopened-no_memory (IsCause outside) outside.write_failed now.traffic)
-Runs-nothing_read outside door clock now (Some (form.Trial count seed)) =
-    TellsReport-nothing (trial_report (record { count = count; seed = seed })) outside.write_failed now.traffic
+Runs-nothing_read outside door clock now None same = tt
+Runs-nothing_read outside door clock now (Some (form.Find site)) same =
+    (same, Finds-no_memory site outside.read_failed outside.write_failed now.traffic now.traffic ([], reads-nothing now.traffic, omega arith))
+Runs-nothing_read outside door clock now (Some form.Import) same = inr (unopened-nothing outside now.traffic same)
+Runs-nothing_read outside door clock now (Some (form.Export by)) same = inr (unopened-nothing outside now.traffic same)
+Runs-nothing_read outside door clock now (Some (form.Session site)) same = inr (unopened-nothing outside now.traffic same)
+Runs-nothing_read outside door clock now (Some (form.Serve serving)) same = inr (unopened-nothing outside now.traffic same)
+Runs-nothing_read outside door clock now (Some (form.Trial count seed)) same =
+    (same, TellsReport-nothing (trial_report (record { count = count; seed = seed })) outside.write_failed now.traffic)
+
+-- and where the words are of no form the keeper is left
+pub none-holds : (form : Option Form) (P : Type 0) → P → IfNone form P
+none-holds None P holds = holds
+none-holds (Some form) P holds = tt
 
 pub Misunderstands-nothing_read : (Failed : Type 0) (traffic : Option Traffic) (form : Option Form) → IfNone form (Misunderstands Failed traffic traffic status.Memory)
 Misunderstands-nothing_read Failed traffic None = TellsReport-nothing misunderstood Failed traffic
@@ -195,7 +203,7 @@ module _ (outside : Outside) (door : DoorEnd) (clock : ℤ → Bool) (old new : 
   import_unfailing s t status.NoReader read written run = tt
   import_unfailing s t status.DoorFailed read written run = tt
 
-  export_told-is : (view : Option View) → IsTold (export_told view).status
+  pub export_told-is : (view : Option View) → IsTold (export_told view).status
   export_told-is None = tt
   export_told-is (Some view) = tt
 
@@ -210,13 +218,13 @@ module _ (outside : Outside) (door : DoorEnd) (clock : ℤ → Bool) (old new : 
   unfolding ExportsAt
   export_unfailing by end written run =
       ⊎_elim (λ opened. TellsReport-unfailing (export_report opened.state by) outside.write_failed old.traffic new.traffic end (export_told-is (view_named opened.state by)) written opened.tells)
-      (λ whole. unopened_unfailing (IsCause outside) outside.write_failed old.traffic new.traffic end written whole) run
+      (λ whole. unopened_unfailing (IsCause outside) outside.write_failed old.traffic new.traffic end written whole.1) run
 
   export_kept : (by : List ℕ) → ¬ outside.keeper_can_fail → ExportsAt outside by old.traffic new.traffic status.KeeperFailed → ⊥
   unfolding ExportsAt
   export_kept by kept run =
       ⊎_elim (λ opened. TellsReport-kept (export_report opened.state by) outside.write_failed old.traffic new.traffic (export_told-is (view_named opened.state by)) opened.tells)
-      (λ whole. unopened_kept (IsCause outside) outside.write_failed old.traffic new.traffic kept whole) run
+      (λ whole. unopened_kept (IsCause outside) outside.write_failed old.traffic new.traffic kept whole.1) run
 
   serve_unfailing : (port most : ℕ) (end : Status) → ¬ outside.write_failed → ServesTo door outside.write_failed port most old.traffic new.traffic end → IsUnfailing end
   unfolding ServesTo
@@ -232,18 +240,18 @@ module _ (outside : Outside) (door : DoorEnd) (clock : ℤ → Bool) (old new : 
   serve_unfailing port most status.NoReader written run = tt
 
   run_unfailing : (end : Status) (form : Form) → (Rises old.read_faults new.read_faults → outside.read_failed) → (Rises old.write_faults new.write_faults → outside.write_failed) → ¬ outside.read_failed → ¬ outside.write_failed → Runs outside door clock old new end form → IsUnfailing end
-  run_unfailing end (form.Find site) reads writes read written run = find_unfailing site end read written run
+  run_unfailing end (form.Find site) reads writes read written run = find_unfailing site end read written run.1
   run_unfailing end form.Import reads writes read written run =
-      ⊎_elim (λ opened. import_unfailing opened.before opened.behind end read written opened.imports) (λ whole. unopened_unfailing (IsCause outside) outside.write_failed old.traffic new.traffic end written whole) run
+      ⊎_elim (λ opened. import_unfailing opened.before opened.behind end read written opened.imports) (λ whole. unopened_unfailing (IsCause outside) outside.write_failed old.traffic new.traffic end written whole.1) run
   run_unfailing end (form.Export by) reads writes read written run = export_unfailing by end written run
-  run_unfailing end (form.Trial count seed) reads writes read written run = TellsReport-unfailing (trial_report (record { count = count; seed = seed })) outside.write_failed old.traffic new.traffic end tt written run
+  run_unfailing end (form.Trial count seed) reads writes read written run = TellsReport-unfailing (trial_report (record { count = count; seed = seed })) outside.write_failed old.traffic new.traffic end tt written run.1
   run_unfailing end (form.Serve serving) reads writes read written run =
-      ⊎_elim (λ opened. serve_unfailing serving.port serving.connections end written opened.ends) (λ whole. unopened_unfailing (IsCause outside) outside.write_failed old.traffic new.traffic end written whole) run
+      ⊎_elim (λ opened. serve_unfailing serving.port serving.connections end written opened.ends) (λ whole. unopened_unfailing (IsCause outside) outside.write_failed old.traffic new.traffic end written whole.1) run
   run_unfailing end (form.Session site) reads writes read written run =
       ⊎_elim (λ opened.
       let session = opened.connection.session in
       subst IsUnfailing (sym opened.is) (ended_unfailing opened.ended session.trail session.lost session.tail session.rest (λ h. read (reads h)) (λ h. written (writes h)) session.ends))
-      (λ whole. unopened_unfailing (IsCause outside) outside.write_failed old.traffic new.traffic end written whole) run
+      (λ whole. unopened_unfailing (IsCause outside) outside.write_failed old.traffic new.traffic end written whole.1) run
 
   ended_kept : (ended : Ended) → status.KeeperFailed ≡ ended_status ended → ⊥
   ended_kept ended.Closed is = cc
@@ -264,14 +272,14 @@ module _ (outside : Outside) (door : DoorEnd) (clock : ℤ → Bool) (old new : 
   serve_kept port most run = run
 
   run_kept : (form : Form) → ¬ outside.keeper_can_fail → Runs outside door clock old new status.KeeperFailed form → ⊥
-  run_kept (form.Find site) kept run = find_kept site run
+  run_kept (form.Find site) kept run = find_kept site run.1
   run_kept form.Import kept run =
-      ⊎_elim (λ opened. import_kept opened.before opened.behind kept opened.imports) (λ whole. unopened_kept (IsCause outside) outside.write_failed old.traffic new.traffic kept whole) run
+      ⊎_elim (λ opened. import_kept opened.before opened.behind kept opened.imports) (λ whole. unopened_kept (IsCause outside) outside.write_failed old.traffic new.traffic kept whole.1) run
   run_kept (form.Export by) kept run = export_kept by kept run
-  run_kept (form.Trial count seed) kept run = TellsReport-kept (trial_report (record { count = count; seed = seed })) outside.write_failed old.traffic new.traffic tt run
+  run_kept (form.Trial count seed) kept run = TellsReport-kept (trial_report (record { count = count; seed = seed })) outside.write_failed old.traffic new.traffic tt run.1
   run_kept (form.Serve serving) kept run =
-      ⊎_elim (λ opened. serve_kept serving.port serving.connections opened.ends) (λ whole. unopened_kept (IsCause outside) outside.write_failed old.traffic new.traffic kept whole) run
-  run_kept (form.Session site) kept run = ⊎_elim (λ opened. ended_kept opened.ended opened.is) (λ whole. unopened_kept (IsCause outside) outside.write_failed old.traffic new.traffic kept whole) run
+      ⊎_elim (λ opened. serve_kept serving.port serving.connections opened.ends) (λ whole. unopened_kept (IsCause outside) outside.write_failed old.traffic new.traffic kept whole.1) run
+  run_kept (form.Session site) kept run = ⊎_elim (λ opened. ended_kept opened.ended opened.is) (λ whole. unopened_kept (IsCause outside) outside.write_failed old.traffic new.traffic kept whole.1) run
 
   -- no call of the link is told to have failed where none can
   pub ends_unfailing : (end : Status) (form : Option Form) → (Rises old.read_faults new.read_faults → outside.read_failed) → (Rises old.write_faults new.write_faults → outside.write_failed) → ¬ outside.read_failed → ¬ outside.write_failed → IfSome form (Runs outside door clock old new end)
@@ -302,9 +310,9 @@ module _ (outside : Outside) (door : DoorEnd) (clock : ℤ → Bool) (old new : 
   unfolding Imports
   import_shut s t run = run
 
-  unopened_shut : Unopened (IsCause outside) outside.write_failed old.traffic new.traffic status.DoorFailed → ⊥
+  unopened_shut : UnopenedAt outside old.traffic new.traffic status.DoorFailed → ⊥
   unfolding Unopened
-  unopened_shut run = run
+  unopened_shut run = run.1
 
   export_shut : (by : List ℕ) → ExportsAt outside by old.traffic new.traffic status.DoorFailed → ⊥
   unfolding ExportsAt
@@ -316,10 +324,10 @@ module _ (outside : Outside) (door : DoorEnd) (clock : ℤ → Bool) (old new : 
   serve_shut port most none run = let some : 0 < door.faults = run.0 in omega (arith, none, some)
 
   run_shut : (form : Form) → door.faults ≡ 0 → Runs outside door clock old new status.DoorFailed form → ⊥
-  run_shut (form.Find site) none run = find_shut site run
+  run_shut (form.Find site) none run = find_shut site run.1
   run_shut form.Import none run = ⊎_elim (λ opened. import_shut opened.before opened.behind opened.imports) unopened_shut run
   run_shut (form.Export by) none run = export_shut by run
-  run_shut (form.Trial count seed) none run = TellsReport-shut (trial_report (record { count = count; seed = seed })) outside.write_failed old.traffic new.traffic tt run
+  run_shut (form.Trial count seed) none run = TellsReport-shut (trial_report (record { count = count; seed = seed })) outside.write_failed old.traffic new.traffic tt run.1
   run_shut (form.Session site) none run = ⊎_elim (λ opened. ended_shut opened.ended opened.is) unopened_shut run
   run_shut (form.Serve serving) none run = ⊎_elim (λ opened. serve_shut serving.port serving.connections none opened.ends) unopened_shut run
 

@@ -4,3 +4,5 @@ pub mod AtStore
 pub mod SessionEnds
 pub mod Serving
 pub mod Runs
+pub mod Exact
+pub mod Claim

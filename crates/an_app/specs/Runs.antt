@@ -1,5 +1,5 @@
 -- How a run of a form ends, and how much of its link it reads.
-use Rattle.std.specs.Prelude.{ℤ, Bool, Option}
+use Rattle.std.specs.Prelude.{◌≡◌, ℤ, Bool, Option}
 use Rattle.an_session.specs.Session.{Line, ReadsRequests}
 use Rattle.an_world.specs.Link.{Traffic}
 use Rattle.an_lines.specs.Status.{Finds, ReadsLittle, TellsReport}
@@ -13,10 +13,11 @@ use Rattle.an_forms.specs.declared.form.Form.{Form}
 use Rattle.an_forms.specs.declared.form.Form.TheVariants as form
 
 -- How a run of a form ends, with moments that the clock tells, over a link that told these two of
--- itself, beside a door that came to this. `Find` and `Trial` open no store.
+-- itself, beside a door that came to this. `Find` and `Trial` open no store, and leave the keeper.
 abbrev pub Runs : Outside → DoorEnd → (ℤ → Bool) → Line → Line → Status → Form → Type 0
 Runs outside door clock old new status (form.Find site) =
-    Finds site outside.read_failed outside.write_failed old.traffic new.traffic status
+    (outside.after ≡ outside.before)
+    × Finds site outside.read_failed outside.write_failed old.traffic new.traffic status
 Runs outside door clock old new status form.Import =
     ImportsAt outside old.traffic new.traffic status
 Runs outside door clock old new status (form.Export by) =
@@ -26,7 +27,8 @@ Runs outside door clock old new status (form.Session site) =
 Runs outside door clock old new status (form.Serve serving) =
     ServesAt outside door serving.port serving.connections old.traffic new.traffic status
 Runs outside door clock old new status (form.Trial count seed) =
-    TellsReport (trial_report (record { count = count; seed = seed })) outside.write_failed
+    (outside.after ≡ outside.before)
+    × TellsReport (trial_report (record { count = count; seed = seed })) outside.write_failed
     old.traffic new.traffic status
 
 -- little more is read than an input may have, and of a connection no more than 1,000 requests may

@@ -1,7 +1,10 @@
 -- How a run of `serve` ends, at a store that is opened first and at a door.
-use Rattle.std.specs.Prelude.{ℕ, ◌<◌, ◌⊎◌, [], Option}
+use Rattle.std.specs.Prelude.{ℕ, ◌<◌, ◌⊎◌, [], ◌∷◌, Option}
+use Rattle.an_laws.specs.Events.{Opened}
 use Rattle.an_keep.specs.Keeper.{Told}
+use Rattle.an_shelf.specs.Opening.{WasOpened}
 use Rattle.an_state.specs.State.{State}
+use Rattle.an_store.specs.Opening.{Closes}
 use Rattle.an_world.specs.Link.{Traffic, Writes}
 use Rattle.an_door.specs.Doors.{Breaks, Serves, door_text}
 use Rattle.an_door.specs.declared.door.Tally.{Tally}
@@ -13,7 +16,7 @@ use Rattle.an_lines.specs.declared.status.Status.TheVariants.{Done, WriteFault, 
 use Rattle.an_lines.specs.declared.status.Status.TheVariants.{Refused, KeeperFailed, ReadFault}
 use Rattle.an_lines.specs.declared.status.Status.TheVariants.{DoorFailed, Memory, Damaged, NoReader}
 use Rattle.an_app.specs.Outside.{Outside}
-use Rattle.an_app.specs.Unopened.{IsCause, Unopened}
+use Rattle.an_app.specs.Unopened.{UnopenedAt}
 
 -- what a door has counted in the end, and how often it failed a call
 pub record DoorEnd : Type 0 where
@@ -44,13 +47,15 @@ serving_status ending.WriteFault = WriteFault
 serving_status ending.DoorFailed = DoorFailed
 serving_status ending.Memory = Memory
 
--- from the state with which the store was opened, behind which the keeper told this, the connections
--- were served
+-- From the state with which the store was opened the connections were served. The events of the
+-- store begin with this opening, at which the keeper told this, and the state that they lead to is
+-- left kept.
 pub record ServesOpened (outside : Outside) (door : DoorEnd) (port most : ℕ)
     (old new : Option Traffic) (status : Status) : Type 0 where
   pub state : State
+  pub opens : WasOpened outside.before outside.after state
   pub told : Told
-  pub begins : outside.begins told state
+  pub closes : Closes (Opened state told ∷ []) outside.after
   pub ends : ServesTo door outside.write_failed port most old new status
 
 -- how a run of `serve` ends
@@ -58,4 +63,4 @@ abbrev pub ServesAt
     : Outside → DoorEnd → ℕ → ℕ → Option Traffic → Option Traffic → Status → Type 0
 ServesAt outside door port most old new status =
     ServesOpened outside door port most old new status
-    ⊎ Unopened (IsCause outside) outside.write_failed old new status
+    ⊎ UnopenedAt outside old new status

@@ -1,6 +1,7 @@
 -- How a run of `session` ends: its status, and what it comes to.
 use Rattle.std.specs.Prelude.{◌≡◌, ℤ, ◌⊎◌, Bool}
 use Rattle.an_keep.specs.Keeper.{Told}
+use Rattle.an_shelf.specs.Opening.{WasOpened}
 use Rattle.an_state.specs.State.{State}
 use Rattle.an_search.specs.Site.{Site}
 use Rattle.an_session.specs.Session.{Line}
@@ -8,10 +9,10 @@ use Rattle.an_session.specs.Trail.{Known}
 use Rattle.an_session.specs.declared.ended.Ended.{Ended}
 use Rattle.an_session.specs.declared.ended.Ended.TheVariants as ended
 use Rattle.an_serve.specs.AtDesk.{Connection}
-use Rattle.an_laws.specs.Events.{Event, IsLegal, state_at, told_at}
+use Rattle.an_laws.specs.Events.{Event, IsLegal, Keeps, state_at, told_at}
 use Rattle.an_serve.specs.Events.{opened}
 use Rattle.an_app.specs.Outside.{Outside}
-use Rattle.an_app.specs.Unopened.{IsCause, Unopened}
+use Rattle.an_app.specs.Unopened.{UnopenedAt}
 use Rattle.an_lines.specs.declared.status.Status.{Status}
 use Rattle.an_lines.specs.declared.status.Status.TheVariants as status
 
@@ -27,7 +28,7 @@ ended_status ended.Memory = status.Memory
 pub record SessionOpened (outside : Outside) (clock : ℤ → Bool) (site : Site) (old new : Line)
     (end : Status) : Type 0 where
   pub state : State
-  pub opens : outside.opens state
+  pub opens : WasOpened outside.before outside.after state
   pub told : Told
   pub ended : Ended
   pub is : end ≡ ended_status ended
@@ -35,11 +36,11 @@ pub record SessionOpened (outside : Outside) (clock : ℤ → Bool) (site : Site
   pub connection : Connection outside.keeper_can_fail clock site ended old new (opened state told)
       behind
   pub legal : IsLegal behind.list
-  pub leaves : outside.leaves (told_at behind.list) (state_at behind.list)
+  pub leaves : Keeps (told_at behind.list) (state_at behind.list) outside.after
 
 -- How a run of `session` ends, with moments that the clock tells. It prints nothing of its own where
 -- the store is opened.
 abbrev pub SessionAt : Outside → (ℤ → Bool) → Site → Line → Line → Status → Type 0
 SessionAt outside clock site old new status =
     SessionOpened outside clock site old new status
-    ⊎ Unopened (IsCause outside) outside.write_failed old.traffic new.traffic status
+    ⊎ UnopenedAt outside old.traffic new.traffic status

@@ -1,5 +1,7 @@
 -- How a run ends whose store isn't opened.
 use Rattle.std.specs.Prelude.{ℕ, List, [], ◌++◌, codes, decimal, Option}
+use Rattle.an_keep.specs.Keeper.{StaysOrBegins}
+use Rattle.an_shelf.specs.Opening.{WasDamagedBy}
 use Rattle.an_shelf.specs.declared.error.OpenError.{OpenError}
 use Rattle.an_shelf.specs.declared.error.OpenError.TheVariants as error
 use Rattle.an_world.specs.Link.{Traffic}
@@ -40,8 +42,16 @@ Unopened Cause Failed old new Misunderstood = ⊥
 Unopened Cause Failed old new NoReader = ⊥
 Unopened Cause Failed old new DoorFailed = ⊥
 
--- what may keep a store from being opened
+-- what may keep a store from being opened; of damage, that the cells are damaged so which the keeper
+-- told before, where it tells them still
 abbrev pub IsCause : Outside → OpenError → Type 0
 IsCause outside error.Keeper = outside.keeper_can_fail
-IsCause outside (error.Damaged tab key) = outside.finds_damage (error.Damaged tab key)
+IsCause outside (error.Damaged tab key) =
+    WasDamagedBy outside.before outside.after (error.Damaged tab key)
 IsCause outside error.Memory = ⊥
+
+-- how a run at a keeper ends whose store isn't opened: no cell was changed
+abbrev pub UnopenedAt : Outside → Option Traffic → Option Traffic → Status → Type 0
+UnopenedAt outside old new status =
+    StaysOrBegins outside.before outside.after
+    × Unopened (IsCause outside) outside.write_failed old new status

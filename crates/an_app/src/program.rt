@@ -1,11 +1,12 @@
-ghost use Rattle.std.specs.Prelude.{◌≡◌, IfNone, IfSome, IsTrue, map, string_bytes};
+ghost use Rattle.std.specs.Prelude.{◌≡◌, IfNone, IfSome, IsSome, IsTrue, false, map, string_bytes};
 ghost use Rattle.an_base.specs.Faults.{Rises};
 ghost use Rattle.an_session.specs.Session.{line};
 ghost use Rattle.an_lines.specs.Status.{IsUnfailing, Misunderstands, ReadsLittle};
 ghost use Rattle.an_forms.specs.Form.{IsServed, form_of};
 ghost use Rattle.an_app.specs.Outside.{outside_of};
-ghost use Rattle.an_app.specs.Runs.{ReadsInput, Runs};
+ghost use Rattle.an_app.specs.Claim.{ReadsInput, Runs};
 
+use crate::ran::Ran;
 use crate::serving::serve_at;
 use crate::stored::{export_at, import_at, session_at};
 use an_door::Door;
@@ -25,7 +26,7 @@ use std::thread::Threads;
 /// over the link, or, with a port, how many are served at once and how many in all, `serve`, which
 /// serves the connections that come in at the door; or, with how many annotations and a seed,
 /// `trial`, which plays a generated input. The run ends as misunderstood for other words, where
-/// nothing is read. The door may not be bound yet.
+/// nothing is read. The door may not be bound yet. The keeper is given back, as the run left it.
 pub fn run<
     R: Threads + Wait + Sync,
     K: Keeper + Send,
@@ -41,27 +42,35 @@ pub fn run<
     link: &mut L,
     door: &mut D,
     clock: &C,
-) -> Status
+) -> Ran<K>
     requires unbound { (D.counts door.old).port ≡ 0 }
     ensures understood { IfSome (form_of (map string_bytes words.now)) (Runs
-        (outside_of K.told (K.told keeper) (¬ (IsTrue K.is_sure))
+        (outside_of (K.told keeper) (K.told result.keeper) (¬ (IsTrue K.is_sure))
         (Rises (L.read_faults link.old) (L.read_faults link.new))
         (Rises (L.write_faults link.old) (L.write_faults link.new)))
         (record { tally = D.counts door.new; faults = D.faults door.new })
         (C.answers clock.now)
         (line (L.traffic link.old) (L.read_faults link.old) (L.write_faults link.old))
-        (line (L.traffic link.new) (L.read_faults link.new) (L.write_faults link.new)) result) }
+        (line (L.traffic link.new) (L.read_faults link.new) (L.write_faults link.new))
+        result.status) }
     ensures misunderstood { IfNone (form_of (map string_bytes words.now)) (Misunderstands
         (Rises (L.write_faults link.old) (L.write_faults link.new))
-        (L.traffic link.old) (L.traffic link.new) result) }
+        (L.traffic link.old) (L.traffic link.new) result.status) }
+    ensures untouched { IfNone (form_of (map string_bytes words.now))
+        (K.told result.keeper ≡ K.told keeper) }
     ensures bounded { IfSome (form_of (map string_bytes words.now)) (ReadsInput
         (L.traffic link.old) (L.traffic link.new)) }
 
+    // A keeper of a kind that never begins to tell its cells tells them after only where it did
+    // before.
+    ensures never { K.may_begin ≡ false → IsSome (K.told result.keeper)
+        → IsSome (K.told keeper) }
+
     // Over a link that never fails all is printed, unless memory runs out. A keeper and a door that
     // never fail aren't told to have failed.
-    ensures sure_link { IsTrue L.is_sure → IsUnfailing result }
-    ensures sure_keeper { IsTrue K.is_sure → ¬ (result ≡ Status.KeeperFailed) }
-    ensures sure_door { IsTrue D.is_sure → ¬ (result ≡ Status.DoorFailed) }
+    ensures sure_link { IsTrue L.is_sure → IsUnfailing result.status }
+    ensures sure_keeper { IsTrue K.is_sure → ¬ (result.status ≡ Status.KeeperFailed) }
+    ensures sure_door { IsTrue D.is_sure → ¬ (result.status ≡ Status.DoorFailed) }
 {
     run_words(rt, alloc, words, keeper, link, door, clock)
 }
@@ -82,26 +91,37 @@ fn run_words<
     link: &mut L,
     door: &mut D,
     clock: &C,
-) -> Status
+) -> Ran<K>
     requires unbound { (D.counts door.old).port ≡ 0 }
     ensures understood { IfSome (form_of (map string_bytes words.now)) (Runs
-        (outside_of K.told (K.told keeper) (¬ (IsTrue K.is_sure))
+        (outside_of (K.told keeper) (K.told result.keeper) (¬ (IsTrue K.is_sure))
         (Rises (L.read_faults link.old) (L.read_faults link.new))
         (Rises (L.write_faults link.old) (L.write_faults link.new)))
         (record { tally = D.counts door.new; faults = D.faults door.new })
         (C.answers clock.now)
         (line (L.traffic link.old) (L.read_faults link.old) (L.write_faults link.old))
-        (line (L.traffic link.new) (L.read_faults link.new) (L.write_faults link.new)) result) }
+        (line (L.traffic link.new) (L.read_faults link.new) (L.write_faults link.new))
+        result.status) }
     ensures misunderstood { IfNone (form_of (map string_bytes words.now)) (Misunderstands
         (Rises (L.write_faults link.old) (L.write_faults link.new))
-        (L.traffic link.old) (L.traffic link.new) result) }
+        (L.traffic link.old) (L.traffic link.new) result.status) }
+    ensures untouched { IfNone (form_of (map string_bytes words.now))
+        (K.told result.keeper ≡ K.told keeper) }
     ensures bounded { IfSome (form_of (map string_bytes words.now)) (ReadsInput
         (L.traffic link.old) (L.traffic link.new)) }
+    ensures never { K.may_begin ≡ false → IsSome (K.told result.keeper)
+        → IsSome (K.told keeper) }
 {
     match form_of(alloc, words) {
         Ok(Some(form)) => run_form(rt, alloc, form, keeper, link, door, clock),
-        Ok(None) => misunderstood(link),
-        Err(_) => Status::Memory,
+        Ok(None) => Ran {
+            status: misunderstood(link),
+            keeper,
+        },
+        Err(_) => Ran {
+            status: Status::Memory,
+            keeper,
+        },
     }
 }
 
@@ -113,32 +133,35 @@ fn run_form<
     T: Link + Send,
     D: Door<AtStores<K>, Link = T> + Send,
     C: Clock + Sync,
->(rt: &R, alloc: Global, form: Form, keeper: K, link: &mut L, door: &mut D, clock: &C) -> Status
+>(rt: &R, alloc: Global, form: Form, keeper: K, link: &mut L, door: &mut D, clock: &C) -> Ran<K>
     requires served { IsServed form }
     requires unbound { (D.counts door.old).port ≡ 0 }
     ensures runs { Runs
-        (outside_of K.told (K.told keeper) (¬ (IsTrue K.is_sure))
+        (outside_of (K.told keeper) (K.told result.keeper) (¬ (IsTrue K.is_sure))
         (Rises (L.read_faults link.old) (L.read_faults link.new))
         (Rises (L.write_faults link.old) (L.write_faults link.new)))
         (record { tally = D.counts door.new; faults = D.faults door.new })
         (C.answers clock.now)
         (line (L.traffic link.old) (L.read_faults link.old) (L.write_faults link.old))
-        (line (L.traffic link.new) (L.read_faults link.new) (L.write_faults link.new)) result form }
+        (line (L.traffic link.new) (L.read_faults link.new) (L.write_faults link.new))
+        result.status form }
     ensures bounded { ReadsInput (L.traffic link.old) (L.traffic link.new) form }
+    ensures never { K.may_begin ≡ false → IsSome (K.told result.keeper)
+        → IsSome (K.told keeper) }
 {
     match form {
-        Form::Find(settings) => {
-            drop(keeper);
-            find(alloc, link, &settings)
-        }
+        Form::Find(settings) => Ran {
+            status: find(alloc, link, &settings),
+            keeper,
+        },
         Form::Import => import_at(alloc, link, keeper),
         Form::Export(by) => export_at(alloc, link, keeper, by.as_str()),
         Form::Session(settings) => session_at(alloc, link, keeper, &settings, clock),
         Form::Serve(serving) => serve_at(rt, alloc, keeper, link, &serving, door, clock),
-        Form::Trial { count, seed } => {
-            drop(keeper);
-            trial(alloc, link, count, seed)
-        }
+        Form::Trial { count, seed } => Ran {
+            status: trial(alloc, link, count, seed),
+            keeper,
+        },
     }
 }
 

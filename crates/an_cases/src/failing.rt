@@ -1,7 +1,9 @@
-//! Requests at a desk and at a store of one seat, whose keeper fails a call.
+//! Requests at a desk and at a store of one seat, whose keeper fails a call; and one at the first of
+//! two seats.
 ghost use Rattle.std.specs.Prelude.{◌≡◌, ◌<◌, length};
 
 use crate::play::{fresh_link, with_lines};
+use crate::seats::play_seats;
 use crate::stores::cells;
 use an_app::{session, session_at_desk};
 use an_calls::{Answers, RowError, number, two_words};
@@ -19,7 +21,8 @@ use std::sync::Wait;
 /// Answers rows by the requests of a case at a store into which its lines were imported, each over
 /// a link of its own, and sent once more where the keeper failed: `desk 7` or `store 7`, where the
 /// seventh call of the keeper fails, counted from the first of the import. It is answered with the
-/// statuses, and whether the cells at the end are those of no failing call.
+/// statuses, and whether the cells at the end are those of no failing call. Or by the first request
+/// at the first of two seats: `seats 0`, or `seats 1`, where the first read of its link fails.
 #[derive(Drop)]
 pub struct Failing<'a, R: Wait> {
     rt: &'a R,
@@ -41,6 +44,17 @@ impl<'a, R: Wait> Failing<'a, R> {
         fail.push(failing)?;
         let keeper = MemKeeper::new(Vec::new(alloc), fail);
         Ok(with_lines(alloc, keeper, self.lines)?)
+    }
+
+    fn play_at_seats(&self, alloc: Global, unread: u64) -> Result<String, RowError> {
+        let keeper = self.keeper(alloc, 0)?;
+        let Ok(settings) = read_settings(alloc, "http://a.example", "10") else {
+            return Err(RowError::Memory);
+        };
+        match self.requests.first() {
+            Some(request) => play_seats(self.rt, alloc, keeper, &settings, request.as_slice(), unread),
+            None => Err(RowError::Form),
+        }
     }
 
     /// The statuses and the cells at the end.
@@ -67,6 +81,9 @@ struct Played {
 impl<'a, R: Wait> Answers for Failing<'a, R> {
     fn answer(&mut self, alloc: Global, argument: &str) -> Result<String, RowError> {
         let (place, call) = two_words(argument)?;
+        if place == "seats" {
+            return self.play_at_seats(alloc, number(call)?);
+        }
         let played = self.play(alloc, place, number(call)?)?;
         let due = self.play(alloc, place, 0)?;
         let cells = if played.cells.as_str() == due.cells.as_str() {
@@ -82,7 +99,7 @@ impl<'a, R: Wait> Answers for Failing<'a, R> {
 const ROOM: usize = 65_536;
 
 /// The status of the reply that was written.
-fn status(link: &MemLink) -> &str {
+pub(crate) fn status(link: &MemLink) -> &str {
     let line = from_utf8(link.written()).unwrap_or("?");
     line.split_ascii_whitespace().nth(1).unwrap_or("none")
 }

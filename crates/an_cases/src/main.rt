@@ -4,6 +4,7 @@
 
 mod failing;
 mod play;
+mod seats;
 mod stores;
 mod sure_runs;
 

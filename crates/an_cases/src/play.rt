@@ -6,7 +6,7 @@ ghost use Rattle.an_door.specs.Ends.{IsFresh};
 use crate::failing::Failing;
 use crate::stores::Stores;
 use crate::sure_runs::SureRuns;
-use an_app::{AtStores, Finished, MemDoor, import, run};
+use an_app::{AtStores, Finished, MemDoor, import, run_in_memory};
 use an_base::{Bytes, TryCopy};
 use an_calls::{Answers, TwinRows};
 use an_keep::{Cell, Change, KeepError, Keeper, MemKeeper};
@@ -71,7 +71,9 @@ fn play_run<R: Threads + Wait + Sync>(
     )?;
     let clock = SetClock(case.clock);
     let words = case.words.as_slice();
-    let status = run(rt, alloc, words, keeper, &mut link, &mut door, &clock).code();
+    let status = run_in_memory(rt, alloc, words, keeper, &mut link, &mut door, &clock)
+        .status
+        .code();
     what_came(alloc, status, link.written(), door.finished())
 }
 

@@ -86,7 +86,7 @@ fn open_desk(
 ) -> Result<Result<Box<Desk<MemKeeper>>, OpenError>, AllocError> {
     match Desk::open(alloc, keeper) {
         Ok(desk) => Ok(Ok(Box::new(alloc, desk)?)),
-        Err(error) => Ok(Err(error)),
+        Err(unopened) => Ok(Err(unopened.why)),
     }
 }
 

@@ -26,5 +26,5 @@ kept-told before s (Wrote write told ∷ events) (accepts, keeps, kept) some =
 
 pub writes_told : (events : List Event) → IsLegal events → IsSome (told_at events) → AreTold empty events
 writes_told [] legal some = absurd legal
-writes_told (Opened s told ∷ events) (are, kept) some = let (first, rest) = kept-told told s events kept some in (is-told told s are first, rest)
+writes_told (Opened s told ∷ events) (valid, sound, are, kept) some = let (first, rest) = kept-told told s events kept some in (is-told told s are first, rest)
 writes_told (Wrote write told ∷ events) legal some = absurd legal

@@ -21,6 +21,8 @@ use Rattle.an_machine.specs.declared.asked.Asked.TheVariants as put
 use Rattle.an_state.specs.declared.command.Object.TheVariants as object
 use Rattle.an_state.proofs.DistinctLemmas.{distinct-with_rows, notes-distinct}
 use Rattle.an_machine.specs.Legal.{Write, Accepts, Legal, state_of}
+use Rattle.an_keep.specs.Keeper.{Told}
+use Rattle.an_laws.specs.Events.{AreKept, Event, IsLegal, Opened, Wrote, state_at, state_behind}
 use Rattle.an_laws.proofs.DropLemmas.{dropped, with_rows-dropped}
 use Rattle.an_laws.proofs.MomentLemmas.{not_below-self, moments-rise}
 use Rattle.an_laws.proofs.RefusalLemmas.{asked-agrees, reader-untaken, note-based}
@@ -165,4 +167,15 @@ pub histories-sound : (s : State) (writes : List Write) → Legal s writes → I
 histories-sound s [] legal sound = sound
 histories-sound s (write ∷ writes) legal sound = histories-sound (after s write.entry) writes legal.1 (sound-after s write legal.0 sound)
 
-pub ruleset soundness = (empty-sound, sound-after, histories-sound)
+-- and each list of events that were kept
+events-sound : (before : Told) (s : State) (events : List Event) → AreKept before s events → IsTrue (is_sound s) → IsTrue (is_sound (state_behind s events))
+events-sound before s [] kept sound = sound
+events-sound before s (Opened found told ∷ events) kept sound = absurd kept
+events-sound before s (Wrote write told ∷ events) (accepts, keeps, kept) sound = events-sound told (after s write.entry) events kept (sound-after s write accepts sound)
+
+pub lists-sound : (events : List Event) → IsLegal events → IsTrue (is_sound (state_at events))
+lists-sound [] legal = absurd legal
+lists-sound (Opened s told ∷ events) (valid, sound, are, kept) = events-sound told s events kept sound
+lists-sound (Wrote write told ∷ events) legal = absurd legal
+
+pub ruleset soundness = (empty-sound, sound-after, histories-sound, lists-sound)

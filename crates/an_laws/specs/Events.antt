@@ -1,10 +1,12 @@
 -- What happened to a store, one event behind another.
-use Rattle.std.specs.Prelude.{◌≡◌, ℤ, List, [], ◌∷◌, map, Option, Some, None, IfSome, ⊤}
+use Rattle.std.specs.Prelude.{◌≡◌, ℤ, List, [], ◌∷◌, map, Option, Some, None, IfSome, IsTrue, ⊤}
 use Rattle.an_keep.specs.Keeper.{Told, Turns}
 use Rattle.an_machine.specs.Legal.{Accepts, Write}
 use Rattle.an_policy.specs.declared.who.Caller.{Caller}
 use Rattle.an_rows.specs.Cells.{cells}
+use Rattle.an_rows.specs.Valid.{is_valid}
 use Rattle.an_state.specs.Entries.{after}
+use Rattle.an_state.specs.Sound.{is_sound}
 use Rattle.an_state.specs.State.{State, empty}
 use Rattle.an_state.specs.declared.command.Command.{Command}
 use Rattle.an_state.specs.declared.entry.Entry.{Entry}
@@ -58,11 +60,13 @@ AreKept before s (Wrote write told ∷ events) =
     Accepts s write × Keeps before (after s write.entry) told
     × AreKept told (after s write.entry) events
 
--- a list of events begins with the opening, where the cells told are those of the state, and only
--- writes that are accepted and kept stand behind it
+-- A list of events begins with the opening of a valid and sound state, whose cells are those that
+-- were told then, and only writes that are accepted and kept stand behind it.
 abbrev pub IsLegal : List Event → Type 0
 IsLegal [] = ⊥
-IsLegal (Opened s told ∷ events) = IfSome told (λ found. found ≡ cells s) × AreKept told s events
+IsLegal (Opened s told ∷ events) =
+    IsTrue (is_valid s) × IsTrue (is_sound s) × IfSome told (λ found. found ≡ cells s)
+    × AreKept told s events
 IsLegal (Wrote write told ∷ events) = ⊥
 
 -- the keeper told its cells behind each event, and they were those of the state that it led to

@@ -1,5 +1,11 @@
 //! What the definitions of the small machine promise in every history. Each law is the contract of
 //! a function that does nothing.
+//!
+//! ```text
+//! numbers_rise()        ensures that of two accepted writes of one object the later has the higher
+//!                       number
+//! histories_are_kept()  ensures that the cells of a state stand for it, whatever led to it
+//! ```
 #![tactic(auto)]
 
 pub use coherence::{states_stay_coherent, views_are_told};

@@ -1,5 +1,11 @@
 //! What is published of a store that threads share: the history of its writes, a snapshot of the
 //! state behind each beginning of it, and the seats from which readers look.
+//!
+//! ```text
+//! seat.look()        Ok(shown), which waits for nobody: what is published, or Err(seat) once closed
+//! shown.snapshot()   the state behind all writes that the seat sees
+//! shown.leave()      the seat again
+//! ```
 #![tactic(auto)]
 
 pub use copy::look_at;

@@ -10,7 +10,9 @@ use Rattle.an_session.specs.declared.ended.Ended.TheVariants as ended
 use Rattle.an_published.specs.Lists.{Seated}
 use Rattle.an_world.specs.Link.{Traffic}
 use Rattle.an_door.specs.Ends.{EndsWith, IsCaused}
-use Rattle.an_seats.specs.Seats.{Sitting}
+use mathlib.Core.List.{IsPrefix}
+use Rattle.an_session.proofs.LawLemmas.{ran_prefix}
+use Rattle.an_seats.specs.Seats.{Sitting, known_at, store_rules}
 
 ends-with : (read front tail : List ℕ) (old new : Option Traffic) → Moves read (front ++ tail) old new → EndsWith tail new
 ends-with read front tail None None moves = tt
@@ -32,3 +34,8 @@ caused ended.Memory old new read trail lost tail rest moves (few, last, told) = 
 
 pub sitting-caused : (Unsure : Type 0) (clock : ℤ → Bool) (site : Site) (ended : Ended) (old new : Line) (from to : Seated) → Sitting Unsure clock site ended old new from to → IsCaused ended old new
 sitting-caused Unsure clock site ended old new from to h = let s = h.session in caused ended old new s.read s.trail s.lost s.tail s.rest s.moves s.ends
+
+-- a connection at a seat leaves it with a list that goes on from the one that it saw
+pub sitting-later : (Unsure : Type 0) (clock : ℤ → Bool) (site : Site) (ended : Ended) (old new : Line) (from to : Seated) → Sitting Unsure clock site ended old new from to → IsPrefix from.seen to.seen
+sitting-later Unsure clock site ended old new from to h =
+    ran_prefix (store_rules Unsure clock site) (h.session.trail ++ h.session.lost) (known_at from 0) (known_at to h.faults) h.session.ran

@@ -1,6 +1,7 @@
 -- How a store that others write to meanwhile answers at one of its seats, and what a connection
 -- there comes to.
-use Rattle.std.specs.Prelude.{ℕ, ℤ, Bool, true}
+use Rattle.std.specs.Prelude.{ℕ, ℤ, Bool, List, true}
+use mathlib.Core.List.{IsPrefix}
 use Rattle.an_laws.specs.Events.{Event}
 use Rattle.an_search.specs.Site.{Site}
 use Rattle.an_serve.specs.AtDesk.{Answered}
@@ -12,6 +13,10 @@ use Rattle.an_published.specs.Lists.{Seated}
 -- by what a store answers that others write to meanwhile
 abbrev pub store_rules : Type 0 → (ℤ → Bool) → Site → Rules Event
 store_rules Unsure clock site = record { shared = true; answers = Answered Unsure clock site }
+
+-- the list of a seat goes on from each of these lists
+abbrev pub GoesOn : (List Event → Type 0) → Seated → Type 0
+GoesOn since seat = (list : List Event) → since list → IsPrefix list seat.seen
 
 -- what is known at a seat: the events that it saw, those of its own writes, and so many faults
 abbrev pub known_at : Seated → ℕ → Known Event

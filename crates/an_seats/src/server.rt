@@ -5,7 +5,7 @@ use an_search::Settings;
 use an_store::{Naming, Seat, Store};
 use an_world::{Clock, Link};
 use std::alloc::Global;
-use std::marker::PhantomData;
+use std::marker::{Brand, PhantomData};
 use std::sync::Wait;
 
 /// The sessions at stores with this kind of keeper.
@@ -21,36 +21,53 @@ impl<K: Keeper> SessionKind for AtStores<K> {
     ghost ran = { SatSomewhere (¬ (IsTrue K.is_sure)) };
 }
 
+/// Which lists the seats of a server go on from. A program has it for contracts only.
+pub trait Since {
+    ghost use Rattle.std.specs.Prelude.{List};
+    ghost use Rattle.an_laws.specs.Events.{Event};
+
+    // The list of each seat goes on from every list of which this holds.
+    ghost since: { List Event → Type 0 };
+}
+
+impl Since for Brand {
+    ghost since = { λ list. ⊥ };
+}
+
 /// A store that serves links at its seats, by these settings and this clock.
 #[derive(Drop)]
-pub struct Server<'a, K: Keeper, J: Naming, C: Clock> {
+pub struct Server<'a, K: Keeper, J: Naming, C: Clock, F: Since> {
     store: &'a Store<K, J>,
     settings: &'a Settings,
     clock: &'a C,
+    of: PhantomData<F>,
 }
 
-impl<'a, K: Keeper, J: Naming, C: Clock> Server<'a, K, J, C> {
+impl<'a, K: Keeper, J: Naming, C: Clock, F: Since> Server<'a, K, J, C, F> {
     pub fn new(
         store: &'a Store<K, J>,
         settings: &'a Settings,
         clock: &'a C,
-    ) -> Server<'a, K, J, C> {
+    ) -> Server<'a, K, J, C, F> {
         Server {
             store,
             settings,
             clock,
+            of: PhantomData,
         }
     }
 }
 
-impl<'a, K: Keeper, J: Naming, C: Clock> Sessions for Server<'a, K, J, C> {
+impl<'a, K: Keeper, J: Naming, C: Clock, F: Since> Sessions for Server<'a, K, J, C, F> {
     type Seat = Seat;
 
     type Kind = AtStores<K>;
 
     ghost use Rattle.std.specs.Prelude.{◌≡◌};
+    ghost use Rattle.an_seats.specs.Seats.{GoesOn};
 
-    ghost has_seat = { λ server seat. seat.book ≡ J.book };
+    // It is one of the store, and its list goes on from those lists.
+    ghost has_seat = { λ server seat. (seat.book ≡ J.book) × GoesOn F.since seat };
 
     fn session<R: Wait, L: Link>(
         &self,

@@ -20,7 +20,7 @@ use Rattle.an_session.specs.Session.{Line, ReadsRequests, Session}
 use Rattle.an_session.specs.Trail.{Answers, Comes, Goes, Known, Rests}
 use Rattle.an_session.specs.declared.ended.Ended.{Ended}
 use Rattle.an_session.proofs.LawLemmas.{ran_one, session_reads}
-use Rattle.an_shelf.specs.Store.{Store, settled}
+use Rattle.an_shelf.specs.Store.{Stands, Store, settled}
 use Rattle.an_shelf.specs.Writing.{IsRefused, IsToKeep, Leaves, RunsOut, Writes}
 use Rattle.an_shelf.specs.declared.error.WriteError.{WriteError}
 use Rattle.an_shelf.specs.declared.error.WriteError.TheVariants as error
@@ -177,7 +177,7 @@ kept-on before s (Wrote write told ∷ first) second (accepts, keeps, kept) more
 
 legal-on : (events added : List Event) → IsLegal events → AreKept (told_at events) (state_at events) added → IsLegal (events ++ added)
 legal-on [] added legal more = absurd legal
-legal-on (Opened s told ∷ events) added (are, kept) more = (are, kept-on told s events added kept more)
+legal-on (Opened s told ∷ events) added (valid, sound, are, kept) more = (valid, sound, are, kept-on told s events added kept more)
 legal-on (Wrote write told ∷ events) added legal more = absurd legal
 
 -- ---- what was accepted
@@ -298,13 +298,18 @@ desk-connection Unsure clock site ended before behind old new h = record {
 }
 
 -- a desk stands for its state, with which it was opened
-pub stands-opened : (desk : Store) → IfSome desk.told (λ found. found ≡ cells desk.state) → StandsFor desk (opened desk.state desk.told)
-stands-opened desk are = record { legal = (are, tt); state = refl; keeps = keeps-still desk.told desk.state are; counted = λ below. omega arith }
+pub stands-opened : (desk : Store) → Stands desk.told desk.state → StandsFor desk (opened desk.state desk.told)
+stands-opened desk its = record {
+  legal = (its.valid, its.sound, its.cells_are, tt);
+  state = refl;
+  keeps = keeps-still desk.told desk.state its.cells_are;
+  counted = λ below. omega arith;
+}
 
-pub desk-reads : (Unsure : Type 0) (clock : ℤ → Bool) (site : Site) (ended : Ended) (before behind : Line) (old new : Store) → IfSome old.told (λ found. found ≡ cells old.state)
+pub desk-reads : (Unsure : Type 0) (clock : ℤ → Bool) (site : Site) (ended : Ended) (before behind : Line) (old new : Store) → Stands old.told old.state
     → Goes StandsFor (Session (desk_rules Unsure clock site) ended before behind) old new → ReadsRequests before.traffic behind.traffic
-desk-reads Unsure clock site ended before behind old new are h =
-    let (to, stands, session) = h.goes (opened old.state old.told) (stands-opened old are) in
+desk-reads Unsure clock site ended before behind old new its h =
+    let (to, stands, session) = h.goes (opened old.state old.told) (stands-opened old its) in
     session_reads (desk_rules Unsure clock site) ended before behind (opened old.state old.told) to session
 
 -- ---- what is told of a write

@@ -11,7 +11,7 @@ use Rattle.an_rows.specs.Cells as rows
 use Rattle.an_rows.proofs.RestoreLemmas.{cells-read-back}
 use Rattle.an_state.specs.Sound.{is_sound}
 use Rattle.an_state.specs.State.{State}
-use Rattle.an_shelf.specs.Opening.{IsDamagedBy, StandFor, WasDamagedBy}
+use Rattle.an_shelf.specs.Opening.{IsDamagedBy, StandFor}
 use Rattle.an_shelf.specs.Store.{Stands, Store}
 use Rattle.an_shelf.specs.declared.error.OpenError.{OpenError}
 use Rattle.an_shelf.specs.declared.error.OpenError.TheVariants.{Damaged}
@@ -41,12 +41,12 @@ while-told (Some old) (Some new) P Q follows holds = follows holds
 -- ---- a desk that was opened with the cells of one that was closed
 
 module _ (desk : Store) (stand : StandFor desk.told desk.state) (kept : Told) (is : kept ≡ desk.told) where
-  pub again-same : (result : Result Store OpenError) → IfOk result (λ again. StandFor again.told again.state) → IfOk result (λ again. StaysOrBegins kept again.told)
+  pub again-same : {E : Type 0} (result : Result Store E) → IfOk result (λ again. StandFor again.told again.state) → IfOk result (λ again. StaysOrBegins kept again.told)
       → IfOk result (λ again. WhileTold desk.told again.told (again.state ≡ desk.state))
   again-same (Err error) stands stays = tt
   again-same (Ok again) stands stays = same-state desk.told again.told desk.state again.state stand (subst (λ told. StaysOrBegins told again.told) is stays) stands
 
-  pub again-nothing : (result : Result Store OpenError) → IfOk result (λ again. WhileTold desk.told again.told (again.state ≡ desk.state))
+  pub again-nothing : {E : Type 0} (result : Result Store E) → IfOk result (λ again. WhileTold desk.told again.told (again.state ≡ desk.state))
       → (s : State) (before behind : List Write) (write : Write) (moment : ℤ) (caller : Caller) → IsTrue (is_sound s) → Legal s (before ++ (write ∷ behind))
       → desk.state ≡ state_of s (before ++ (write ∷ behind))
       → IfOk result (λ again. WhileTold desk.told again.told (AddsNothing (step again.state moment caller write.command)))
@@ -58,19 +58,18 @@ module _ (desk : Store) (stand : StandFor desk.told desk.state) (kept : Told) (i
 
 -- ---- damage
 
-module _ {K : Type 0} (told : K → Told) (s : State) (tab key : ℕ) where
-  untold : (old new : Told) → StandFor old s → IsSome old → StaysOrBegins old new → IsDamagedBy new (Damaged tab key) → new ≡ None
-  untold old None stand some stays damaged = refl
-  untold None (Some new) stand some stays damaged = absurd (cc)
-  untold (Some old) (Some new) stand some stays damaged =
-      let clash : ◌≡◌ {A = Result State rows.Place} (Ok s) (Err (record { tab = tab; key = key })) = sym stand ∙ sym (ap rows.state_of stays) ∙ damaged in
-      absurd (cc)
+-- the cells of a desk aren't damaged
+undamaged : (s : State) (tab key : ℕ) (old kept new : Told) → kept ≡ old → StandFor old s → StaysOrBegins kept new → (why : OpenError) → IsDamagedBy new why → WhileTold old new (¬ (why ≡ Damaged tab key))
+undamaged s tab key old kept None same stand stays why damaged = tt
+undamaged s tab key None kept (Some new) same stand stays why damaged = tt
+undamaged s tab key (Some old) kept (Some new) same stand stays why damaged = λ is.
+    let still : new ≡ old = subst (λ told. StaysOrBegins told (Some new)) same stays in
+    let found : rows.state_of new ≡ Err (record { tab = tab; key = key }) = subst (IsDamagedBy (Some new)) is damaged in
+    let clash : ◌≡◌ {A = Result State rows.Place} (Ok s) (Err (record { tab = tab; key = key })) = sym stand ∙ sym (ap rows.state_of still) ∙ found in
+    absurd (cc)
 
-  -- the cells of a desk are told as damaged only by a keeper that tells them no more
-  pub damaged-untold : (old kept : Told) → kept ≡ old → StandFor old s → IsSome old → (result : Result Store OpenError) → IfErr result (WasDamagedBy told kept)
-      → result ≡ Err (Damaged tab key) → (keeper : K) × (told keeper ≡ None)
-  damaged-untold old kept same stand some (Ok desk) was is = absurd (cc)
-  damaged-untold old kept same stand some (Err error) was is =
-      let so : error ≡ Damaged tab key = cc in
-      let damaged = subst (IsDamagedBy (told was.kept)) so was.damaged in
-      (was.kept, untold old (told was.kept) stand some (subst (λ t. StaysOrBegins t (told was.kept)) same was.stays) damaged)
+module _ {D E : Type 0} (told_by : E → Told) (why_of : E → OpenError) (s : State) (tab key : ℕ) (old kept : Told) (same : kept ≡ old) (stand : StandFor old s) where
+  pub again-undamaged : (result : Result D E) → IfErr result (λ its. StaysOrBegins kept (told_by its)) → IfErr result (λ its. IsDamagedBy (told_by its) (why_of its))
+      → IfErr result (λ its. WhileTold old (told_by its) (¬ (why_of its ≡ Damaged tab key)))
+  again-undamaged (Ok desk) stays damaged = tt
+  again-undamaged (Err its) stays damaged = undamaged s tab key old kept (told_by its) same stand stays (why_of its) damaged

@@ -1,6 +1,6 @@
 -- What comes of opening the cells of a keeper.
 use Rattle.std.specs.Prelude.{◌≡◌, IfSome, Ok, Err, ⊤}
-use Rattle.an_keep.specs.Keeper.{Told, StaysOrBegins}
+use Rattle.an_keep.specs.Keeper.{Told, WhileTold}
 use Rattle.an_state.specs.State.{State}
 use Rattle.an_rows.specs.Cells.{state_of}
 use Rattle.an_shelf.specs.declared.error.OpenError.{OpenError}
@@ -10,12 +10,6 @@ use Rattle.an_shelf.specs.declared.error.OpenError.TheVariants.{Keeper, Damaged,
 abbrev pub StandFor : Told → State → Type 0
 StandFor told s = IfSome told (λ cells. state_of cells ≡ Ok s)
 
--- the same of a keeper as it was once it was opened; no call of it had changed its cells
-pub record WasOpened {K : Type 0} (told : K → Told) (old : Told) (s : State) : Type 0 where
-  pub kept : K
-  pub stays : StaysOrBegins old (told kept)
-  pub stand : StandFor (told kept) s
-
 -- of damage: the cells stand for no state, and the first damaged one is there
 abbrev pub IsDamagedBy : Told → OpenError → Type 0
 IsDamagedBy told (Damaged tab key) =
@@ -23,8 +17,11 @@ IsDamagedBy told (Damaged tab key) =
 IsDamagedBy told Keeper = ⊤
 IsDamagedBy told Memory = ⊤
 
--- the same of a keeper that is gone, as it was then; no call of it had changed its cells
-pub record WasDamagedBy {K : Type 0} (told : K → Told) (old : Told) (error : OpenError) : Type 0 where
-  pub kept : K
-  pub stays : StaysOrBegins old (told kept)
-  pub damaged : IsDamagedBy (told kept) error
+-- A keeper that told this before some calls, and tells this after them, was opened with this state:
+-- while it tells, the cells that it told before stand for the state.
+abbrev pub WasOpened : Told → Told → State → Type 0
+WasOpened before after s = WhileTold before after (StandFor before s)
+
+-- The same of one that wasn't opened: while it tells, the cells that it told before are damaged so.
+abbrev pub WasDamagedBy : Told → Told → OpenError → Type 0
+WasDamagedBy before after error = WhileTold before after (IsDamagedBy before error)

@@ -1,13 +1,13 @@
 ghost use Rattle.std.specs.Prelude.{◌≡◌, ◌≤◌, Err, IfErr, IfOk, IfSome, IsOk, IsTrue, None};
-ghost use Rattle.std.specs.Prelude.{OnErr, OnOk};
+ghost use Rattle.std.specs.Prelude.{OnErr, OnOk, false};
 ghost use Rattle.an_base.specs.Faults.{Rises};
-ghost use Rattle.an_keep.specs.Keeper.{StaysOrBegins, Turns};
+ghost use Rattle.an_keep.specs.Keeper.{Stays, StaysOrBegins, Turns};
 ghost use Rattle.an_state.specs.Commands.{is_sendable};
 ghost use Rattle.an_state.specs.Sound.{is_sound};
 ghost use Rattle.an_machine.specs.Step.{step};
 ghost use Rattle.an_rows.specs.Cells.{cells};
 ghost use Rattle.an_rows.specs.Valid.{is_valid};
-ghost use Rattle.an_shelf.specs.Opening.{StandFor, WasDamagedBy, WasOpened};
+ghost use Rattle.an_shelf.specs.Opening.{IsDamagedBy, StandFor, WasDamagedBy, WasOpened};
 ghost use Rattle.an_shelf.specs.Store.{Rests, settled};
 ghost use Rattle.an_shelf.specs.Writing.{IsRefused, Leaves, RunsOut, Writes};
 
@@ -52,17 +52,35 @@ impl<K: Keeper> Model for Desk<K> {
         × (d.book.state ≡ behind d.front) };
 }
 
+/// Why a keeper wasn't opened, and the keeper, no cell of which was changed.
+#[derive(Drop)]
+pub struct NotOpened<K: Keeper> {
+    pub why: OpenError,
+    pub keeper: K,
+}
+
 impl<K: Keeper> Desk<K> {
     /// Opens a keeper: the state is the one that its cells stand for. Where it is refused, the
-    /// keeper is gone, and no cell of it was changed.
-    pub fn open(alloc: Global, mut keeper: K) -> Result<Desk<K>, OpenError>
+    /// keeper is given back, and no cell of it was changed.
+    pub fn open(alloc: Global, mut keeper: K) -> Result<Desk<K>, NotOpened<K>>
         ensures state { IfOk result (λ desk. StandFor desk.told desk.state) }
         ensures stays { IfOk result (λ desk. StaysOrBegins (K.told keeper) desk.told) }
         ensures cells { IfOk result (λ desk. IfSome desk.told (λ found. found
             ≡ cells desk.state)) }
-        ensures opened { IfOk result (λ desk. WasOpened K.told (K.told keeper) desk.state) }
-        ensures damaged { IfErr result (WasDamagedBy K.told (K.told keeper)) }
-        ensures sure { IsTrue K.is_sure → ¬ (result ≡ Err OpenError.Keeper) }
+        ensures opened { IfOk result
+            (λ desk. WasOpened (K.told keeper) desk.told desk.state) }
+        ensures never { IfOk result
+            (λ desk. K.may_begin ≡ false → Stays (K.told keeper) desk.told) }
+
+        // Where it is refused.
+        ensures refused { IfErr result (λ its. IsDamagedBy (K.told its.keeper) its.why) }
+        ensures kept { IfErr result
+            (λ its. StaysOrBegins (K.told keeper) (K.told its.keeper)) }
+        ensures damaged { IfErr result
+            (λ its. WasDamagedBy (K.told keeper) (K.told its.keeper) its.why) }
+        ensures never_refused { IfErr result
+            (λ its. K.may_begin ≡ false → Stays (K.told keeper) (K.told its.keeper)) }
+        ensures sure { IfErr result (λ its. IsTrue K.is_sure → ¬ (its.why ≡ OpenError.Keeper)) }
 
         // Whether the cells are told or not.
         ensures valid { IfOk result (λ desk. IsTrue (is_valid desk.state)) }
@@ -72,13 +90,18 @@ impl<K: Keeper> Desk<K> {
         ensures shown { IfOk result (λ desk. desk.shown ≡ desk.state) }
         ensures nothing_waits { IfOk result (λ desk. desk.waiting ≡ None) }
     {
-        let Loaded { book, snapshot } = load(alloc, &mut keeper)?;
-        let front = Front::new(snapshot);
-        Ok(Desk {
-            keeper,
-            book,
-            front,
-        })
+        match load(alloc, &mut keeper) {
+            Ok(loaded) => {
+                let Loaded { book, snapshot } = loaded;
+                let front = Front::new(snapshot);
+                Ok(Desk {
+                    keeper,
+                    book,
+                    front,
+                })
+            }
+            Err(why) => Err(NotOpened { why, keeper }),
+        }
     }
 
     /// Does a write, whose number is from 1 to 999,999,999 and whose group is a group: it is

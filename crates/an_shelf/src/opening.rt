@@ -1,4 +1,4 @@
-ghost use Rattle.std.specs.Prelude.{◌≡◌, ◌≤◌, IfErr, IfOk, IfSome, IsTrue, OnOk, Some, []};
+ghost use Rattle.std.specs.Prelude.{◌≡◌, ◌≤◌, IfErr, IfOk, IfSome, IsTrue, OnOk, Some, [], false};
 ghost use Rattle.an_keep.specs.Cells.{Ascend, first_of};
 ghost use Rattle.an_base.specs.Faults.{Rises};
 ghost use Rattle.an_keep.specs.Keeper.{Stays, StaysOrBegins};
@@ -44,6 +44,7 @@ pub fn load<K: Keeper>(alloc: Global, keeper: &mut K) -> Result<Loaded, OpenErro
     ensures state { IfOk result (λ its. StandFor (K.told keeper.new) its.book.state) }
     ensures damaged { IfErr result (IsDamagedBy (K.told keeper.new)) }
     ensures stays { StaysOrBegins (K.told keeper.old) (K.told keeper.new) }
+    ensures never { K.may_begin ≡ false → Stays (K.told keeper.old) (K.told keeper.new) }
     ensures counted { result ≡ Err OpenError.Keeper
         → Rises (K.faults keeper.old) (K.faults keeper.new) }
     ensures faults_kept { K.faults keeper.old ≤ K.faults keeper.new }

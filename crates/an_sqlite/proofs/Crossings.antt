@@ -45,14 +45,11 @@ use Rattle.sqlite_disk.specs.declared.start.Start as Start
 use Rattle.sqlite_disk.specs.contracts.modelled.Modelled as Modelled
 use Rattle.sqlite_std_file.specs.contracts.record.Record as Record
 use Rattle.sqlite_std_file.specs.contracts.host.Host as Host
-use Rattle.an_base.specs.contracts.text.Text as Text
 use Rattle.an_sqlite.specs.contracts.ahead.Ahead as Ahead
 use Rattle.an_sqlite.specs.contracts.base.Base as Base
-use Rattle.an_sqlite.specs.contracts.opens.HostFiles as HostFiles
 use Rattle.an_sqlite.specs.contracts.place.Place as Place
 use Rattle.an_sqlite.specs.contracts.teller.Teller as Teller
 use Rattle.an_sqlite.specs.contracts.keeper.SqlKeeper as SqlKeeper
-use Rattle.an_sqlite.specs.contracts.file.FileKeeper as FileKeeper
 
 row_send : IsSend Row.the_row
 row_send = search (heap.crosses, sendable) depth 40 fits 20000
@@ -168,9 +165,6 @@ module _ (C U : RattleType) (c : Calls.Ghosts C.Denot) (u : Start.Ghosts U.Denot
   pub modelled_send : IsSend C → IsSend (Modelled.the_row C U c u)
   modelled_send host = search (heap.crosses, sendable) depth 40 fits 20000
 
-text_send : IsSend Text.the_row
-text_send = search (heap.crosses, sendable) depth 40 fits 20000
-
 ahead_send : IsSend Ahead.the_row
 ahead_send = search (row_send, heap.crosses, sendable) depth 40 fits 20000
 
@@ -185,15 +179,9 @@ module _ (S : RattleType) (g : Store.Ghosts S.Denot) where
   teller_send : IsSend S → IsSend (Teller.the_row S g)
   teller_send store = let base = base_send S g store in search (snapshot_send, declared_send, heap.crosses, sendable) depth 60 fits 40000
 
-host_files_send : IsSend HostFiles.the_row
-host_files_send = search (declared_send, as_row_send, heap.crosses, sendable) depth 40 fits 20000
+module _ (S : RattleType) (g : Store.Ghosts S.Denot) where
+  place_send : IsSend S → IsSend (Place.the_row S g)
+  place_send store = let teller = teller_send S g store in search (variants_send, as_row_send, heap.crosses, sendable) depth 60 fits 40000
 
-module _ (S O : RattleType) (g : Store.Ghosts S.Denot) where
-  place_send : IsSend S → IsSend O → IsSend (Place.the_row S O g)
-  place_send store opener = let teller = teller_send S g store in search (text_send, variants_send, as_row_send, heap.crosses, sendable) depth 60 fits 40000
-
-  pub keeper_send : IsSend S → IsSend O → IsSend (SqlKeeper.the_row S O g)
-  keeper_send store opener = let place = place_send store opener in search (declared_send, as_row_send, heap.crosses, sendable) depth 60 fits 40000
-
-pub file_send : IsSend FileKeeper.the_row
-file_send = search (keeper_send, host_files_send, store_send, modelled_send, host_send, declared_send, as_row_send, heap.crosses, sendable) depth 60 fits 40000
+  pub keeper_send : IsSend S → IsSend (SqlKeeper.the_row S g)
+  keeper_send store = let place = place_send store in search (declared_send, as_row_send, heap.crosses, sendable) depth 60 fits 40000

@@ -1,5 +1,5 @@
 -- Which cell the first row shows, and what making the table does.
-use Rattle.std.proofs.Common.{◌≡◌, ◌⊎◌, Bool, true, IsTrue, true≢false, inl, inr, ℕ, pos, List, [], Option, None, Some, Ok, Err, Result, IfOk, OnErr, OnOk, false, refl, sym, ap, subst, ◌∙◌}
+use Rattle.std.proofs.Common.{◌≡◌, Bool, true, IsTrue, true≢false, inl, inr, ℕ, pos, List, [], Option, None, Some, Ok, Err, Result, IfOk, OnErr, OnOk, false, refl, sym, ap, subst, ◌∙◌}
 use Rattle.sqlite_schema.specs.declared.schema.Table.{Table}
 use Rattle.sqlite_schema.specs.declared.command.Command.TheVariants.{CreateTable, Nothing}
 use Rattle.sqlite_schema.specs.Rules.{Obeys}
@@ -14,10 +14,9 @@ use Rattle.sqlite.specs.Effect.{Database}
 use Rattle.sqlite.specs.Does.{Tally, lacks_sequence}
 use Rattle.sqlite.specs.Given.{IsPlain}
 use Rattle.sqlite.specs.Listing.{understood}
-use Rattle.sqlite.specs.State.{State, IsRolledBack, Writes, Executes, ExecutesIn, FailsToQuery, FailsToShow, IsNotRun, QueriesRow, shows_rows}
+use Rattle.sqlite.specs.State.{State, IsRolledBack, Writes, Executes, ExecutesInside, FailsToQuery, FailsToShow, IsNotRun, QueriesRow}
 use Rattle.sqlite_schema.specs.declared.command.Returning.{Returning}
 use Rattle.sqlite_resolve.specs.declared.compiled.Compiled.{Compiled}
-use Rattle.std.proofs.lemmas.Bool.{cases_Bool}
 use Rattle.sqlite.proofs.Callers.{statement_of, runs_as}
 use Rattle.an_keep.specs.Cells.{first_of, put_changes}
 use Rattle.an_keep.specs.declared.cell.Cell.{Cell}
@@ -35,7 +34,6 @@ use Rattle.an_sqlite.proofs.WriteLemmas.{went, same_value}
 use Rattle.an_sqlite.proofs.LeastLemmas.{finds_first}
 use Rattle.an_sqlite.proofs.NoneLemmas.{finds_nothing, first_nothing, first_unchanged}
 use Rattle.an_sqlite.proofs.ChangeLemmas.{cells_in, begins}
-use Rattle.an_sqlite.proofs.OpenLemmas.{executed}
 use Rattle.an_sqlite.proofs.TableLemmas.{first_cell}
 
 pub first_shows : (old new : State) (r : Result Row Error) → Tells old → QueriesRow first_text [] old new r → IfOk r (ShowsCell (first_of (cells_of old)))
@@ -109,15 +107,6 @@ makes_again old new (Ok count) t h =
 undone : (old new : State) → (IsTrue old.is_open → old.now ≡ old.committed) → IsRolledBack old new → IsTrue new.is_open → new.now ≡ old.now
 undone old new settled back is_open = (back.undone is_open).0 ∙ sym (settled (back.was_open is_open))
 
-pub keeps_failed : (sql : List ℕ) (params : Row) (old new : State) (e : Error) → (IsTrue old.is_open → old.now ≡ old.committed) → Executes sql params old new (Err e) → IsTrue new.is_open → new.now ≡ old.now
-unfolding ExecutesIn IsNotRun
-keeps_failed sql params old new e settled (inl (inl h)) is_open = h.1.0.now_is
-keeps_failed sql params old new e settled (inl (inr h)) is_open = undone old new settled h.3 is_open
-keeps_failed sql params old new e settled (inr h) is_open = elim (cases_Bool (shows_rows false h.0)) [
-  | inl shows ↦ (rw shows at h.2).1.0.now_is
-  | inr runs ↦ elim (rw runs at h.2) [ inl u ↦ u.1.0.now_is | inr f ↦ undone old new settled f.3 is_open ]
-]
-
 fails_to_show : (sql : List ℕ) (params : Row) (old new : State) (c : Compiled) (e : Error) (what : Option Returning) → (IsTrue old.is_open → old.now ≡ old.committed) → FailsToShow old new sql c params e what → IsTrue new.is_open → new.now ≡ old.now
 fails_to_show sql params old new c e None settled h is_open = h.3.0.now_is
 fails_to_show sql params old new c e (Some what) settled (inl u) is_open = u.1.0.now_is
@@ -134,23 +123,19 @@ unfolding QueriesRow
 first_failed old new e settled t (inl h) is_open = keeps_refused first_text [] old new e settled h is_open
 first_failed old new e settled t (inr h) is_open = (first_unchanged [] old new [] t.schema h.1).0.now_is
 
--- it leaves no transaction open
-settles_failed : (sql : List ℕ) (params : Row) (old new : State) (e : Error) → Executes sql params old new (Err e) → old.in_transaction ≡ false → new.in_transaction ≡ false
-unfolding ExecutesIn IsNotRun
-settles_failed sql params old new e (inl (inl h)) settled = h.1.0.mode ∙ settled
-settles_failed sql params old new e (inl (inr h)) settled = h.3.autocommit
-settles_failed sql params old new e (inr h) settled = elim (cases_Bool (shows_rows false h.0)) [
-  | inl shows ↦ (rw shows at h.2).1.0.mode ∙ settled
-  | inr runs ↦ elim (rw runs at h.2) [ inl u ↦ u.1.0.mode ∙ settled | inr f ↦ f.3.autocommit ]
-]
+-- ---- the table made within a transaction
 
-pub settles : (old new : State) (r : Result ℕ Error) → (old.now.schema ≡ no_schema) ⊎ Tells old → Executes create_text [] old new r → old.in_transaction ≡ false → new.in_transaction ≡ false
-settles old new (Err e) came h settled = settles_failed create_text [] old new e h settled
-settles old new (Ok count) (inl none) h settled = (runs_as create_text [] old new no_schema none CreateTable create_is create_plain count h).shown.mode ∙ settled
-settles old new (Ok count) (inr t) h settled = (runs_as create_text [] old new cell_schema t.schema Nothing create_again_is create_again_plain count h).0.0.mode ∙ settled
+pub makes_inside : (old new : State) (r : Result ℕ Error) → old.now.schema ≡ no_schema → ExecutesInside 0 create_text [] old new r → OnOk r (Tells new × (cells_of new ≡ []))
+makes_inside old new (Err e) has h = tt
+makes_inside old new (Ok count) has h = makes old new (Ok count) has h.0
 
--- what making the table needs
-pub ruleset making = (keeps_failed, executed)
+pub makes_again_inside : (old new : State) (r : Result ℕ Error) → Tells old → ExecutesInside 0 create_text [] old new r → OnOk r (Tells new × (cells_of new ≡ cells_of old))
+makes_again_inside old new (Err e) t h = tt
+makes_again_inside old new (Ok count) t h = makes_again old new (Ok count) t h.0
+
+-- what was made is committed
+pub kept_made : (mid end : State) (cells : List Cell) → Tells mid × (cells_of mid ≡ cells) → end.now ≡ mid.now → Tells end × (cells_of end ≡ cells)
+kept_made mid end cells made is = (tells_still mid end made.0 is, cells_still mid end is ∙ made.1)
 
 -- ---- one call behind the other
 

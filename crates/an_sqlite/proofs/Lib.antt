@@ -4,6 +4,7 @@ pub mod ChangeLemmas
 pub mod Crossings
 pub mod FirstLemmas
 pub mod FoundLemmas
+pub mod HoldLemmas
 pub mod LaterLemmas
 pub mod LeastLemmas
 pub mod NoneLemmas

@@ -1,5 +1,5 @@
 -- What a keeper tells before a call and behind it.
-use Rattle.std.proofs.Common.{◌≡◌, ◌⊎◌, ◌==◌, ◌&&◌, inl, inr, Bool, true, false, cond, List, [], Option, Some, None, Result, Ok, Err, IfOk, IfSome, IsSome, OnOk, OnErr, IsTrue, refl, sym, ap, subst, ◌∙◌, arith, true≢false}
+use Rattle.std.proofs.Common.{◌≡◌, ◌==◌, ◌&&◌, inl, inr, Bool, true, false, cond, List, [], Option, Some, None, Result, Ok, Err, IfOk, IfSome, IsSome, OnOk, OnErr, IsTrue, refl, sym, ap, subst, ◌∙◌, arith, true≢false}
 use Rattle.std.specs.Coded.{coded_bool, coded_list, coded_option}
 use Rattle.std.proofs.Math.Logic.{∥∥₁_elim, ∥∥₁_map}
 use Rattle.std.proofs.lemmas.Bool.{and_parts, and_from}
@@ -17,7 +17,7 @@ use Rattle.an_sqlite.specs.declared.base.Base.{Base}
 use Rattle.an_sqlite.specs.Base.{Lists}
 use Rattle.an_sqlite.specs.Found.{may_tell, same_schema}
 use Rattle.an_sqlite.specs.Table.{no_schema}
-use Rattle.an_sqlite.specs.Tells.{Tells, cells_of}
+use Rattle.an_sqlite.specs.Tells.{cells_of}
 use Rattle.an_sqlite.specs.Told.{GoesOn, cells_in, is_well, told_if, told_by}
 use Rattle.an_sqlite.proofs.AheadLemmas.{cells_ascend}
 use Rattle.an_sqlite.proofs.FoundLemmas.{blank_cells, found_from, settled_from, table_cells, told_true}
@@ -41,10 +41,10 @@ never_begins (Some cells) new stays = stays
 pub untold : IsSome (told_if false []) → ⊥
 untold some = true≢false (sym (told_true false [] some))
 
-clean_parts : (s : State) → is_well s ≡ true → HasCleanDisk s × IsTrue s.is_open
+pub clean_parts : (s : State) → is_well s ≡ true → HasCleanDisk s × IsTrue s.is_open
 clean_parts s well = let parts = and_parts (doubt s.is_clean == 0) s.is_open well in (grind (arith, nat_tests), parts.1)
 
-clean_from : (s : State) → HasCleanDisk s → IsTrue s.is_open → is_well s ≡ true
+pub clean_from : (s : State) → HasCleanDisk s → IsTrue s.is_open → is_well s ≡ true
 clean_from s clean is_open = and_from (doubt s.is_clean == 0) s.is_open (grind (arith, nat_tests)) is_open
 
 module _ {S : Type 0} (g : Ghosts S) where
@@ -64,11 +64,6 @@ module _ {S : Type 0} (g : Ghosts S) where
   held_cells : (base : Base S) (held : List Cell) → Lists g base held → cells base ≡ held
   held_cells base held (inl has, next) = table_cells (state g base.conn) has.0 ∙ has.1
   held_cells base held (inr none, next) = blank_cells (state g base.conn) none.1 ∙ sym none.2
-
-  -- it has the table of cells, or no table yet
-  has_table : (base : Base S) (held : List Cell) → Lists g base held → ((state g base.conn).now.schema ≡ no_schema) ⊎ Tells (state g base.conn)
-  has_table base held (inl has, next) = inr has.0
-  has_table base held (inr none, next) = inl none.1
 
   ascends : (base : Base S) → Ascend (cells base)
   ascends base = by (same_schema (state g base.conn).now.schema no_schema)
@@ -101,7 +96,7 @@ module _ {S : Type 0} (g : Ghosts S) where
           let parts = clean_parts (state g new.conn) is in
           ∥∥₁_map (known (well_before is)) (λ both.
           let now = does parts.0 parts.1 (cells old) both.0 in
-          (subst (Lists g new) (sym (held_cells new _ now)) now, goes.settled parts.0 (has_table old (cells old) both.0) both.1))
+          (subst (Lists g new) (sym (held_cells new _ now)) now, goes.settled both.1))
 
       changed_in : well new ≡ true → cells new ≡ change (cells old)
       changed_in is =

@@ -2,6 +2,7 @@ pub mod Ahead
 pub mod Base
 pub mod Cells
 pub mod Found
+pub mod Hold
 pub mod Later
 pub mod Place
 pub mod Row

@@ -1,5 +1,5 @@
 -- What a keeper over SQLite tells of its cells.
-use Rattle.std.specs.Prelude.{◌≡◌, ◌⊎◌, ◌≤◌, ◌==◌, ◌&&◌, Bool, true, false, if◌then◌else◌}
+use Rattle.std.specs.Prelude.{◌≡◌, ◌≤◌, ◌==◌, ◌&&◌, Bool, true, false, if◌then◌else◌}
 use Rattle.std.specs.Prelude.{IsTrue, List, [], Some, None}
 use Rattle.sqlite_trees.specs.declared.store.Store.{Ghosts}
 use Rattle.sqlite_trees.specs.View.{doubt}
@@ -10,7 +10,7 @@ use Rattle.an_keep.specs.declared.cell.Cell.{Cell}
 use Rattle.an_sqlite.specs.declared.base.Base.{Base}
 use Rattle.an_sqlite.specs.Found.{may_tell, same_schema}
 use Rattle.an_sqlite.specs.Table.{no_schema}
-use Rattle.an_sqlite.specs.Tells.{Tells, cells_of}
+use Rattle.an_sqlite.specs.Tells.{cells_of}
 
 -- the cells of the table, and none where there is no table
 abbrev pub cells_in : State → List Cell
@@ -34,6 +34,5 @@ pub record GoesOn {S : Type 0} (g : Ghosts S) (old new : Base S) : Type 0 where
   pub clean : doubt (state g old.conn).is_clean ≤ doubt (state g new.conn).is_clean
   pub was_open : HasCleanDisk (state g new.conn) → IsTrue (state g new.conn).is_open
       → IsTrue (state g old.conn).is_open
-  pub settled : HasCleanDisk (state g new.conn)
-      → ((state g old.conn).now.schema ≡ no_schema) ⊎ Tells (state g old.conn)
-      → (state g old.conn).in_transaction ≡ false → (state g new.conn).in_transaction ≡ false
+  pub settled : (state g old.conn).in_transaction ≡ false
+      → (state g new.conn).in_transaction ≡ false

@@ -5,54 +5,37 @@ ghost use Rattle.an_base.specs.Faults.{Rises};
 ghost use Rattle.an_keep.specs.Cells.{Ascend, first_of, next_after, put_changes};
 ghost use Rattle.an_keep.specs.Keeper.{Stays, StaysOrBegins, Turns};
 ghost use Rattle.an_keep.specs.declared.cell.Cell.{Cell};
-ghost use Rattle.an_sqlite.specs.Place.{BeginsWith, Comes, HeldBefore, HoldsCells, IsClean, IsOpen};
-ghost use Rattle.an_sqlite.specs.Place.{IsSettled, came_in, connection_in, is_telling};
-ghost use Rattle.an_sqlite.specs.Place.{may_tell_in, told_in};
+ghost use Rattle.an_sqlite.specs.Place.{BeginsWith, HoldsCells, IsClean, IsOpen};
+ghost use Rattle.an_sqlite.specs.Place.{IsSettled, came_in, connection_in, told_in};
 ghost use Rattle.an_sqlite.specs.Table.{no_schema};
 ghost use Rattle.an_sqlite.specs.Tells.{Tells, cells_of};
 ghost use Rattle.an_sqlite.specs.Told.{is_well};
 ghost use Rattle.sqlite.specs.Held.{state};
+ghost use Rattle.sqlite.specs.State.{HasCleanDisk};
 
-use crate::opens::{NoFile, Opens};
 use crate::place::Place;
 use crate::teller::Teller;
-use an_base::Text;
 use an_keep::{Cell, Change, KeepError, Keeper};
 use sqlite::{Alter, Connection};
 
 /// A keeper whose cells stand in the table `cell` of a database, which its first call makes where
-/// it isn't there. It tells its cells where the connection came with no table, no index and no
-/// view, or with exactly that table, whose rowids rise, and with no transaction open, as long as
-/// the disk returns what was written: over a connection from the beginning, and of a path from the
-/// first call of `first` on.
+/// it isn't there. It tells its cells, from the beginning, where the connection came with no table,
+/// no index and no view, or with exactly that table, whose rowids rise, and with no transaction
+/// open, as long as the disk returns what was written.
 ///
 /// Each refused statement is a failure and counted, but for want of memory; so is a key above
 /// 2^63 - 1 that is to be put or taken, before any statement runs, and a row that is no cell, as a
-/// foreign table may have one. When it is dropped, what it opened is closed by what opened it.
+/// foreign table may have one. When it is dropped, its connection is dropped and not closed.
 #[derive(Drop)]
-pub struct SqlKeeper<S: Alter + Drop, O: Opens<Connection<S>>> {
-    place: Place<S, O>,
+pub struct SqlKeeper<S: Alter + Drop> {
+    place: Place<S>,
     faults: u64,
 }
 
-impl<S: Alter + Drop, O: Opens<Connection<S>>> SqlKeeper<S, O> {
-    /// A keeper over the database at this path, which is opened at its first call, and again at the
-    /// next where that is refused. Takes no memory.
-    pub fn at(opener: O, path: Text) -> SqlKeeper<S, O>
-        ensures faults { result.faults ≡ 0 }
-        ensures closed { came_in result.place ≡ None }
-    {
-        SqlKeeper {
-            place: Place::Closed(opener, path),
-            faults: 0,
-        }
-    }
-}
-
-impl<S: Alter + Drop> SqlKeeper<S, NoFile> {
+impl<S: Alter + Drop> SqlKeeper<S> {
     /// A keeper over an open connection, of the cells that its table has. Takes no memory.
-    #[tactic(auto, using(crate::proofs::PlaceLemmas::begins_with))]
-    pub fn adopt(connection: Connection<S>) -> SqlKeeper<S, NoFile>
+    #[tactic(auto, using(crate::proofs::PlaceLemmas::adopting))]
+    pub fn adopt(connection: Connection<S>) -> SqlKeeper<S>
         ensures faults { result.faults ≡ 0 }
         ensures held { (cells : List Cell) → BeginsWith (state S.Store connection) cells
             → HoldsCells S.Store result.place cells }
@@ -65,6 +48,11 @@ impl<S: Alter + Drop> SqlKeeper<S, NoFile> {
             → (state S.Store connection).in_transaction ≡ false
             → IsTrue (is_well (state S.Store connection))
             → told_in S.Store result.place ≡ Some (cells_of (state S.Store connection)) }
+
+        // Where it tells cells, they are those that a clean connection begins with.
+        ensures begins { (cells : List Cell) → (HasCleanDisk (state S.Store connection)
+            → BeginsWith (state S.Store connection) cells)
+            → IfSome (told_in S.Store result.place) (λ told. told ≡ cells) }
         ensures told { IsSome (told_in S.Store result.place)
             → ((state S.Store connection).now.schema ≡ no_schema)
             ⊎ Tells (state S.Store connection) }
@@ -72,15 +60,25 @@ impl<S: Alter + Drop> SqlKeeper<S, NoFile> {
             → (state S.Store connection).in_transaction ≡ false }
     {
         SqlKeeper {
-            place: Place::Adopted(Teller::new(connection)),
+            place: Place::Open(Teller::new(connection)),
             faults: 0,
         }
     }
-}
 
-impl<S: Alter + Drop, O: Opens<Connection<S>>> SqlKeeper<S, O> {
-    /// The connection that was adopted, as the last call left it. A keeper over a file of its own
-    /// ends as it does where it is dropped, and gives none.
+    /// A keeper of a database that wasn't opened, of which each call answers this error, and counts
+    /// it where it is a failure. It tells no cells. Takes no memory.
+    pub fn refused(error: KeepError) -> SqlKeeper<S>
+        ensures faults { result.faults ≡ 0 }
+        ensures connection { connection_in result.place ≡ None }
+        ensures untold { told_in S.Store result.place ≡ None }
+    {
+        SqlKeeper {
+            place: Place::Refused(error),
+            faults: 0,
+        }
+    }
+
+    /// The connection as the last call left it, where the database is open.
     pub fn into_connection(self) -> Option<Connection<S>>
         ensures { result ≡ connection_in self.place }
     {
@@ -126,7 +124,7 @@ fn counted<T>(faults: &mut u64, answer: Result<T, KeepError>) -> Result<T, KeepE
     }
 }
 
-impl<S: Alter + Drop, O: Opens<Connection<S>>> Keeper for SqlKeeper<S, O> {
+impl<S: Alter + Drop> Keeper for SqlKeeper<S> {
     ghost use Rattle.std.specs.Prelude.{false};
     ghost use Rattle.std.proofs.Common.{rules};
     ghost use Rattle.an_sqlite.specs.Place.{told_in};
@@ -137,27 +135,29 @@ impl<S: Alter + Drop, O: Opens<Connection<S>>> Keeper for SqlKeeper<S, O> {
 
     ghost is_sure = { false };
 
+    ghost may_begin = { false };
+
     // It claims no such thing.
     ghost sure_keeps = { Prim.search rules };
 
     /// Does all of these changes, or none. With a key above 2^63 - 1 it fails, and asks nothing of
     /// the database.
-    #[tactic(auto, using(crate::proofs::PlaceLemmas::committing))]
+    #[tactic(auto, using(crate::proofs::PlaceLemmas::settled_in))]
     fn commit(&mut self, changes: &[Change]) -> Result<(), KeepError>
         ensures keys { list_all (λ change. nat_lt change.key (2 ^ 63)) changes.now ≡ false
             → (result ≡ Err KeepError.Failed) × (self.new.place ≡ self.old.place) }
-        ensures comes { Comes O.opens self.old.place self.new.place }
-        ensures on { IsTrue (is_telling self.old.place) → IsTrue (is_telling self.new.place) }
+        ensures came { came_in self.new.place ≡ came_in self.old.place }
 
-        // Of what it held before, or found as it opened, where the store is clean behind the call.
+        // Of what it held before, where the store is clean after the call.
         ensures held { IsClean S.Store self.new.place → (cells : List Cell)
-            → HeldBefore S.Store self.old.place self.new.place cells
+            → HoldsCells S.Store self.old.place cells
             → OnOk result (HoldsCells S.Store self.new.place (put_changes changes.now cells)) }
         ensures kept { IsClean S.Store self.new.place → IsOpen S.Store self.new.place
-            → (cells : List Cell) → HeldBefore S.Store self.old.place self.new.place cells
+            → (cells : List Cell) → HoldsCells S.Store self.old.place cells
             → OnErr result (HoldsCells S.Store self.new.place cells) }
 
-        // No transaction is open where its cells are told.
+        // It leaves no transaction open, and none is open where its cells are told.
+        ensures settles { IsSettled S.Store self.old.place → IsSettled S.Store self.new.place }
         ensures settled { IsSome (told_in S.Store self.new.place)
             → IsSettled S.Store self.new.place }
 
@@ -178,22 +178,21 @@ impl<S: Alter + Drop, O: Opens<Connection<S>>> Keeper for SqlKeeper<S, O> {
 
     #[tactic(auto, using(crate::proofs::PlaceLemmas::telling))]
     fn first(&mut self) -> Result<Option<Cell>, KeepError>
-        ensures comes { Comes O.opens self.old.place self.new.place }
-        ensures on { IsTrue (is_telling self.old.place) → IsTrue (is_telling self.new.place) }
-        ensures begins { OnOk result (is_telling self.new.place ≡ may_tell_in self.new.place) }
+        ensures came { came_in self.new.place ≡ came_in self.old.place }
 
-        // Of what it held before, or found as it opened, where the store is clean behind the call.
+        // Of what it held before, where the store is clean after the call.
         ensures least { IsClean S.Store self.new.place → (cells : List Cell)
-            → HeldBefore S.Store self.old.place self.new.place cells
+            → HoldsCells S.Store self.old.place cells
             → IfOk result (λ cell. cell ≡ first_of cells) }
         ensures held { IsClean S.Store self.new.place → (cells : List Cell)
-            → HeldBefore S.Store self.old.place self.new.place cells
+            → HoldsCells S.Store self.old.place cells
             → OnOk result (HoldsCells S.Store self.new.place cells) }
         ensures kept { IsClean S.Store self.new.place → IsOpen S.Store self.new.place
-            → (cells : List Cell) → HeldBefore S.Store self.old.place self.new.place cells
+            → (cells : List Cell) → HoldsCells S.Store self.old.place cells
             → OnErr result (HoldsCells S.Store self.new.place cells) }
 
-        // No transaction is open where its cells are told.
+        // It leaves no transaction open, and none is open where its cells are told.
+        ensures settles { IsSettled S.Store self.old.place → IsSettled S.Store self.new.place }
         ensures settled { IsSome (told_in S.Store self.new.place)
             → IsSettled S.Store self.new.place }
 
@@ -203,6 +202,7 @@ impl<S: Alter + Drop, O: Opens<Connection<S>>> Keeper for SqlKeeper<S, O> {
         ensures ascend { IfSome (told_in S.Store self.new.place) Ascend }
         ensures stays { StaysOrBegins (told_in S.Store self.old.place)
             (told_in S.Store self.new.place) }
+        ensures never { Stays (told_in S.Store self.old.place) (told_in S.Store self.new.place) }
         ensures counted { result ≡ Err KeepError.Failed → Rises self.old.faults self.new.faults }
         ensures faults_kept { self.old.faults ≤ self.new.faults }
     {
@@ -212,21 +212,21 @@ impl<S: Alter + Drop, O: Opens<Connection<S>>> Keeper for SqlKeeper<S, O> {
 
     #[tactic(auto, using(crate::proofs::PlaceLemmas::settled_in))]
     fn next_after(&mut self, tab: u8, key: u64) -> Result<Option<Cell>, KeepError>
-        ensures comes { Comes O.opens self.old.place self.new.place }
-        ensures on { IsTrue (is_telling self.old.place) → IsTrue (is_telling self.new.place) }
+        ensures came { came_in self.new.place ≡ came_in self.old.place }
 
-        // Of what it held before, or found as it opened, where the store is clean behind the call.
+        // Of what it held before, where the store is clean after the call.
         ensures next { IsClean S.Store self.new.place → (cells : List Cell)
-            → HeldBefore S.Store self.old.place self.new.place cells
+            → HoldsCells S.Store self.old.place cells
             → IfOk result (λ cell. cell ≡ next_after tab key cells) }
         ensures held { IsClean S.Store self.new.place → (cells : List Cell)
-            → HeldBefore S.Store self.old.place self.new.place cells
+            → HoldsCells S.Store self.old.place cells
             → OnOk result (HoldsCells S.Store self.new.place cells) }
         ensures kept { IsClean S.Store self.new.place → IsOpen S.Store self.new.place
-            → (cells : List Cell) → HeldBefore S.Store self.old.place self.new.place cells
+            → (cells : List Cell) → HoldsCells S.Store self.old.place cells
             → OnErr result (HoldsCells S.Store self.new.place cells) }
 
-        // No transaction is open where its cells are told.
+        // It leaves no transaction open, and none is open where its cells are told.
+        ensures settles { IsSettled S.Store self.old.place → IsSettled S.Store self.new.place }
         ensures settled { IsSome (told_in S.Store self.new.place)
             → IsSettled S.Store self.new.place }
 

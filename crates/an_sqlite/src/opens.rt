@@ -1,120 +1,52 @@
-ghost use Rattle.std.specs.Prelude.{IfOk};
+ghost use Rattle.std.specs.Prelude.{◌≡◌, IfOk, IsTrue, List, false};
+ghost use Rattle.an_keep.specs.declared.cell.Cell.{Cell};
+ghost use Rattle.an_sqlite.specs.Hold.{Hold};
+ghost use Rattle.an_sqlite.specs.Place.{BeginsWith, IsClean, told_in};
+ghost use Rattle.sqlite.specs.Files.{file_state, over_files};
+ghost use Rattle.sqlite.specs.State.{HasCleanDisk};
+ghost use Rattle.sqlite_wal.specs.Files.{image_at};
+ghost use Rattle.std.specs.Prelude.{Some};
 
+use crate::keeper::SqlKeeper;
 use crate::statements::refusal;
-use an_base::Text;
 use an_keep::KeepError;
-use sqlite::{Connection, File, FileFrom, FileStore, Start, Unknown};
-use std::marker::PhantomData;
+use sqlite::{Connection, FileFrom, FileStore, Start};
 use std::rt::HostRuntime;
 
-/// What opens the database at a path and closes it. `C` is the connection.
-pub trait Opens<C>: Drop {
-    // What is known of a connection as it is opened.
-    ghost opens: { C → Type 0 };
-
-    /// A connection to the database at this path, which is made where there is none.
-    fn open(&mut self, path: &Text) -> Result<C, KeepError>
-        ensures { IfOk result opens };
-
-    /// Lets go of a connection that was opened.
-    fn close(connection: C);
-}
-
-/// What is supposed of files, made anew each time that they are opened.
-pub trait Supposes: Start {
-    /// What is supposed of the files that are opened now.
-    fn supposed() -> Self;
-}
-
-impl Supposes for Unknown {
-    fn supposed() -> Unknown {
-        Unknown
+/// A connection to the database at this path, which is made where there is none. `U` stands for
+/// what the files held, which may be anything: where they held exactly the table of cells, and the
+/// disk returns what was written, it begins with these cells. A program names the unknown contents
+/// in its one call, and hands the connection to a function that is generic in the store.
+pub fn open_file<U: Start>(
+    rt: &HostRuntime,
+    path: &str,
+    start: U,
+) -> Result<Connection<FileStore<FileFrom<U>>>, KeepError>
+    ensures finds { IfOk result (λ conn. HasCleanDisk (file_state conn) → (cells : List Cell)
+        → Hold (image_at U.Start) cells → BeginsWith (file_state conn) cells) }
+    ensures opened { IfOk result (λ conn. HasCleanDisk (file_state conn)
+        → IsTrue (file_state conn).is_open) }
+    ensures settled { IfOk result (λ conn. (file_state conn).in_transaction ≡ false) }
+{
+    match Connection::open_from(rt, path, false, start) {
+        Ok(conn) => Ok(conn),
+        Err((error, _)) => Err(refusal(error)),
     }
 }
 
-/// The files of this machine, where `U` stands for what they hold.
-#[derive(Drop)]
-pub struct SupposedFiles<U: Supposes> {
-    host: HostRuntime,
-    supposed: PhantomData<U>,
-}
-
-impl<U: Supposes> SupposedFiles<U> {
-    /// The files that this runtime reaches. Takes no memory.
-    pub fn new(host: &HostRuntime) -> SupposedFiles<U> {
-        SupposedFiles {
-            host: *host,
-            supposed: PhantomData,
-        }
-    }
-}
-
-impl<U: Supposes> Opens<Connection<FileStore<FileFrom<U>>>> for SupposedFiles<U> {
-    ghost use Rattle.sqlite.specs.Files.{file_state};
-    ghost use Rattle.sqlite.specs.Start.{FindsIn};
-    ghost use Rattle.sqlite.specs.State.{HasCleanDisk};
-    ghost use Rattle.sqlite_wal.specs.Files.{image_at};
-
-    // It finds what the files hold.
-    ghost opens = { λ c. HasCleanDisk (file_state c) → FindsIn (image_at U.Start) (file_state c) };
-
-    fn open(&mut self, path: &Text) -> Result<Connection<FileStore<FileFrom<U>>>, KeepError> {
-        match Connection::open_from(&self.host, path.as_str(), false, U::supposed()) {
-            Ok(connection) => Ok(connection),
-            Err((error, _)) => Err(refusal(error)),
-        }
-    }
-
-    /// Copies the log into the database file. Where that fails the two hold the cells together, as
-    /// they do behind each commit. A plain drop would leave the last commits in the log.
-    fn close(connection: Connection<FileStore<FileFrom<U>>>) {
-        let _ = connection.close();
-    }
-}
-
-/// The files of this machine at SQLite's `Unknown`, for the program. It is a type of its own, since
-/// at a call that names `SupposedFiles<Unknown>` the prover refuses a term that it made itself.
-#[derive(Drop)]
-pub struct HostFiles {
-    host: HostRuntime,
-}
-
-impl HostFiles {
-    /// The files that this runtime reaches. Takes no memory.
-    pub fn new(host: &HostRuntime) -> HostFiles {
-        HostFiles { host: *host }
-    }
-}
-
-impl Opens<Connection<FileStore<File>>> for HostFiles {
-    ghost use Rattle.sqlite.specs.Held.{IsNew};
-
-    ghost opens = { IsNew };
-
-    fn open(&mut self, path: &Text) -> Result<Connection<FileStore<File>>, KeepError> {
-        match Connection::open(&self.host, path.as_str()) {
-            Ok(connection) => Ok(connection),
-            Err(error) => Err(refusal(error)),
-        }
-    }
-
-    fn close(connection: Connection<FileStore<File>>) {
-        let _ = connection.close();
-    }
-}
-
-/// Opens none: for a keeper over a connection that it is given.
-#[derive(Drop)]
-pub struct NoFile;
-
-impl<C: Drop> Opens<C> for NoFile {
-    ghost opens = { λ _. ⊥ };
-
-    fn open(&mut self, _path: &Text) -> Result<C, KeepError> {
-        Err(KeepError::Failed)
-    }
-
-    fn close(connection: C) {
-        drop(connection);
+/// A keeper over the database at this path. Before its first call it tells the cells that the files
+/// held, where the disk returns what was written. Where the database isn't opened, each call
+/// answers the refusal.
+pub fn keeper_at<U: Start>(
+    rt: &HostRuntime,
+    path: &str,
+    start: U,
+) -> SqlKeeper<FileStore<FileFrom<U>>>
+    ensures tells { IsClean over_files result.place → (cells : List Cell)
+        → Hold (image_at U.Start) cells → told_in over_files result.place ≡ Some cells }
+{
+    match open_file(rt, path, start) {
+        Ok(conn) => SqlKeeper::adopt(conn),
+        Err(error) => SqlKeeper::refused(error),
     }
 }

@@ -34,8 +34,7 @@ ORDER BY tab, key LIMIT 100";
 
 const IN_LATER: &str = "SELECT tab, key, val FROM cell WHERE tab > ?1 ORDER BY tab, key LIMIT 100";
 
-/// Makes the table where it isn't there, outside a transaction.
-#[tactic(auto, using(crate::proofs::FirstLemmas::making))]
+/// Makes the table where it isn't there, in a transaction of its own.
 pub(crate) fn make<S: Alter>(conn: &mut Connection<S>) -> Result<(), KeepError>
     ensures made { HasCleanDisk (state S.Store conn.new)
         → (state S.Store conn.old).now.schema ≡ no_schema
@@ -50,18 +49,64 @@ pub(crate) fn make<S: Alter>(conn: &mut Connection<S>) -> Result<(), KeepError>
         → IsTrue (state S.Store conn.old).is_open }
     ensures clean { doubt (state S.Store conn.old).is_clean
         ≤ doubt (state S.Store conn.new).is_clean }
-    ensures settled { HasCleanDisk (state S.Store conn.new)
-        → ((state S.Store conn.old).now.schema ≡ no_schema) ⊎ Tells (state S.Store conn.old)
-        → (state S.Store conn.old).in_transaction ≡ false
+    ensures settled { (state S.Store conn.old).in_transaction ≡ false
+        → (state S.Store conn.new).in_transaction ≡ false }
+{
+    match do_make(conn) {
+        Ok(()) => Ok(()),
+        Err(error) => Err(refusal(error)),
+    }
+}
+
+#[tactic(auto, using(crate::proofs::FirstLemmas::kept_made))]
+fn do_make<S: Alter>(conn: &mut Connection<S>) -> Result<(), Error>
+    ensures made { HasCleanDisk (state S.Store conn.new)
+        → (state S.Store conn.old).now.schema ≡ no_schema
+        → OnOk result (Tells (state S.Store conn.new)
+        × (cells_of (state S.Store conn.new) ≡ [])) }
+    ensures again { HasCleanDisk (state S.Store conn.new) → Tells (state S.Store conn.old)
+        → OnOk result (Tells (state S.Store conn.new)
+        × (cells_of (state S.Store conn.new) ≡ cells_of (state S.Store conn.old))) }
+    ensures still { HasCleanDisk (state S.Store conn.new) → IsTrue (state S.Store conn.new).is_open
+        → OnErr result ((state S.Store conn.new).now ≡ (state S.Store conn.old).now) }
+    ensures open { HasCleanDisk (state S.Store conn.new) → IsTrue (state S.Store conn.new).is_open
+        → IsTrue (state S.Store conn.old).is_open }
+    ensures clean { doubt (state S.Store conn.old).is_clean
+        ≤ doubt (state S.Store conn.new).is_clean }
+    ensures settled { (state S.Store conn.old).in_transaction ≡ false
         → (state S.Store conn.new).in_transaction ≡ false }
 {
     if !conn.is_autocommit() {
-        return Err(KeepError::Failed);
+        return Err(Error::SqliteFailure(ErrorCode::TransactionState));
     }
-    match conn.execute(TABLE, &[]) {
-        Ok(_) => Ok(()),
-        Err(error) => Err(refusal(error)),
-    }
+    let mut tx = conn.transaction();
+    make_in(&mut tx)?;
+    tx.commit()?;
+    Ok(())
+}
+
+fn make_in<S: Alter>(tx: &mut Transaction<'_, S>) -> Result<usize, Error>
+    ensures same_reference { tx.new.conn.ghost_name ≡ tx.old.conn.ghost_name }
+    ensures made { HasCleanDisk (state S.Store tx.new.conn.now)
+        → IsTrue (state S.Store tx.old.conn.now).in_transaction
+        → (state S.Store tx.old.conn.now).now.schema ≡ no_schema
+        → OnOk result (Tells (state S.Store tx.new.conn.now)
+        × (cells_of (state S.Store tx.new.conn.now) ≡ [])) }
+    ensures again { HasCleanDisk (state S.Store tx.new.conn.now)
+        → IsTrue (state S.Store tx.old.conn.now).in_transaction
+        → Tells (state S.Store tx.old.conn.now)
+        → OnOk result (Tells (state S.Store tx.new.conn.now)
+        × (cells_of (state S.Store tx.new.conn.now) ≡ cells_of (state S.Store tx.old.conn.now))) }
+    ensures inside { HasCleanDisk (state S.Store tx.new.conn.now)
+        → IsTrue (state S.Store tx.old.conn.now).in_transaction
+        → OnOk result (IsTrue (state S.Store tx.new.conn.now).in_transaction) }
+    ensures kept { HasCleanDisk (state S.Store tx.new.conn.now)
+        → IsTrue (state S.Store tx.old.conn.now).in_transaction
+        → KeepsCommit (state S.Store tx.old.conn.now) (state S.Store tx.new.conn.now) }
+    ensures clean { doubt (state S.Store tx.old.conn.now).is_clean
+        ≤ doubt (state S.Store tx.new.conn.now).is_clean }
+{
+    tx.execute(TABLE, &[])
 }
 
 /// The first row, outside a transaction.

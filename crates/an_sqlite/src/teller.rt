@@ -54,6 +54,8 @@ impl<S: Alter + Drop> Teller<S> {
     /// Does all of these changes, or none.
     pub(crate) fn commit(&mut self, changes: &[Change]) -> Result<(), KeepError>
         ensures came { self.new.came ≡ self.old.came }
+        ensures settles { (state S.Store self.old.base.conn).in_transaction ≡ false
+            → (state S.Store self.new.base.conn).in_transaction ≡ false }
         ensures turns { OnOk result (Turns (put_changes changes.now)
             (told_by S.Store self.old.came.value self.old.base)
             (told_by S.Store self.new.came.value self.new.base)) }
@@ -72,6 +74,8 @@ impl<S: Alter + Drop> Teller<S> {
 
     pub(crate) fn first(&mut self) -> Result<Option<Cell>, KeepError>
         ensures came { self.new.came ≡ self.old.came }
+        ensures settles { (state S.Store self.old.base.conn).in_transaction ≡ false
+            → (state S.Store self.new.base.conn).in_transaction ≡ false }
         ensures gives { IfOk result (λ cell. IfSome
             (told_by S.Store self.new.came.value self.new.base) (λ cells. cell ≡ first_of cells)) }
         ensures told { Stays (told_by S.Store self.old.came.value self.old.base)
@@ -93,6 +97,8 @@ impl<S: Alter + Drop> Teller<S> {
     /// The first cell behind this table and key. It takes no time for the cells before them.
     pub(crate) fn next_after(&mut self, tab: u8, key: u64) -> Result<Option<Cell>, KeepError>
         ensures came { self.new.came ≡ self.old.came }
+        ensures settles { (state S.Store self.old.base.conn).in_transaction ≡ false
+            → (state S.Store self.new.base.conn).in_transaction ≡ false }
         ensures gives { IfOk result (λ cell. IfSome
             (told_by S.Store self.new.came.value self.new.base)
             (λ cells. cell ≡ next_after tab key cells)) }

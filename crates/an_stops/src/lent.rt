@@ -13,6 +13,8 @@ impl<'a, K: Keeper> Keeper for Lent<'a, K> {
 
     ghost is_sure = { K.is_sure };
 
+    ghost may_begin = { K.may_begin };
+
     ghost sure_keeps = { λ sure l. K.sure_keeps sure l.keeper.now };
 
     fn commit(&mut self, changes: &[Change]) -> Result<(), KeepError> {

@@ -4,14 +4,14 @@ use an_base::Bytes;
 use an_keep::{Cell, KeepError, Keeper, MemKeeper};
 use an_lines::import;
 use an_shelf::Desk;
-use an_sqlite::{NoFile, SqlKeeper};
+use an_sqlite::SqlKeeper;
 use an_world::MemLink;
-use sqlite::{Connection, MemStore};
+use sqlite::{Alter, Connection, MemStore};
 use std::alloc::{AllocError, Global};
 use std::str::from_utf8;
 
 /// A keeper over a connection in memory.
-pub type MemSqlKeeper = SqlKeeper<MemStore, NoFile>;
+pub type MemSqlKeeper = SqlKeeper<MemStore>;
 
 /// How many bytes an import prints at most.
 const PRINTED: usize = 1_000;
@@ -46,7 +46,7 @@ pub fn accepted<K: Keeper>(
             let Lent { keeper: _ } = desk.into_keeper();
             Ok(Some(accepted?))
         }
-        Err(_error) => Ok(None),
+        Err(_unopened) => Ok(None),
     }
 }
 
@@ -104,6 +104,12 @@ pub fn states(alloc: Global, lines: &str) -> Result<Vec<String>, AllocError> {
     Ok(states)
 }
 
+/// The cells of a keeper in memory after all of the lines.
+pub fn due_cells(alloc: Global, lines: &str) -> Result<String, AllocError> {
+    let states = states(alloc, lines)?;
+    String::from_str(alloc, states.last().map_or("", |cells| cells.as_str()))
+}
+
 /// The keeper over which lines are imported again.
 #[derive(Clone, Copy)]
 pub enum Second {
@@ -116,8 +122,8 @@ pub enum Second {
 /// What two imports of the lines print, the second over this keeper, and whether the cells behind
 /// both are those of a keeper in memory.
 pub fn import_twice(alloc: Global, lines: &str, second: Second) -> Result<String, AllocError> {
-    let due = states(alloc, lines)?;
-    let due = due.last().map_or("", |cells| cells.as_str());
+    let due = due_cells(alloc, lines)?;
+    let due = due.as_str();
     let mut told = String::new(alloc);
     let keeper = SqlKeeper::adopt(Connection::open_in_memory(alloc)?);
     let Some(keeper) = import_over(alloc, keeper, lines, due, &mut told)? else {
@@ -138,15 +144,15 @@ fn second_keeper(keeper: MemSqlKeeper, second: Second) -> Option<MemSqlKeeper> {
     }
 }
 
-/// Tells what an import over a keeper prints, and whether the cells behind it are those that are
+/// Tells what an import over a keeper prints, and whether the cells after it are those that are
 /// due, and gives the keeper back as the store does.
-fn import_over(
+pub fn import_over<S: Alter + Drop>(
     alloc: Global,
-    keeper: MemSqlKeeper,
+    keeper: SqlKeeper<S>,
     lines: &str,
     due: &str,
     told: &mut String,
-) -> Result<Option<MemSqlKeeper>, AllocError> {
+) -> Result<Option<SqlKeeper<S>>, AllocError> {
     match Desk::open(alloc, keeper) {
         Ok(mut desk) => {
             let printed = printed(alloc, &mut desk, lines);
@@ -159,7 +165,7 @@ fn import_over(
                 }
             }
         }
-        Err(_error) => {
+        Err(_unopened) => {
             told.push_str("not opened")?;
             Ok(None)
         }

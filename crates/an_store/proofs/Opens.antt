@@ -1,9 +1,11 @@
 -- A store that is opened.
 use Rattle.std.proofs.Common.{◌≡◌, ℕ, List, [], ◌∷◌, refl, sym, ap, subst, ◌∙◌, inl}
 use Rattle.logbook.specs.Pages.{Book, Named}
-use Rattle.an_keep.specs.Keeper.{Told}
+use Rattle.an_keep.specs.Keeper.{StaysOrBegins, Told}
 use Rattle.an_state.specs.State.{State}
+use Rattle.an_shelf.specs.Opening.{StandFor, WasOpened}
 use Rattle.an_shelf.specs.Store as shelf
+use Rattle.an_shelf.proofs.OpeningLemmas.{was-opened}
 use Rattle.an_laws.specs.Events.{Event, Opened, IsLegal, Keeps, state_at, told_at}
 use Rattle.an_published.specs.History.{head_of}
 use Rattle.an_published.specs.Known.{Known, newcomer}
@@ -15,9 +17,9 @@ use Rattle.an_published.specs.declared.published.Addition.{Addition}
 use Rattle.an_store.proofs.Sides.{keeps-itself}
 use Rattle.an_published.proofs.Steps.{begins}
 
--- an opening alone is legal, where the cells told are those of the state
+-- an opening alone is legal, where the state is valid, sound and kept
 pub legal-opened : (list : List Event) (s : State) (told : Told) → list ≡ Opened s told ∷ [] → shelf.Stands told s → IsLegal list
-legal-opened list s told is stands = subst IsLegal (sym is) (stands.cells_are, tt)
+legal-opened list s told is stands = subst IsLegal (sym is) (stands.valid, stands.sound, stands.cells_are, tt)
 
 state-opened : (list : List Event) (s : State) (told : Told) → list ≡ Opened s told ∷ [] → state_at list ≡ s
 state-opened list s told is = ap state_at is
@@ -42,6 +44,11 @@ module _ (x : Published) (s : State) (told : Told) (list : x.mark.list ≡ Opene
         list = now;
         state = shows.state ∙ state-opened y.mark.list s told now;
       }
+
+-- the state with which it was opened
+pub opened-as : (before opened told : Told) (s t : State) → StaysOrBegins before opened → StandFor opened s → told ≡ opened → t ≡ s → WasOpened before told t
+opened-as before opened told s t stays stands tells is =
+    subst (λ (p : Told × State). WasOpened before p.0 p.1) (λ i. (sym tells i, sym is i)) (was-opened before opened s stays stands)
 
 -- what was opened, under its name
 pub sided-opened : (v : Known) (head : Named) (pending : List Addition) (x : Published) (s : State) (told : Told) (faults : ℕ) (name : Book) → Begun v head pending x s told → shelf.Stands told s → x.mark.book ≡ name

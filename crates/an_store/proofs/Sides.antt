@@ -50,7 +50,7 @@ kept-wrote before s (Wrote other its ∷ list) write told kept accepts keeps = (
 
 pub legal-wrote : (list : List Event) (write : Write) (told : Told) → IsLegal list → Accepts (state_at list) write → Keeps (told_at list) (after (state_at list) write.entry) told → IsLegal (list ++ Wrote write told ∷ [])
 legal-wrote [] write told legal accepts keeps = absurd legal
-legal-wrote (Opened s its ∷ list) write told legal accepts keeps = (legal.0, kept-wrote its s list write told legal.1 accepts keeps)
+legal-wrote (Opened s its ∷ list) write told (valid, sound, are, kept) accepts keeps = (valid, sound, are, kept-wrote its s list write told kept accepts keeps)
 legal-wrote (Wrote other its ∷ list) write told legal accepts keeps = absurd legal
 
 -- ---- what is kept

@@ -18,7 +18,7 @@ use Rattle.an_state.specs.declared.entry.Entry.{Entry}
 use Rattle.an_shelf.specs.Store as shelf
 use Rattle.an_shelf.proofs.ClosingLemmas.{stand-for}
 use Rattle.an_shelf.proofs.WritingLemmas.{decided-by, repeat-none}
-use Rattle.an_laws.specs.Events.{Event, IsLegal, added_by, state_at, wrote}
+use Rattle.an_laws.specs.Events.{Event, IsLegal, Keeps, added_by, state_at, told_at, wrote}
 use Rattle.an_laws.specs.Events as event
 use Rattle.an_published.specs.Lists.{Seated, Stands, last_of}
 use Rattle.an_store.specs.Opening.{Closes}
@@ -128,6 +128,7 @@ closes seen s told k later is =
       list = s.accepted;
       later = prefix_trans seen s.published s.accepted later (published-before s k);
       legal = k.legal;
+      keeps = subst (λ (p : Told × State). Keeps (told_at s.accepted) p.1 p.0) (λ i. (sym is i, k.state i)) k.keeps;
       cells = stands.cells_are;
       stand = stand-for told (state_at s.accepted) stands;
     }

@@ -7,7 +7,7 @@ use Rattle.an_rows.specs.Cells.{cells}
 use Rattle.an_state.specs.State.{State}
 use Rattle.an_shelf.specs.Opening.{StandFor}
 use Rattle.an_shelf.specs.Store.{Stands}
-use Rattle.an_laws.specs.Events.{Event, Opened, IsLegal, state_at}
+use Rattle.an_laws.specs.Events.{Event, Opened, IsLegal, Keeps, state_at, told_at}
 use Rattle.an_published.specs.History.{head_of}
 use Rattle.an_published.specs.Known.{Known}
 use Rattle.an_published.specs.Lists.{Seated, newly_seated}
@@ -25,12 +25,14 @@ pub record Start : Type 0 where
   pub told : Told
   pub faults : ℕ
 
--- There is a legal list, which goes on from the one that was seen, and whose state the cells are
--- those of, and stand for, where the keeper tells them.
+-- There is a legal list, which goes on from the one that was seen, and each of whose writes was kept
+-- as it came, the last of them still. The cells, where the keeper tells them, are those of its state
+-- and stand for it.
 pub record Closes (seen : List Event) (told : Told) : Type 0 where
   pub list : List Event
   pub later : IsPrefix seen list
   pub legal : IsLegal list
+  pub keeps : Keeps (told_at list) (state_at list) told
   pub cells : IfSome told (λ found. found ≡ cells (state_at list))
   pub stand : StandFor told (state_at list)
 

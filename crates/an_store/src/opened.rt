@@ -1,11 +1,11 @@
 //! Opening a store.
-ghost use Rattle.std.specs.Prelude.{◌≡◌, ◌≤◌, ◌∷◌, [], All, Err, IfErr, IfOk, IfSome, IsTrue};
-ghost use Rattle.std.specs.Prelude.{drop, length};
+ghost use Rattle.std.specs.Prelude.{◌≡◌, ◌≤◌, ◌∷◌, [], All, IfErr, IfOk, IfSome, IsTrue};
+ghost use Rattle.std.specs.Prelude.{drop, false, length};
 ghost use Rattle.left_right.specs.Sides.{view};
-ghost use Rattle.an_keep.specs.Keeper.{StaysOrBegins};
+ghost use Rattle.an_keep.specs.Keeper.{Stays, StaysOrBegins};
 ghost use Rattle.an_rows.specs.Cells.{cells};
 ghost use Rattle.an_rows.specs.Valid.{is_valid};
-ghost use Rattle.an_shelf.specs.Opening.{StandFor, WasDamagedBy};
+ghost use Rattle.an_shelf.specs.Opening.{IsDamagedBy, StandFor, WasDamagedBy, WasOpened};
 ghost use Rattle.an_shelf.specs.Store.{Stands};
 ghost use Rattle.an_state.specs.Sound.{is_sound};
 ghost use Rattle.an_laws.specs.Events.{Opened as Begins, IsLegal};
@@ -17,7 +17,7 @@ use crate::side::Side;
 use crate::store::Store;
 use an_keep::Keeper;
 use an_published::{Head, Naming, Published, Seat, StoreWriter, begin, look_at, publish};
-use an_shelf::{Loaded, OpenError, load};
+use an_shelf::{Loaded, NotOpened, OpenError, load};
 use an_snapshot::Snapshot;
 use an_state::Book;
 use std::alloc::{AllocError, Global};
@@ -67,21 +67,31 @@ impl<K: Keeper> Model for Opened<K> {
 }
 
 /// Opens a keeper for so many seats: the state is the one that its cells stand for. Where it is
-/// refused, the keeper is gone, and no cell of it was changed.
+/// refused, the keeper is given back, and no cell of it was changed.
 pub fn open_store<K: Keeper, R: Wait>(
     rt: &R,
     alloc: Global,
     mut keeper: K,
     seats: u32,
-) -> Result<Opened<K>, OpenError>
+) -> Result<Opened<K>, NotOpened<K>>
     requires some { 1 ≤ seats }
     requires few { seats ≤ 64 }
     ensures state { IfOk result (λ store. StandFor store.told store.state) }
     ensures stays { IfOk result (λ store. StaysOrBegins (K.told keeper) store.told) }
     ensures cells { IfOk result (λ store. IfSome store.told (λ found. found
         ≡ cells store.state)) }
-    ensures damaged { IfErr result (WasDamagedBy K.told (K.told keeper)) }
-    ensures sure { IsTrue K.is_sure → ¬ (result ≡ Err OpenError.Keeper) }
+    ensures opened { IfOk result (λ store. WasOpened (K.told keeper) store.told store.state) }
+    ensures never { IfOk result
+        (λ store. K.may_begin ≡ false → Stays (K.told keeper) store.told) }
+
+    // Where it is refused.
+    ensures refused { IfErr result (λ its. IsDamagedBy (K.told its.keeper) its.why) }
+    ensures kept { IfErr result (λ its. StaysOrBegins (K.told keeper) (K.told its.keeper)) }
+    ensures damaged { IfErr result
+        (λ its. WasDamagedBy (K.told keeper) (K.told its.keeper) its.why) }
+    ensures never_refused { IfErr result
+        (λ its. K.may_begin ≡ false → Stays (K.told keeper) (K.told its.keeper)) }
+    ensures sure { IfErr result (λ its. IsTrue K.is_sure → ¬ (its.why ≡ OpenError.Keeper)) }
 
     // Whether the cells are told or not.
     ensures valid { IfOk result (λ store. IsTrue (is_valid store.state)) }
@@ -93,21 +103,26 @@ pub fn open_store<K: Keeper, R: Wait>(
     ensures seats { IfOk result (λ store. All
         (λ seat. seat ≡ newly_seated store.book store.list) store.seats) }
 {
-    let loaded = load(alloc, &mut keeper)?;
-    match begin_store(rt, alloc, keeper, loaded, seats) {
-        Ok(store) => Ok(store),
-        Err(_) => Err(OpenError::Memory),
+    match load(alloc, &mut keeper) {
+        Ok(loaded) => match begin_store(rt, alloc, keeper, loaded, seats) {
+            Ok(store) => Ok(store),
+            Err(keeper) => Err(NotOpened {
+                why: OpenError::Memory,
+                keeper,
+            }),
+        },
+        Err(why) => Err(NotOpened { why, keeper }),
     }
 }
 
-/// The store of what was loaded.
+/// The store of what was loaded, or the keeper as it was, where memory runs out.
 fn begin_store<K: Keeper, R: Wait>(
     rt: &R,
     alloc: Global,
     keeper: K,
     loaded: Loaded,
     seats: u32,
-) -> Result<Opened<K>, AllocError>
+) -> Result<Opened<K>, K>
     requires some { 1 ≤ seats }
     requires few { seats ≤ 64 }
     requires stands { Stands (K.told keeper) loaded.book.state }
@@ -119,14 +134,14 @@ fn begin_store<K: Keeper, R: Wait>(
     ensures number { IfOk result (λ store. length store.seats ≡ seats) }
     ensures seats { IfOk result (λ store. All
         (λ seat. seat ≡ newly_seated store.book store.list) store.seats) }
+    ensures same { IfErr result (λ its. K.told its ≡ K.told keeper) }
 {
     let Loaded { book, snapshot } = loaded;
     let (head, mut writer) = match begin_writer(rt, alloc, &keeper, &book, snapshot, seats) {
         Ok(begun) => begun,
-        Err(error) => {
+        Err(_) => {
             drop(book);
-            drop(keeper);
-            return Err(error);
+            return Err(keeper);
         }
     };
     match make_seats(alloc, &mut writer, seats) {
@@ -137,11 +152,10 @@ fn begin_store<K: Keeper, R: Wait>(
             writer,
             seats,
         }),
-        Err(error) => {
+        Err(_) => {
             drop(writer.take(rt));
             drop(book);
-            drop(keeper);
-            Err(error)
+            Err(keeper)
         }
     }
 }

@@ -10,7 +10,7 @@ use Rattle.an_machine.specs.Step.{step}
 use Rattle.an_machine.specs.declared.command.Refused.{Refused}
 use Rattle.an_machine.specs.declared.command.WriteReply.{WriteReply}
 use Rattle.an_rows.specs.Cells.{cells, state_of}
-use Rattle.an_shelf.specs.Opening.{IsDamagedBy, StandFor, WasDamagedBy}
+use Rattle.an_shelf.specs.Opening.{IsDamagedBy, StandFor}
 use Rattle.an_shelf.specs.Writing.{Writes}
 use Rattle.an_shelf.specs.declared.error.OpenError.{OpenError}
 use Rattle.an_shelf.specs.declared.error.OpenError.TheVariants.{Damaged}
@@ -67,8 +67,8 @@ module _ (keeper : Sure) (items : List Cell) (is : keeper ≡ record { cells = i
   opens_empty (Some found) s stands stays some = let at : state_of [] ≡ Ok s = ap state_of (sym (stays ∙ no_cell)) ∙ stands in cc (at, no_cells)
 
   -- and it isn't damaged
-  pub never_damaged : (error : OpenError) (tab key : ℕ) → WasDamagedBy (λ (k : Sure). Some k.cells) (Some keeper.cells) error → error ≡ Damaged tab key → ⊥
-  never_damaged error tab key was at =
-      let damaged : IsDamagedBy (Some was.kept.cells) (Damaged tab key) = subst (IsDamagedBy (Some was.kept.cells)) at was.damaged in
-      let refused : state_of [] ≡ Err (record { tab = tab; key = key }) = ap state_of (sym (was.stays ∙ no_cell)) ∙ damaged in
+  pub never_damaged : (kept : Sure) (error : OpenError) (tab key : ℕ) → StaysOrBegins (Some keeper.cells) (Some kept.cells) → IsDamagedBy (Some kept.cells) error → error ≡ Damaged tab key → ⊥
+  never_damaged kept error tab key stays found at =
+      let damaged : IsDamagedBy (Some kept.cells) (Damaged tab key) = subst (IsDamagedBy (Some kept.cells)) at found in
+      let refused : state_of [] ≡ Err (record { tab = tab; key = key }) = ap state_of (sym (stays ∙ no_cell)) ∙ damaged in
       cc (refused, no_cells)

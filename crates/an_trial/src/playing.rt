@@ -52,7 +52,7 @@ fn open(alloc: Global) -> Result<Desk<SureKeeper>, AllocError>
 {
     match Desk::open(alloc, SureKeeper::new(Vec::new(alloc))) {
         Ok(desk) => Ok(desk),
-        Err(error) => match error {
+        Err(unopened) => match unopened.why {
             OpenError::Memory => Err(AllocError),
             OpenError::Keeper => unreachable!(),
             OpenError::Damaged { .. } => unreachable!(),

@@ -14,8 +14,9 @@ use std::alloc::{AllocError, Global};
 use std::sync::Wait;
 use std::thread::Threads;
 
-/// Plays a run at an empty store, to whose door two links with these inputs come. Answers with the
-/// status, and how each connection ended; what is written to such a link contracts alone see.
+/// Plays a run at an empty store, to whose door links with these inputs come, none for an input that
+/// is empty. Answers with the status, and how each connection ended; what is written to such a link
+/// only contracts see.
 pub(crate) fn play_sure<R: Threads + Wait + Sync>(
     rt: &R,
     alloc: Global,
@@ -48,18 +49,30 @@ fn run_sure<R: Threads + Wait + Sync>(
 {
     let mut line = sure_link(alloc, Bytes::from_vec(Vec::new(alloc)));
     let keeper = SureKeeper::new(Vec::new(alloc));
-    run(rt, alloc, words, keeper, &mut line, door, &SetClock(noon()))
+    run(rt, alloc, words, keeper, &mut line, door, &SetClock(noon())).status
 }
 
-/// Both links, over which nothing went yet.
+/// The links that have an input, over which nothing went yet.
 fn sure_links(alloc: Global, first: &str, second: &str) -> Result<Vec<SureLink>, AllocError>
     ensures fresh { IfOk result (λ links. All (λ link.
         IsFresh (line (Some (sure_traffic link)) 0 0)) links.items) }
 {
     let mut links = Vec::new(alloc);
-    links.push(sure_link(alloc, input_of(alloc, first)?))?;
-    links.push(sure_link(alloc, input_of(alloc, second)?))?;
+    add_link(alloc, &mut links, first)?;
+    add_link(alloc, &mut links, second)?;
     Ok(links)
+}
+
+/// Adds a link with this input, if there is one.
+fn add_link(alloc: Global, links: &mut Vec<SureLink>, input: &str) -> Result<(), AllocError>
+    requires fresh { All (λ link. IsFresh (line (Some (sure_traffic link)) 0 0)) links.old.items }
+    ensures fresh { All (λ link. IsFresh (line (Some (sure_traffic link)) 0 0)) links.new.items }
+{
+    if input.is_empty() {
+        return Ok(());
+    }
+    links.push(sure_link(alloc, input_of(alloc, input)?))?;
+    Ok(())
 }
 
 fn sure_link(alloc: Global, input: Bytes) -> SureLink

@@ -70,6 +70,8 @@ impl Keeper for WaitingKeeper {
 
     ghost is_sure = { false };
 
+    ghost may_begin = { false };
+
     ghost use Rattle.std.proofs.lemmas.Bool.{false≢true};
 
     // It claims no such thing.

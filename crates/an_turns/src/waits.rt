@@ -158,7 +158,7 @@ fn serve_at<R: Threads + Wait + Sync>(
 {
     let words = words(alloc)?;
     let mut line = fresh_link(alloc, "")?;
-    let status = run(
+    let ran = run(
         rt,
         alloc,
         words.as_slice(),
@@ -166,8 +166,9 @@ fn serve_at<R: Threads + Wait + Sync>(
         &mut line,
         door,
         &SetClock(noon()),
-    )
-    .code();
+    );
+    let status = ran.status.code();
+    drop(ran);
     format!(in alloc; "{status} {}", first_line(line.written()))
 }
 

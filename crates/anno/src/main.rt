@@ -1,20 +1,26 @@
-//! The annotation server as a program.
+//! The annotation server as a program: it does what its words say, over standard input and output
+//! and at a port, and ends with the status of that.
+//!
+//! ```text
+//! anno notes.db import < lines     0: each line was accepted, and is kept in notes.db
+//! anno notes.db session FOO 10     2: FOO is no base of IRIs, and no file is made
+//! ```
 #![tactic(auto)]
 
 mod clock;
+mod filed;
 mod host;
 mod progress;
 mod std_link;
 mod tcp_door;
 mod tcp_link;
 
-use an_app::{Status, run};
-use an_base::Text;
-use an_keep::{Keeper, SureKeeper};
+use an_app::{Ran, Status, run};
+use an_keep::SureKeeper;
 use clock::RealClock;
+use filed::{close, run_at};
 use host::Host;
-use progress::ToldKeeper;
-use std::io::IsTerminal;
+use sqlite::Unknown;
 use std::net::{Net, TcpListener, TcpStream};
 use std::process::ExitCode;
 use std::rt::Env;
@@ -46,22 +52,16 @@ fn words_of<R: Env + AllocGlobal>(rt: &R) -> io::Result<Vec<String>> {
 }
 
 /// Does what the words say. The first is the store: `-` is an empty one in memory, and any other is
-/// the path of a file. The handles to threads and to ports come beside the runtime that opens
-/// files.
+/// the path of a file, of whose contents nothing is known. The handles to threads and to ports come
+/// beside the runtime that opens files.
 fn run_words<R: Threads + Wait + Net<Listener = TcpListener, Stream = TcpStream> + Sync>(
     rt: &R,
     host: &HostRuntime,
     words: &[String],
 ) -> Status {
     match path_in(words) {
-        Some(path) => match Text::new(host.alloc(), path) {
-            Ok(path) => {
-                let keeper = ToldKeeper::at(host, path, are_writes_told(host, words));
-                run_over(rt, host, words, keeper)
-            }
-            Err(_) => Status::Memory,
-        },
-        None => run_over(rt, host, words, SureKeeper::new(Vec::new(host.alloc()))),
+        Some(path) => run_filed(rt, host, words, path),
+        None => run_in_memory(rt, host, words),
     }
 }
 
@@ -71,23 +71,34 @@ fn path_in(words: &[String]) -> Option<&str> {
     if path == "-" { None } else { Some(path) }
 }
 
-/// Whether somebody at a terminal waits for an import.
-fn are_writes_told(host: &HostRuntime, words: &[String]) -> bool {
-    match words {
-        [_, form] => form.as_str() == "import" && host.stderr().is_terminal(),
-        _ => false,
-    }
-}
-
-/// Does what the words say at the store of a keeper.
-fn run_over<
-    R: Threads + Wait + Net<Listener = TcpListener, Stream = TcpStream> + Sync,
-    K: Keeper + Send,
->(rt: &R, host: &HostRuntime, words: &[String], keeper: K) -> Status {
+/// Does what the words say at the store in the file at this path.
+fn run_filed<R: Threads + Wait + Net<Listener = TcpListener, Stream = TcpStream> + Sync>(
+    rt: &R,
+    host: &HostRuntime,
+    words: &[String],
+    path: &str,
+) -> Status {
     let mut link = StdLink::new(host.reader(), io::writer(host));
     let mut door = TcpDoor::new(Host::new(rt, host));
     let clock = RealClock::new(host);
-    run(
+    let Ran { status, keeper } = run_at(
+        rt, host, words, path, Unknown, &mut link, &mut door, &clock,
+    );
+    close(keeper);
+    status
+}
+
+/// Does what the words say at an empty store in memory.
+fn run_in_memory<R: Threads + Wait + Net<Listener = TcpListener, Stream = TcpStream> + Sync>(
+    rt: &R,
+    host: &HostRuntime,
+    words: &[String],
+) -> Status {
+    let keeper = SureKeeper::new(Vec::new(host.alloc()));
+    let mut link = StdLink::new(host.reader(), io::writer(host));
+    let mut door = TcpDoor::new(Host::new(rt, host));
+    let clock = RealClock::new(host);
+    let Ran { status, keeper: _ } = run(
         rt,
         host.alloc(),
         words,
@@ -95,5 +106,6 @@ fn run_over<
         &mut link,
         &mut door,
         &clock,
-    )
+    );
+    status
 }

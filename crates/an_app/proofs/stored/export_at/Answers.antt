@@ -1,16 +1,30 @@
-use Rattle.std.proofs.Common.{Err, inl, inr, ap, ◌∙◌}
+use Rattle.std.proofs.Common.{IsSome, inl, inr, sym, subst}
+use Rattle.an_keep.proofs.ToldLemmas.{stays-tells, told-before}
+use Rattle.an_shelf.specs.Opening.{StandFor}
 use Rattle.an_app.specs.AtStore.{ExportsAt}
-use Rattle.an_app.proofs.RunLemmas.{Unopened-for, open_cause}
+use Rattle.an_app.specs.Outside.{WasLeft}
+use Rattle.an_app.proofs.RunLemmas.{unopened-at}
 use Rattle.an_app.proofs.stored.export_at.Goals as goal
 
 pub returns-in-Ok-clause-exports : goal.returns-in-Ok-clause-exports
 unfolding ExportsAt
 returns-in-Ok-clause-exports g c =
-    inl (record { state = c.in-Ok.desk.state; opens = c.in-Ok.ensures.opened; tells = c.export.ensures.exports })
+    let its = c.into_keeper-keeper.ensures in
+    inl (record {
+      state = c.in-Ok.desk.state;
+      opens = told-before (λ told. StandFor told c.in-Ok.desk.state) _ _ _ c.in-Ok.ensures.stays (λ some. subst IsSome its.told some) c.in-Ok.ensures.state;
+      leaves = subst (λ told. WasLeft told c.in-Ok.desk.state) (sym its.told) its.cells;
+      tells = c.export-status.ensures.exports;
+    })
 
 pub returns-in-Err-clause-exports : goal.returns-in-Err-clause-exports
 unfolding ExportsAt
 returns-in-Err-clause-exports g c =
-    inr (Unopened-for _ _ _ _ _ _
-    (open_cause g.K.Keeper.told _ c.args.keeper c.in-Err.error (λ is. λ sure. c.open.ensures.sure sure (c.in-Err.is ∙ ap Err is)) c.in-Err.ensures.damaged)
-    c.unopened.ensures.told)
+    let its = c.in-Err.ensures in
+    inr (unopened-at _ _ _ _ _ _ _ _ _ its.kept its.refused (λ is. λ sure. its.sure sure is) c.not_opened.ensures.keeper c.not_opened.ensures.told)
+
+pub returns-in-Ok-clause-never : goal.returns-in-Ok-clause-never
+returns-in-Ok-clause-never g c = λ kind some. stays-tells _ _ (c.in-Ok.ensures.never kind) (subst IsSome c.into_keeper-keeper.ensures.told some)
+
+pub returns-in-Err-clause-never : goal.returns-in-Err-clause-never
+returns-in-Err-clause-never g c = λ kind some. stays-tells _ _ (c.in-Err.ensures.never_refused kind) (subst IsSome c.not_opened.ensures.keeper some)

@@ -1,5 +1,7 @@
-use Rattle.std.proofs.Common.{Err, inl, inr, ap, ◌∙◌}
-use Rattle.an_app.proofs.RunLemmas.{Unopened-for, open_cause}
+use Rattle.std.proofs.Common.{IsSome, inl, inr, subst}
+use Rattle.an_keep.proofs.ToldLemmas.{stays-tells, told-before}
+use Rattle.an_shelf.specs.Opening.{StandFor}
+use Rattle.an_app.proofs.RunLemmas.{unopened-at}
 use Rattle.an_app.proofs.stored.import_at.Goals as goal
 
 pub returns-in-Ok-clause-imports : goal.returns-in-Ok-clause-imports
@@ -7,15 +9,19 @@ returns-in-Ok-clause-imports g c =
     let (behind, left, imports) = c.import_into.ensures.imports in
     inl (record {
       before = c.in-Ok.desk.state;
-      opens = c.in-Ok.ensures.opened;
+      opens = told-before (λ told. StandFor told c.in-Ok.desk.state) _ _ _ c.in-Ok.ensures.stays c.import_into.ensures.told c.in-Ok.ensures.state;
       behind = behind;
       imports = imports;
-      told = c.in-Ok.desk.told;
       leaves = left;
     })
 
 pub returns-in-Err-clause-imports : goal.returns-in-Err-clause-imports
 returns-in-Err-clause-imports g c =
-    inr (Unopened-for _ _ _ _ _ _
-    (open_cause g.K.Keeper.told _ c.args.keeper c.in-Err.error (λ is. λ sure. c.open.ensures.sure sure (c.in-Err.is ∙ ap Err is)) c.in-Err.ensures.damaged)
-    c.unopened.ensures.told)
+    let its = c.in-Err.ensures in
+    inr (unopened-at _ _ _ _ _ _ _ _ _ its.kept its.refused (λ is. λ sure. its.sure sure is) c.not_opened.ensures.keeper c.not_opened.ensures.told)
+
+pub returns-in-Ok-clause-never : goal.returns-in-Ok-clause-never
+returns-in-Ok-clause-never g c = λ kind some. stays-tells _ _ (c.in-Ok.ensures.never kind) (c.import_into.ensures.told some)
+
+pub returns-in-Err-clause-never : goal.returns-in-Err-clause-never
+returns-in-Err-clause-never g c = λ kind some. stays-tells _ _ (c.in-Err.ensures.never_refused kind) (subst IsSome c.not_opened.ensures.keeper some)

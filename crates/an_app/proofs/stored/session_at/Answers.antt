@@ -1,15 +1,18 @@
-use Rattle.std.proofs.Common.{Err, inl, inr, ap, ◌∙◌}
-use Rattle.an_app.proofs.RunLemmas.{Unopened-for, little_requests, open_cause}
+use Rattle.std.proofs.Common.{IsSome, inl, inr, subst}
+use Rattle.an_keep.proofs.ToldLemmas.{stays-tells, told-before}
+use Rattle.an_shelf.specs.Opening.{StandFor}
+use Rattle.an_app.proofs.RunLemmas.{little_requests, unopened-at}
 use Rattle.an_app.proofs.stored.session_at.Goals as goal
 
 pub returns-in-Ok-clause-session : goal.returns-in-Ok-clause-session
 returns-in-Ok-clause-session g c =
-    let (behind, legal, left, connection) = c.session_into.ensures.connection in
+    let its = c.session_into-ended in
+    let (behind, legal, left, connection) = its.ensures.connection in
     inl (record {
       state = c.in-Ok.desk.state;
-      opens = c.in-Ok.ensures.opened;
+      opens = told-before (λ told. StandFor told c.in-Ok.desk.state) _ _ _ c.in-Ok.ensures.stays its.ensures.told c.in-Ok.ensures.state;
       told = c.in-Ok.desk.told;
-      ended = c.session_into.result;
+      ended = its.result.0;
       is = c.ended_status.ensures;
       behind = behind;
       connection = connection;
@@ -19,9 +22,14 @@ returns-in-Ok-clause-session g c =
 
 pub returns-in-Err-clause-session : goal.returns-in-Err-clause-session
 returns-in-Err-clause-session g c =
-    inr (Unopened-for _ _ _ _ _ _
-    (open_cause g.K.Keeper.told _ c.args.keeper c.in-Err.error (λ is. λ sure. c.open.ensures.sure sure (c.in-Err.is ∙ ap Err is)) c.in-Err.ensures.damaged)
-    c.unopened.ensures.told)
+    let its = c.in-Err.ensures in
+    inr (unopened-at _ _ _ _ _ _ _ _ _ its.kept its.refused (λ is. λ sure. its.sure sure is) c.not_opened.ensures.keeper c.not_opened.ensures.told)
 
 pub returns-in-Err-clause-bounded : goal.returns-in-Err-clause-bounded
-returns-in-Err-clause-bounded g c = little_requests _ _ c.unopened.ensures.bounded
+returns-in-Err-clause-bounded g c = little_requests _ _ c.not_opened.ensures.bounded
+
+pub returns-in-Ok-clause-never : goal.returns-in-Ok-clause-never
+returns-in-Ok-clause-never g c = λ kind some. stays-tells _ _ (c.in-Ok.ensures.never kind) (c.session_into-ended.ensures.told some)
+
+pub returns-in-Err-clause-never : goal.returns-in-Err-clause-never
+returns-in-Err-clause-never g c = λ kind some. stays-tells _ _ (c.in-Err.ensures.never_refused kind) (subst IsSome c.not_opened.ensures.keeper some)

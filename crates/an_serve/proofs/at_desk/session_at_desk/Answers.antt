@@ -5,4 +5,6 @@ pub returns-clause-session : goal.returns-clause-session
 returns-clause-session g c = desk-connection _ _ _ _ _ _ _ _ c.serve_link-ended.ensures.session
 
 pub returns-clause-bounded : goal.returns-clause-bounded
-returns-clause-bounded g c = desk-reads _ _ _ _ _ _ _ _ c.book-before.ensures.cells c.serve_link-ended.ensures.session
+returns-clause-bounded g c =
+    let before = c.book-before.ensures in
+    desk-reads _ _ _ _ _ _ _ _ (record { cells_are = before.cells; valid = before.valid; sound = before.sound }) c.serve_link-ended.ensures.session

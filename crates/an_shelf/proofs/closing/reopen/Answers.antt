@@ -1,4 +1,4 @@
-use Rattle.an_shelf.proofs.ClosingLemmas.{again-same, again-nothing, damaged-untold}
+use Rattle.an_shelf.proofs.ClosingLemmas.{again-same, again-nothing, again-undamaged}
 use Rattle.an_shelf.proofs.closing.reopen.Goals as goal
 
 pub returns-clause-same : goal.returns-clause-same
@@ -7,9 +7,9 @@ returns-clause-same g c =
 
 pub returns-clause-undamaged : goal.returns-clause-undamaged
 returns-clause-undamaged g c =
-    λ tab key is some.
-    damaged-untold g.K.Keeper.told c.args.desk.state tab key c.args.desk.told (g.K.Keeper.told c.into_keeper.result) c.into_keeper.ensures.told c.into_keeper.ensures.stand some
-    c.open.result c.open.ensures.damaged is
+    λ tab key.
+    again-undamaged (λ its. g.K.Keeper.told its.keeper) (λ its. its.why) c.args.desk.state tab key c.args.desk.told (g.K.Keeper.told c.into_keeper.result) c.into_keeper.ensures.told
+    c.into_keeper.ensures.stand c.open.result c.open.ensures.kept c.open.ensures.refused
 
 pub returns-clause-sent_again : goal.returns-clause-sent_again
 returns-clause-sent_again g c =

@@ -1,4 +1,4 @@
-use Rattle.an_shelf.proofs.ReadingLemmas.{none-state, none-cells, none-valid, none-sound, begins-stays}
+use Rattle.an_shelf.proofs.ReadingLemmas.{none-state, none-cells, none-valid, none-sound, begins-stays, stays-on}
 use Rattle.an_shelf.proofs.opening.load.Goals as goal
 
 pub returns-in-None-clause-state : goal.returns-in-None-clause-state
@@ -16,3 +16,6 @@ returns-in-None-clause-sound g c = none-sound c.new.result.book.state c.new.ensu
 
 pub returns-in-Some-clause-stays : goal.returns-in-Some-clause-stays
 returns-in-Some-clause-stays g c = begins-stays _ _ _ c.first.ensures.stays c.load_from.ensures.stays
+
+pub returns-in-Some-clause-never : goal.returns-in-Some-clause-never
+returns-in-Some-clause-never g c = λ kind. stays-on _ _ _ (c.first.ensures.never kind) c.load_from.ensures.stays

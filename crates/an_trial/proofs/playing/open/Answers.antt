@@ -5,4 +5,4 @@ pub returns-in-Ok-clause-empty : goal.returns-in-Ok-clause-empty
 returns-in-Ok-clause-empty c = opens_empty c.new-2.result _ c.new-2.ensures.start c.new.ensures.items _ _ c.in-Ok.ensures.state c.in-Ok.ensures.stays
 
 pub unreachable-requires-in-Damaged : goal.unreachable-requires-in-Damaged
-unreachable-requires-in-Damaged c = never_damaged c.new-2.result _ c.new-2.ensures.start c.new.ensures.items _ _ _ c.in-Err.ensures.damaged c.in-Damaged.is
+unreachable-requires-in-Damaged c = never_damaged c.new-2.result _ c.new-2.ensures.start c.new.ensures.items c.in-Err.unopened.keeper _ _ _ c.in-Err.ensures.kept c.in-Err.ensures.refused c.in-Damaged.is

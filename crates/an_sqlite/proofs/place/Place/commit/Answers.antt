@@ -1,9 +1,0 @@
-use Rattle.std.proofs.Common.{IsTrue, subst}
-use Rattle.an_sqlite.specs.Place.{is_telling}
-use Rattle.an_sqlite.proofs.PlaceLemmas.{goes_on, goes_telling}
-use Rattle.an_sqlite.proofs.place.Place.commit.Goals as goal
-
-pub returns-in-File-clause-on : goal.returns-in-File-clause-on
-returns-in-File-clause-on g c telling =
-    let opened = goes_telling g.S.Store c.args.self.now c.open.new.self c.open.ensures.keeps telling in
-    goes_on g.S.Store c.in-File.field-1 c.in-File.teller c.commit.new.self c.commit.ensures.came (subst (λ place. IsTrue (is_telling place)) c.in-File.is opened)

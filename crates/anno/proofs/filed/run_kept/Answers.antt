@@ -1,0 +1,6 @@
+use denote.Param.Send.{sendable}
+use Rattle.anno.proofs.Crossings.{told_send}
+use Rattle.anno.proofs.filed.run_kept.Goals as goal
+
+pub run-status-requires-send-K : goal.run-status-requires-send-K
+run-status-requires-send-K g c κs within = let store = c.type_bounds.send-S in search (told_send, sendable) depth 20
