@@ -52,7 +52,14 @@ impl<'a, R: Wait> Failing<'a, R> {
             return Err(RowError::Memory);
         };
         match self.requests.first() {
-            Some(request) => play_seats(self.rt, alloc, keeper, &settings, request.as_slice(), unread),
+            Some(request) => play_seats(
+                self.rt,
+                alloc,
+                keeper,
+                &settings,
+                request.as_slice(),
+                unread,
+            ),
             None => Err(RowError::Form),
         }
     }

@@ -83,14 +83,25 @@ fn ask_and_meet<J: Naming, R: Wait>(
         }
     };
     let (second, before) = changes_at(second);
-    let served = session(rt, alloc, &mut link, store, first, settings, &SetClock(noon()));
+    let served = session(
+        rt,
+        alloc,
+        &mut link,
+        store,
+        first,
+        settings,
+        &SetClock(noon()),
+    );
     let (second, between) = changes_at(second);
     let (mut first, mut second) = (served.seat, second);
     store.meet(rt, &mut first, &mut second);
     let (second, after) = changes_at(second);
     drop(second);
-    let told = match format!(in alloc; "{before} {:?} {} {between} {after}", served.ended, status(&link))
-    {
+    let told = match format!(in alloc;
+        "{before} {:?} {} {between} {after}",
+        served.ended,
+        status(&link)
+    ) {
         Ok(told) => Ok(told),
         Err(_) => Err(RowError::Memory),
     };
