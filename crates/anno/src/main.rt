@@ -84,7 +84,11 @@ fn run_filed<R: Threads + Wait + Net<Listener = TcpListener, Stream = TcpStream>
     let Ran { status, keeper } = run_at(
         rt, host, words, path, Unknown, &mut link, &mut door, &clock,
     );
-    close(keeper);
+    match status {
+        // It may be somebody else's file, which stays as it was found.
+        Status::KeeperFailed | Status::Damaged { .. } => drop(keeper),
+        _ => close(keeper),
+    }
     status
 }
 
