@@ -18,7 +18,7 @@ use Rattle.an_state.specs.View.{View}
 use Rattle.an_state.specs.declared.command.Object.{Object}
 use Rattle.an_state.specs.declared.command.Object.TheVariants as object
 use Rattle.an_machine.specs.declared.command.Refused.{Refused}
-use Rattle.an_machine.specs.Told.{write_refusal}
+use Rattle.an_answers.specs.Refused.{write_refusal}
 use Rattle.an_machine.specs.declared.command.WriteReply.{WriteReply}
 use Rattle.an_base.specs.declared.span.Prefer.{Prefer}
 use Rattle.an_pages.specs.Bodies.{manifest_of_view, annotation_of_view}
@@ -30,7 +30,7 @@ use Rattle.an_stream.specs.declared.stream.StreamError.TheVariants as stream
 use Rattle.an_pages.specs.declared.error.PageError.{PageError}
 use Rattle.an_pages.specs.declared.error.PageError.TheVariants as page
 use Rattle.an_search.specs.Search.{search_of}
-use Rattle.an_search.specs.Site.{Site}
+use Rattle.an_list.specs.Site.{Site}
 use Rattle.an_search.specs.declared.searching.AskError.{AskError}
 use Rattle.an_search.specs.declared.searching.AskError.TheVariants as ask
 use Rattle.an_complete.specs.Complete.{complete_of}

@@ -7,7 +7,7 @@ use Rattle.an_pages.specs.Cost.{canvas_page_cost, container_cost, container_page
 use Rattle.an_routes.specs.declared.kinds.Read.{Read}
 use Rattle.an_routes.specs.declared.kinds.Read.TheVariants as read
 use Rattle.an_search.specs.Cost.{search_cost}
-use Rattle.an_search.specs.Site.{Site}
+use Rattle.an_list.specs.Site.{Site}
 use Rattle.an_state.specs.View.{View}
 use Rattle.an_answers.specs.Answer.{with_iris}
 

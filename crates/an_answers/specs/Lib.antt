@@ -1,3 +1,5 @@
+pub mod Refused
 pub mod Answer
 pub mod Isolation
 pub mod Cost
+pub mod Untold

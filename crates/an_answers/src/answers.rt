@@ -11,16 +11,19 @@ ghost use Rattle.an_answers.specs.Answer.{write_text, write_body, write_status};
 ghost use Rattle.an_answers.specs.Answer.{write_answer};
 ghost use Rattle.an_answers.specs.Cost.{cost_of, shown_cost};
 
+use crate::refused::write_refusal;
 use an_base::{Bytes, Name, Prefer, Steps};
 use an_code::Code;
 use an_complete::{Ask, CompleteError, complete};
 use an_http::{Allow, Extra, Media, Reply, Status, refusal_reply};
 use an_iri::{manifest_iri, note_iri, reader_iri};
-use an_machine::{Refused, WriteReply, write_refusal};
+use an_list::Site;
+use an_machine::{Refused, WriteReply};
 use an_pages::{PageError, annotation, canvas_page, container, container_page, manifest_answer};
 use an_policy::{Caller, Who};
+use an_query::Query;
 use an_routes::Read;
-use an_search::{AskError, Query, Settings, search};
+use an_search::{AskError, search};
 use an_state::{Look, Object};
 use an_stream::{StreamError, changes, changes_page};
 use std::alloc::{AllocError, Global};
@@ -32,23 +35,23 @@ use std::sync::ledger::Ledger;
 pub fn answer<T: Look, L: Ledger>(
     alloc: Global,
     look: &T,
-    settings: &Settings,
+    site: &Site,
     caller: &Caller,
     prefer: Prefer,
     read: &Read,
     steps: &mut Steps<L>,
 ) -> Result<Reply, AllocError>
-    ensures answer { IfOk result (λ reply. reply ≡ answer_of settings.now
+    ensures answer { IfOk result (λ reply. reply ≡ answer_of site.now
         (view_by (T.state look.now) caller.now) prefer read.now) }
-    ensures steps { OnOk result (steps.new ≡ steps.old + cost_of settings.now
+    ensures steps { OnOk result (steps.new ≡ steps.old + cost_of site.now
         (view_by (T.state look.now) caller.now) prefer read.now) }
-    ensures steps_most { steps.new ≤ steps.old + cost_of settings.now
+    ensures steps_most { steps.new ≤ steps.old + cost_of site.now
         (view_by (T.state look.now) caller.now) prefer read.now }
     ensures steps_least { steps.old ≤ steps.new }
 {
     match look.who(caller) {
         Some(who) => {
-            let shown = shown_to(alloc, look, settings, &who, prefer, read, steps)?;
+            let shown = shown_to(alloc, look, site, &who, prefer, read, steps)?;
             shown_reply(alloc, read.methods(), shown)
         }
         None => refusal_reply(alloc, read.methods(), Code::NotSigned),
@@ -75,14 +78,14 @@ pub fn query_answer<T: Look>(
 /// The answer to a write that was decided: the object's IRI and number, or the refusal.
 pub fn write_answer(
     alloc: Global,
-    settings: &Settings,
+    site: &Site,
     allow: Allow,
     written: &Result<WriteReply, Refused>,
 ) -> Result<Reply, AllocError>
-    ensures answer { IfOk result (λ reply. reply ≡ write_answer settings.now allow written.now) }
+    ensures answer { IfOk result (λ reply. reply ≡ write_answer site.now allow written.now) }
 {
     match written {
-        Ok(reply) => written_reply(alloc, settings.base(), allow, reply),
+        Ok(reply) => written_reply(alloc, site.base(), allow, reply),
         Err(refused) => refusal_reply(alloc, allow, write_refusal(*refused)),
     }
 }
@@ -118,35 +121,35 @@ fn shown_reply(alloc: Global, allow: Allow, shown: Result<Shown, Code>) -> Resul
 fn shown_to<T: Look, L: Ledger>(
     alloc: Global,
     look: &T,
-    settings: &Settings,
+    site: &Site,
     who: &Who<'_>,
     prefer: Prefer,
     read: &Read,
     steps: &mut Steps<L>,
 ) -> Result<Result<Shown, Code>, AllocError>
-    ensures shown { IfOk result (λ shown. shown ≡ shown_of settings.now
+    ensures shown { IfOk result (λ shown. shown ≡ shown_of site.now
         (view_of (T.state look.now) (identity who.now)) prefer read.now) }
-    ensures steps { OnOk result (steps.new ≡ steps.old + shown_cost settings.now
+    ensures steps { OnOk result (steps.new ≡ steps.old + shown_cost site.now
         (view_of (T.state look.now) (identity who.now)) prefer read.now) }
-    ensures steps_most { steps.new ≤ steps.old + shown_cost settings.now
+    ensures steps_most { steps.new ≤ steps.old + shown_cost site.now
         (view_of (T.state look.now) (identity who.now)) prefer read.now }
     ensures steps_least { steps.old ≤ steps.new }
 {
     match read {
         Read::Manifest { name } => {
-            let body = manifest_answer(alloc, look, who, name, settings);
+            let body = manifest_answer(alloc, look, who, name, site);
             page_shown(Media::Manifest, Extra::Absent, body)
         }
         Read::Note { owner, name } => {
-            let body = annotation(alloc, look, who, owner, name, settings);
+            let body = annotation(alloc, look, who, owner, name, site);
             page_shown(Media::Annotation, Extra::Resource, body)
         }
         Read::Search { manifest, query } => {
-            let body = search(alloc, look, who, manifest, query, settings, steps);
+            let body = search(alloc, look, who, manifest, query, site, steps);
             search_shown(body)
         }
         Read::Complete { manifest, ask } => {
-            let body = complete(alloc, look, who, manifest, ask, settings, steps);
+            let body = complete(alloc, look, who, manifest, ask, site, steps);
             completion_shown(body)
         }
         Read::Canvas {
@@ -156,13 +159,13 @@ fn shown_to<T: Look, L: Ledger>(
             page,
         } => {
             let body = canvas_page(
-                alloc, look, who, manifest, *canvas, *region, *page, settings, steps,
+                alloc, look, who, manifest, *canvas, *region, *page, site, steps,
             );
             page_shown(Media::Manifest, Extra::Absent, body)
         }
         Read::Container { manifest, iris } => {
             let prefer = with_iris(prefer, *iris);
-            let body = container(alloc, look, who, manifest, prefer, settings, steps);
+            let body = container(alloc, look, who, manifest, prefer, site, steps);
             page_shown(Media::Annotation, Extra::Container, body)
         }
         Read::ContainerPage {
@@ -170,12 +173,12 @@ fn shown_to<T: Look, L: Ledger>(
             page,
             iris,
         } => {
-            let body = container_page(alloc, look, who, manifest, *page, *iris, settings, steps);
+            let body = container_page(alloc, look, who, manifest, *page, *iris, site, steps);
             page_shown(Media::Annotation, Extra::Absent, body)
         }
-        Read::Changes => changes_shown(alloc, look, settings, who),
+        Read::Changes => changes_shown(alloc, look, site, who),
         Read::ChangesPage { page } => {
-            let body = changes_page(alloc, look, who, *page, settings);
+            let body = changes_page(alloc, look, who, *page, site);
             changes_page_shown(body)
         }
     }
@@ -251,16 +254,16 @@ fn with_iris(prefer: Prefer, iris: bool) -> Prefer
 fn changes_shown<T: Look>(
     alloc: Global,
     look: &T,
-    settings: &Settings,
+    site: &Site,
     who: &Who<'_>,
 ) -> Result<Result<Shown, Code>, AllocError>
     ensures { IfOk result (λ shown. shown ≡ Ok (record {
       media = Media.Changes;
       extra = Extra.Absent;
-      body = changes_of settings.now (view_of (T.state look.now) (identity who.now));
+      body = changes_of site.now (view_of (T.state look.now) (identity who.now));
     })) }
 {
-    let body = changes(alloc, look, who, settings)?;
+    let body = changes(alloc, look, who, site)?;
     Ok(Ok(Shown {
         media: Media::Changes,
         extra: Extra::Absent,

@@ -20,9 +20,9 @@ use Rattle.an_lines.specs.Told.{IsTold}
 use Rattle.an_lines.specs.Trials.{trial_report}
 use Rattle.an_lines.specs.declared.status.Status.{Status}
 use Rattle.an_lines.specs.declared.status.Status.TheVariants as status
-use Rattle.an_search.specs.Site.{Site}
-use Rattle.an_forms.specs.declared.form.Form.{Form}
-use Rattle.an_forms.specs.declared.form.Form.TheVariants as form
+use Rattle.an_list.specs.Site.{Site}
+use Rattle.an_app.specs.declared.form.Form.{Form}
+use Rattle.an_app.specs.declared.form.Form.TheVariants as form
 use Rattle.an_app.specs.AtStore.{ExportsAt}
 use Rattle.an_app.specs.Exact.{IsOfOpened, OpensStore}
 use Rattle.an_app.specs.Outside.{Outside}

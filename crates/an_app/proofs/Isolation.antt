@@ -6,7 +6,7 @@ use Rattle.an_answers.specs.Isolation.{SeesAlike}
 use Rattle.an_lines.proofs.IsolationLemmas.{line_alike}
 use Rattle.an_policy.specs.declared.who.Caller.{Caller}
 use Rattle.an_routes.specs.declared.kinds.Read.{Read}
-use Rattle.an_search.specs.Site.{Site}
+use Rattle.an_list.specs.Site.{Site}
 use Rattle.an_serve.proofs.IsolationLemmas.{request_alike}
 use Rattle.an_state.specs.State.{State}
 use Rattle.an_state.specs.View.{view_by}

@@ -1,3 +1,4 @@
+pub mod FormLemmas
 pub mod RunLemmas
 pub mod ServeLemmas
 pub mod Exact

@@ -1,11 +1,11 @@
 -- How the calls of a run at a keeper add up to its end.
-use Rattle.std.proofs.Common.{◌≡◌, ℕ, ℤ, Bool, ◌<◌, ◌≤◌, inr, ⊎_elim, List, [], Option, Some, None, IfSome, IfNone, IsSome, refl, sym, subst, arith}
+use Rattle.std.proofs.Common.{◌≡◌, ℕ, ℤ, Bool, ◌<◌, ◌≤◌, ◌∙◌, inl, inr, ⊎_elim, List, [], Option, Some, None, IfSome, IfNone, IsSome, refl, sym, subst, arith}
 use Rattle.std.proofs.lemmas.Bool.{false≢true}
 use Rattle.an_keep.specs.Keeper.{StaysOrBegins, Told}
 use Rattle.an_state.specs.State.{State}
 use Rattle.an_state.specs.View.{View}
-use Rattle.an_search.specs.Site.{Site}
-use Rattle.an_shelf.specs.Opening.{IsDamagedBy, WasDamagedBy}
+use Rattle.an_list.specs.Site.{Site}
+use Rattle.an_shelf.specs.Opening.{IsDamagedBy, StaysOrRenews, WasDamagedBy}
 use Rattle.an_shelf.proofs.OpeningLemmas.{was-damaged}
 use Rattle.an_shelf.specs.declared.error.OpenError.{OpenError}
 use Rattle.an_shelf.specs.declared.error.OpenError.TheVariants as error
@@ -16,7 +16,7 @@ use Rattle.an_session.specs.Trail.{Item}
 use Rattle.an_session.specs.declared.ended.Ended.{Ended}
 use Rattle.an_session.specs.declared.ended.Ended.TheVariants as ended
 use Rattle.an_lines.specs.ImportEnds.{Imports}
-use Rattle.an_app.specs.Unopened.{IsCause, Unopened, UnopenedAt, unopened_text}
+use Rattle.an_app.specs.Unopened.{IsCause, LeavesCells, Unopened, UnopenedAt, unopened_text}
 use Rattle.an_app.specs.AtStore.{ExportsAt}
 use Rattle.an_lines.specs.Export.{export_report, export_told, view_named}
 use Rattle.an_app.specs.SessionEnds.{ended_status}
@@ -25,8 +25,8 @@ use Rattle.an_lines.specs.Status.{Exchanges, Finds, IsUnfailing, Misunderstands,
 use Rattle.an_lines.specs.Told.{IsTold, Tells}
 use Rattle.an_app.specs.Outside.{Outside, outside_of}
 use Rattle.an_app.specs.Runs.{ReadsInput, Runs}
-use Rattle.an_forms.specs.declared.form.Form.{Form}
-use Rattle.an_forms.specs.declared.form.Form.TheVariants as form
+use Rattle.an_app.specs.declared.form.Form.{Form}
+use Rattle.an_app.specs.declared.form.Form.TheVariants as form
 use Rattle.an_lines.specs.Trials.{trial_report}
 use Rattle.an_lines.specs.declared.status.Status.{Status}
 use Rattle.an_lines.specs.declared.status.Status.TheVariants as status
@@ -111,11 +111,49 @@ open_cause before after can_fail failed unkept damaged (error.Damaged tab key) (
 open_cause before after can_fail failed unkept damaged error.Memory (is, some) = absurd (some refl)
 
 -- a run whose store isn't opened changes no cell
+stays-leaves : (end : Status) (before after : Told) → StaysOrBegins before after → LeavesCells end before after
+stays-leaves status.Memory before after stays = inl stays
+stays-leaves status.Done before after stays = stays
+stays-leaves status.WriteFault before after stays = stays
+stays-leaves status.ReadFault before after stays = stays
+stays-leaves status.Misunderstood before after stays = stays
+stays-leaves status.Refused before after stays = stays
+stays-leaves status.KeeperFailed before after stays = stays
+stays-leaves (status.Damaged tab key) before after stays = stays
+stays-leaves status.NoReader before after stays = stays
+stays-leaves status.DoorFailed before after stays = stays
+
+-- or has only turned those of the first format, where memory ran out
+renews-leaves : (end : Status) (before after : Told) (failed : OpenError) (writes : Type 0) (old new : Option Traffic) → StaysOrRenews before after
+    → (¬ (failed ≡ error.Memory) → StaysOrBegins before after) → Unopened (λ why. (why ≡ failed) × ¬ (why ≡ error.Memory)) writes old new end → LeavesCells end before after
+unfolding Unopened
+renews-leaves status.Memory before after failed writes old new renews stays run = renews
+renews-leaves status.KeeperFailed before after failed writes old new renews stays run = stays (λ is. run.0.1 (run.0.0 ∙ is))
+renews-leaves (status.Damaged tab key) before after failed writes old new renews stays run = stays (λ is. run.0.1 (run.0.0 ∙ is))
+renews-leaves status.WriteFault before after failed writes old new renews stays (written, told) = let (why, cause, front) = told in stays (λ is. cause.1 (cause.0 ∙ is))
+renews-leaves status.Done before after failed writes old new renews stays run = absurd run
+renews-leaves status.ReadFault before after failed writes old new renews stays run = absurd run
+renews-leaves status.Misunderstood before after failed writes old new renews stays run = absurd run
+renews-leaves status.Refused before after failed writes old new renews stays run = absurd run
+renews-leaves status.NoReader before after failed writes old new renews stays run = absurd run
+renews-leaves status.DoorFailed before after failed writes old new renews stays run = absurd run
+
+unopened-left : (before kept after : Told) (can_fail writes : Type 0) (failed : OpenError) (old new : Option Traffic) (end : Status) → LeavesCells end before kept → WasDamagedBy before kept failed
+    → (failed ≡ error.Keeper → can_fail) → after ≡ kept → Unopened (λ why. (why ≡ failed) × ¬ (why ≡ error.Memory)) writes old new end → UnopenedAt (outside_of before after can_fail ⊥ writes) old new end
+unopened-left before kept after can_fail writes failed old new end leaves damaged unkept same told =
+    subst (λ now. UnopenedAt (outside_of before now can_fail ⊥ writes) old new end) (sym same)
+    (leaves, Unopened-for _ _ _ _ _ _ (open_cause before kept can_fail failed unkept damaged) told)
+
 pub unopened-at : (before kept after : Told) (can_fail writes : Type 0) (failed : OpenError) (old new : Option Traffic) (end : Status) → StaysOrBegins before kept → IsDamagedBy kept failed
     → (failed ≡ error.Keeper → can_fail) → after ≡ kept → Unopened (λ why. (why ≡ failed) × ¬ (why ≡ error.Memory)) writes old new end → UnopenedAt (outside_of before after can_fail ⊥ writes) old new end
 unopened-at before kept after can_fail writes failed old new end stays damaged unkept same told =
-    subst (λ now. UnopenedAt (outside_of before now can_fail ⊥ writes) old new end) (sym same)
-    (stays, Unopened-for _ _ _ _ _ _ (open_cause before kept can_fail failed unkept (was-damaged before kept failed stays damaged)) told)
+    unopened-left before kept after can_fail writes failed old new end (stays-leaves end before kept stays) (was-damaged before kept failed stays damaged) unkept same told
+
+pub unopened-renewed : (before kept after : Told) (can_fail writes : Type 0) (failed : OpenError) (old new : Option Traffic) (end : Status) → StaysOrRenews before kept
+    → (¬ (failed ≡ error.Memory) → StaysOrBegins before kept) → WasDamagedBy before kept failed → (failed ≡ error.Keeper → can_fail) → after ≡ kept
+    → Unopened (λ why. (why ≡ failed) × ¬ (why ≡ error.Memory)) writes old new end → UnopenedAt (outside_of before after can_fail ⊥ writes) old new end
+unopened-renewed before kept after can_fail writes failed old new end renews stays damaged unkept same told =
+    unopened-left before kept after can_fail writes failed old new end (renews-leaves end before kept failed writes old new renews stays told) damaged unkept same told
 
 stays-same : (before after : Told) → after ≡ before → StaysOrBegins before after
 stays-same None after same = tt
@@ -134,7 +172,7 @@ little_requests (Some old) (Some new) little = record {
 }
 
 unopened-nothing : (outside : Outside) (traffic : Option Traffic) → outside.after ≡ outside.before → UnopenedAt outside traffic traffic status.Memory
-unopened-nothing outside traffic same = (stays-same outside.before outside.after same, Unopened-no_memory (IsCause outside) outside.write_failed traffic)
+unopened-nothing outside traffic same = (inl (stays-same outside.before outside.after same), Unopened-no_memory (IsCause outside) outside.write_failed traffic)
 
 -- ---- all forms
 

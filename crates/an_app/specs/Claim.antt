@@ -11,7 +11,7 @@ use Rattle.std.specs.Prelude.{if◌then◌else◌, is_none, Option, Some, None, 
 use Rattle.an_base.specs.Outcome.{first_of}
 use Rattle.an_base.specs.declared.span.Prefer.{Prefer}
 use Rattle.an_code.specs.declared.code.Code.TheVariants as code
-use Rattle.an_forms.specs.declared.form.Form.TheVariants as form
+use Rattle.an_app.specs.declared.form.Form.TheVariants as form
 use Rattle.an_http.specs.declared.reply.Reply.{Reply}
 use Rattle.an_keep.specs.declared.cell.Cell.{Cell}
 use Rattle.an_lines.specs.declared.status.Status.{Status}
@@ -22,12 +22,16 @@ use Rattle.an_policy.specs.declared.group.Audience.{Audience}
 use Rattle.an_policy.specs.declared.kind.Kind.TheVariants.{Create, Update, Delete}
 use Rattle.an_policy.specs.declared.who.Caller.{Caller}
 use Rattle.an_routes.specs.declared.kinds.Read.{Read}
-use Rattle.an_search.specs.Site.{Site}
+use Rattle.an_list.specs.Site.{Site}
 use Rattle.an_serve.specs.declared.responding.Response.TheVariants as response
 use Rattle.an_state.specs.declared.activity.Activity.{Activity}
 use Rattle.an_state.specs.declared.command.Command.{Command}
 use Rattle.an_state.specs.declared.entry.Entry.TheVariants.{Done}
 use Rattle.an_state.specs.declared.entry.Row.{Row}
+use Rattle.an_rows.specs.Cells.{place_of}
+use Rattle.an_rows.specs.declared.format.Format.{Format}
+use Rattle.an_rows.specs.declared.format.Format.TheVariants.{Second}
+use Rattle.an_state.specs.State.{empty}
 -- ---- the definitions
 
 -- 1. A run
@@ -56,7 +60,7 @@ pub use Rattle.an_state.specs.State.{State, ManifestState, NoteState, LiveNote, 
 pub use Rattle.an_state.specs.View.{View, view_of, view_by, view_for}
 pub use Rattle.an_state.specs.View.{shows_manifest, shows_note, note_audience, seen_by}
 -- 6. Who may read
-pub use Rattle.an_policy.specs.Audience.{Identity, may, is_in, is_owner}
+pub use Rattle.an_policy.specs.Audience.{Identity, may, is_in, is_inside, is_owner}
 pub use Rattle.an_policy.specs.Seen.{as_seen, reads}
 -- 7. Which writes are accepted
 pub use Rattle.an_machine.specs.Step.{step, step_by, step_if_signed, judged, refused_or, and_then}
@@ -65,7 +69,8 @@ pub use Rattle.an_machine.specs.Asked.{asked_of}
 pub use Rattle.an_machine.specs.Legal.{Accepts, Legal, Write}
 pub use Rattle.an_state.specs.Entries.{after, with_row, with_rows}
 -- 8. Which cells stand for a state
-pub use Rattle.an_rows.specs.Cells.{cells, row_cells, with_first, state_of, restored, row_behind}
+pub use Rattle.an_rows.specs.Cells.{cells, cells_in, row_cells, with_first, state_of, format_of}
+pub use Rattle.an_rows.specs.Cells.{restored, row_behind}
 
 -- ---- 1. A run
 
@@ -154,7 +159,7 @@ note-audience-is manifest row live = refl
 pub may-is
     : (who : Identity) (audience : Audience)
     → may who audience
-    ≡ (is_in who audience.outer && (is_in who audience.inner || is_owner who audience.owner))
+    ≡ (is_in who audience.outer && (is_inside who audience.inner || is_owner who audience.owner))
 may-is who audience = refl
 
 -- what a change of audience is for a caller
@@ -194,14 +199,24 @@ after-is s command moment by rows activities = refl
 
 -- ---- 8. Which cells stand for a state
 
-pub cells-are : (s : State) → cells s ≡ with_first (row_cells s)
+pub cells-are : (s : State) → cells s ≡ with_first Second (row_cells Second s)
 cells-are s = refl
+
+-- the first cell names the format in which the others are read
+pub state-of-is
+    : (first cell : Cell) (rest : List Cell)
+    → state_of (first ∷ cell ∷ rest) ≡ elim (format_of first) [
+      | None ↦ Err (place_of first)
+      | Some format ↦ restored format empty (cell ∷ rest)
+    ]
+unfolding state_of
+state-of-is first cell rest = refl
 
 -- cells are read in order, each after those before, up to the first that is damaged
 pub restored-is
-    : (s : State) (cell : Cell) (rest : List Cell)
-    → restored s (cell ∷ rest) ≡ elim (row_behind s cell) [
+    : (format : Format) (s : State) (cell : Cell) (rest : List Cell)
+    → restored format s (cell ∷ rest) ≡ elim (row_behind format s cell) [
       | Err place ↦ Err place
-      | Ok row ↦ restored (with_row s row) rest
+      | Ok row ↦ restored format (with_row s row) rest
     ]
-restored-is s cell rest = refl
+restored-is format s cell rest = refl

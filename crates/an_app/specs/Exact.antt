@@ -3,8 +3,8 @@
 use Rattle.std.specs.Prelude.{⊤}
 use Rattle.an_lines.specs.declared.status.Status.{Status}
 use Rattle.an_lines.specs.declared.status.Status.TheVariants as status
-use Rattle.an_forms.specs.declared.form.Form.{Form}
-use Rattle.an_forms.specs.declared.form.Form.TheVariants as form
+use Rattle.an_app.specs.declared.form.Form.{Form}
+use Rattle.an_app.specs.declared.form.Form.TheVariants as form
 
 -- the form opens a store
 abbrev pub OpensStore : Form → Type 0

@@ -1,3 +1,4 @@
+pub mod Form
 pub mod Outside
 pub mod Unopened
 pub mod AtStore

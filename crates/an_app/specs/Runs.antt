@@ -9,8 +9,8 @@ use Rattle.an_app.specs.AtStore.{ExportsAt, ImportsAt}
 use Rattle.an_app.specs.Outside.{Outside}
 use Rattle.an_app.specs.Serving.{DoorEnd, ServesAt}
 use Rattle.an_app.specs.SessionEnds.{SessionAt}
-use Rattle.an_forms.specs.declared.form.Form.{Form}
-use Rattle.an_forms.specs.declared.form.Form.TheVariants as form
+use Rattle.an_app.specs.declared.form.Form.{Form}
+use Rattle.an_app.specs.declared.form.Form.TheVariants as form
 
 -- How a run of a form ends, with moments that the clock tells, over a link that told these two of
 -- itself, beside a door that came to this. `Find` and `Trial` open no store, and leave the keeper.

@@ -3,7 +3,7 @@ use Rattle.std.specs.Prelude.{◌≡◌, ℤ, ◌⊎◌, Bool}
 use Rattle.an_keep.specs.Keeper.{Told}
 use Rattle.an_shelf.specs.Opening.{WasOpened}
 use Rattle.an_state.specs.State.{State}
-use Rattle.an_search.specs.Site.{Site}
+use Rattle.an_list.specs.Site.{Site}
 use Rattle.an_session.specs.Session.{Line}
 use Rattle.an_session.specs.Trail.{Known}
 use Rattle.an_session.specs.declared.ended.Ended.{Ended}

@@ -1,7 +1,7 @@
 -- How a run ends whose store isn't opened.
 use Rattle.std.specs.Prelude.{ℕ, List, [], ◌++◌, codes, decimal, Option}
-use Rattle.an_keep.specs.Keeper.{StaysOrBegins}
-use Rattle.an_shelf.specs.Opening.{WasDamagedBy}
+use Rattle.an_keep.specs.Keeper.{StaysOrBegins, Told}
+use Rattle.an_shelf.specs.Opening.{StaysOrRenews, WasDamagedBy}
 use Rattle.an_shelf.specs.declared.error.OpenError.{OpenError}
 use Rattle.an_shelf.specs.declared.error.OpenError.TheVariants as error
 use Rattle.an_world.specs.Link.{Traffic}
@@ -50,8 +50,14 @@ IsCause outside (error.Damaged tab key) =
     WasDamagedBy outside.before outside.after (error.Damaged tab key)
 IsCause outside error.Memory = ⊥
 
--- how a run at a keeper ends whose store isn't opened: no cell was changed
+-- the cells of a run whose store isn't opened: none was changed, unless memory ran out once those of
+-- the first format were turned into today's
+abbrev pub LeavesCells : Status → Told → Told → Type 0
+LeavesCells Memory before after = StaysOrRenews before after
+LeavesCells other before after = StaysOrBegins before after
+
+-- how a run at a keeper ends whose store isn't opened
 abbrev pub UnopenedAt : Outside → Option Traffic → Option Traffic → Status → Type 0
 UnopenedAt outside old new status =
-    StaysOrBegins outside.before outside.after
+    LeavesCells status outside.before outside.after
     × Unopened (IsCause outside) outside.write_failed old new status

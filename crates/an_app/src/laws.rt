@@ -5,7 +5,7 @@ ghost use Rattle.an_http.specs.declared.request.Request.{Request};
 ghost use Rattle.an_policy.specs.declared.who.Caller.{Caller};
 ghost use Rattle.an_state.specs.State.{State};
 ghost use Rattle.an_state.specs.View.{view_by};
-ghost use Rattle.an_search.specs.Site.{Site};
+ghost use Rattle.an_list.specs.Site.{Site};
 ghost use Rattle.an_routes.specs.declared.kinds.Read.{Read};
 ghost use Rattle.an_answers.specs.Cost.{cost_of};
 ghost use Rattle.an_answers.specs.Isolation.{SeesAlike};

@@ -14,12 +14,14 @@ pub use an_lines::{Status, export, find, import, trial};
 pub use an_routes::{Read, Route, RouteError, WriteRoute, command_of, route};
 pub use an_seats::{AtStores, session};
 pub use an_serve::session_at_desk;
+pub use form::{Form, Serving, form_of};
 pub use laws::equal_views_are_answered_alike;
 pub use memory::run_in_memory;
 pub use program::run;
 pub use ran::Ran;
 pub use serving::serve;
 
+mod form;
 mod laws;
 mod memory;
 mod program;

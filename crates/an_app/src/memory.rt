@@ -2,7 +2,7 @@
 ghost use Rattle.std.specs.Prelude.{◌≡◌, ℕ, Err, IfSome, Ok, map, string_bytes};
 ghost use Rattle.an_rows.specs.Cells.{state_of};
 ghost use Rattle.an_state.specs.State.{State};
-ghost use Rattle.an_forms.specs.Form.{form_of};
+ghost use Rattle.an_app.specs.Form.{form_of};
 ghost use Rattle.an_app.specs.Exact.{IsOfOpened, OpensStore};
 
 use crate::program::run;

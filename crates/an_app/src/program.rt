@@ -2,15 +2,15 @@ ghost use Rattle.std.specs.Prelude.{◌≡◌, IfNone, IfSome, IsSome, IsTrue, f
 ghost use Rattle.an_base.specs.Faults.{Rises};
 ghost use Rattle.an_session.specs.Session.{line};
 ghost use Rattle.an_lines.specs.Status.{IsUnfailing, Misunderstands, ReadsLittle};
-ghost use Rattle.an_forms.specs.Form.{IsServed, form_of};
+ghost use Rattle.an_app.specs.Form.{IsServed, form_of};
 ghost use Rattle.an_app.specs.Outside.{outside_of};
 ghost use Rattle.an_app.specs.Claim.{ReadsInput, Runs};
 
+use crate::form::{Form, form_of};
 use crate::ran::Ran;
 use crate::serving::serve_at;
 use crate::stored::{export_at, import_at, session_at};
 use an_door::Door;
-use an_forms::{Form, form_of};
 use an_keep::Keeper;
 use an_lines::{Status, find, tell_report, trial};
 use an_seats::AtStores;

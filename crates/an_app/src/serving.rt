@@ -9,13 +9,13 @@ ghost use Rattle.an_app.specs.Outside.{outside_of};
 ghost use Rattle.an_app.specs.Serving.{ServesAt, ServesTo, serving_status};
 ghost use Rattle.an_store.specs.Opening.{Closes};
 
+use crate::form::Serving;
 use crate::ran::Ran;
 use crate::stored::not_opened;
 use an_door::{Door, Run};
-use an_forms::Serving;
 use an_keep::Keeper;
 use an_lines::Status;
-use an_search::Settings;
+use an_list::Site;
 use an_seats::{AtStores, Server, Since};
 use an_store::{Naming, Opened, Seat, Store, open_store};
 use an_world::{Clock, Link};
@@ -127,7 +127,7 @@ pub fn serve<
     line: &mut L,
     store: Store<K, J>,
     seats: Vec<Seat>,
-    settings: &Settings,
+    settings: &Site,
     port: u16,
     connections: u32,
     door: &mut D,
@@ -174,7 +174,7 @@ fn serve_since<
     line: &mut L,
     store: Store<K, J>,
     seats: Vec<Seat>,
-    settings: &Settings,
+    settings: &Site,
     port: u16,
     connections: u32,
     door: &mut D,

@@ -17,7 +17,7 @@ ghost use Rattle.an_lines.specs.Status.{ReadsLittle};
 use crate::ran::Ran;
 use an_keep::Keeper;
 use an_lines::{Status, export, import, tell};
-use an_search::Settings;
+use an_list::Site;
 use an_serve::session_at_desk;
 use an_session::Ended;
 use an_shelf::{Desk, NotOpened, OpenError};
@@ -89,7 +89,7 @@ pub(crate) fn session_at<L: Link, K: Keeper, C: Clock>(
     alloc: Global,
     link: &mut L,
     keeper: K,
-    settings: &Settings,
+    settings: &Site,
     clock: &C,
 ) -> Ran<K>
     ensures session { SessionAt
@@ -122,7 +122,7 @@ fn session_into<L: Link, K: Keeper, C: Clock>(
     alloc: Global,
     link: &mut L,
     desk: Desk<K>,
-    settings: &Settings,
+    settings: &Site,
     clock: &C,
 ) -> (Ended, K)
     ensures connection { (behind : Known Event) × IsLegal behind.list

@@ -7,6 +7,7 @@ use crate::rows::{Answers, RowError};
 use crate::selector_calls::{places_of, quote, region, selector};
 use crate::text_calls::{decimal, moment, name, plain, words};
 use crate::tree_calls::tree;
+use an_rows::Format;
 use std::alloc::Global;
 
 /// A call of a crate below the server's, which is made for each row of a case.
@@ -47,9 +48,11 @@ pub enum Call {
     /// What counts of terms tell.
     Counts,
     /// The settings that two words are.
-    Settings,
+    Site,
     /// The row that bytes are.
     Row,
+    /// The row that bytes of the first format are, as it is written today.
+    FormerRow,
     /// The requests that an input begins with, and what ends them.
     Requests,
     /// The reply for want of memory.
@@ -76,8 +79,9 @@ pub fn call_named(name: &str) -> Option<Call> {
         "classes" => Call::Classes,
         "postings" => Call::Postings,
         "counts" => Call::Counts,
-        "settings" => Call::Settings,
+        "settings" => Call::Site,
         "row" => Call::Row,
+        "former_row" => Call::FormerRow,
         "requests" => Call::Requests,
         "memory_reply" => Call::MemoryReply,
         _ => return None,
@@ -104,8 +108,9 @@ impl Answers for Call {
             Call::Classes => classes(alloc, argument),
             Call::Postings => postings(alloc, argument),
             Call::Counts => counts(alloc, argument),
-            Call::Settings => settings(alloc, argument),
-            Call::Row => row(alloc, argument),
+            Call::Site => settings(alloc, argument),
+            Call::Row => row(alloc, Format::Second, argument),
+            Call::FormerRow => row(alloc, Format::First, argument),
             Call::Requests => requests(alloc, argument),
             Call::MemoryReply => memory_reply(alloc),
         }

@@ -3,8 +3,10 @@ use crate::rows::{RowError, two_parts, two_words};
 use crate::shown::written;
 use crate::tree_calls::read;
 use an_base::Name;
-use an_policy::{Audience, Caller, Group, Reader, Who, group_named, may, read_reader};
-use an_search::read_settings;
+use an_list::read_site;
+use an_policy::{
+    Audience, Caller, Group, Inner, Reader, Who, group_named, inner_named, may, read_reader,
+};
 use std::alloc::Global;
 
 /// The name that a text is.
@@ -25,7 +27,11 @@ fn group(alloc: Global, text: &str) -> Result<Group, RowError> {
     group_named(alloc, text)?.ok_or(RowError::Form)
 }
 
-/// Whether the caller may read what has the audience: `mara a | public b`.
+fn inner(alloc: Global, text: &str) -> Result<Inner, RowError> {
+    inner_named(alloc, text)?.ok_or(RowError::Form)
+}
+
+/// Whether the caller may read what has the audience: `mara a | public b,c`.
 pub fn may_read(alloc: Global, argument: &str) -> Result<String, RowError> {
     let (caller, groups) = two_parts(argument)?;
     let audience = owned_audience(alloc, groups, "mara")?;
@@ -33,12 +39,12 @@ pub fn may_read(alloc: Global, argument: &str) -> Result<String, RowError> {
     Ok(written(alloc, &is_allowed)?)
 }
 
-/// What belongs to an owner and is shown to a group within a group: `public a`.
+/// What belongs to an owner and is shown to groups within a group: `public a,b`.
 pub fn owned_audience(alloc: Global, groups: &str, owner: &str) -> Result<Audience, RowError> {
-    let (outer, inner) = two_words(groups)?;
+    let (outer, groups) = two_words(groups)?;
     Ok(Audience {
         outer: group(alloc, outer)?,
-        inner: group(alloc, inner)?,
+        inner: inner(alloc, groups)?,
         owner: Some(name(alloc, owner)?),
     })
 }
@@ -71,7 +77,7 @@ fn reader(alloc: Global, named: &str, text: &str) -> Result<Reader, RowError> {
 /// The settings of two words, or why they are none.
 pub fn settings(alloc: Global, argument: &str) -> Result<String, RowError> {
     let (base, size) = two_parts(argument)?;
-    match read_settings(alloc, base, size) {
+    match read_site(alloc, base, size) {
         Ok(settings) => Ok(format!(in alloc; "{} {}", settings.base(), settings.size())?),
         Err(error) => Ok(written(alloc, &error)?),
     }

@@ -6,23 +6,23 @@ use crate::numbers::number;
 use crate::rows::{RowError, two_parts, two_words};
 use crate::shown::written;
 use an_keep::{Cell, Change};
-use an_rows::{cells_of, read_row, row_text};
+use an_rows::{Format, cells_of, read_row, row_text};
 use an_state::{Book, Entry, Row};
 use std::alloc::{AllocError, Global};
 use std::str::from_utf8;
 
-/// The row that bytes are, by its text: `1 0 | {}`.
-pub fn row(alloc: Global, argument: &str) -> Result<String, RowError> {
+/// The row that bytes are in a format, by its text as it is written today: `1 0 | {}`.
+pub fn row(alloc: Global, format: Format, argument: &str) -> Result<String, RowError> {
     let (place, bytes) = two_parts(argument)?;
     let (tab, key) = two_words(place)?;
-    match read_row(alloc, number(tab)?, number(key)?, bytes.as_bytes()) {
+    match read_row(alloc, format, number(tab)?, number(key)?, bytes.as_bytes()) {
         Ok(row) => Ok(row_shown(alloc, &row)?),
         Err(error) => Ok(written(alloc, &error)?),
     }
 }
 
 fn row_shown(alloc: Global, row: &Row) -> Result<String, AllocError> {
-    let text = row_text(alloc, row)?;
+    let text = row_text(alloc, Format::Second, row)?;
     String::from_str(alloc, from_utf8(text.as_slice()).unwrap_or("?"))
 }
 
@@ -77,7 +77,13 @@ fn row_at(alloc: Global, book: &Book, place: &str) -> Result<String, RowError> {
 fn changes(alloc: Global, book: &Book, argument: &str) -> Result<String, RowError> {
     let (place, bytes) = two_parts(argument)?;
     let (tab, key) = two_words(place)?;
-    match read_row(alloc, number(tab)?, number(key)?, bytes.as_bytes()) {
+    match read_row(
+        alloc,
+        Format::Second,
+        number(tab)?,
+        number(key)?,
+        bytes.as_bytes(),
+    ) {
         Ok(row) => Ok(changes_shown(alloc, book, &Entry::Restored(row))?),
         Err(error) => Ok(written(alloc, &error)?),
     }

@@ -5,9 +5,9 @@ use crate::shown::written;
 use an_answers::answer_uncounted;
 use an_base::{Name, Prefer, Steps, TermTotal};
 use an_http::Method;
+use an_list::read_site;
 use an_policy::{Caller, Kind, Who};
 use an_routes::{Read, Route, route};
-use an_search::read_settings;
 use an_snapshot::Snapshot;
 use an_state::{Look, ManifestRow, NoteRow, Seen};
 use std::alloc::{AllocError, Global};
@@ -38,7 +38,7 @@ fn fetched(
     caller: &Caller,
     read: &Read,
 ) -> Result<String, RowError> {
-    let settings = read_settings(alloc, "http://a.example", size).map_err(|_| RowError::Form)?;
+    let settings = read_site(alloc, "http://a.example", size).map_err(|_| RowError::Form)?;
     let prefer = Prefer {
         minimal: false,
         iris: false,

@@ -8,7 +8,7 @@ use crate::stores::cells;
 use an_app::{session, session_at_desk};
 use an_calls::{Answers, RowError, number, two_words};
 use an_keep::MemKeeper;
-use an_search::{Settings, read_settings};
+use an_list::{Site, read_site};
 use an_shelf::Desk;
 use an_store::{Naming, Opened, Seat, Store, open_store};
 use an_tables::noon;
@@ -48,7 +48,7 @@ impl<'a, R: Wait> Failing<'a, R> {
 
     fn play_at_seats(&self, alloc: Global, unread: u64) -> Result<String, RowError> {
         let keeper = self.keeper(alloc, 0)?;
-        let Ok(settings) = read_settings(alloc, "http://a.example", "10") else {
+        let Ok(settings) = read_site(alloc, "http://a.example", "10") else {
             return Err(RowError::Memory);
         };
         match self.requests.first() {
@@ -67,7 +67,7 @@ impl<'a, R: Wait> Failing<'a, R> {
     /// The statuses and the cells at the end.
     fn play(&self, alloc: Global, place: &str, failing: u64) -> Result<Played, RowError> {
         let keeper = self.keeper(alloc, failing)?;
-        let Ok(settings) = read_settings(alloc, "http://a.example", "10") else {
+        let Ok(settings) = read_site(alloc, "http://a.example", "10") else {
             return Err(RowError::Memory);
         };
         match place {
@@ -124,7 +124,7 @@ fn tell(statuses: &mut String, link: &MemLink) -> Result<bool, RowError> {
 fn at_desk(
     alloc: Global,
     keeper: MemKeeper,
-    settings: &Settings,
+    settings: &Site,
     requests: &[Vec<u8>],
 ) -> Result<Played, RowError> {
     match Desk::open(alloc, keeper) {
@@ -152,7 +152,7 @@ fn what_is_left(
 fn ask_all_at_desk(
     alloc: Global,
     desk: &mut Desk<MemKeeper>,
-    settings: &Settings,
+    settings: &Site,
     requests: &[Vec<u8>],
 ) -> Result<String, RowError> {
     let mut statuses = String::new(alloc);
@@ -166,7 +166,7 @@ fn ask_desk(
     alloc: Global,
     statuses: &mut String,
     desk: &mut Desk<MemKeeper>,
-    settings: &Settings,
+    settings: &Site,
     request: &[u8],
 ) -> Result<(), RowError> {
     for _ in 0..2 {
@@ -185,7 +185,7 @@ fn at_store<R: Wait>(
     rt: &R,
     alloc: Global,
     keeper: MemKeeper,
-    settings: &Settings,
+    settings: &Site,
     requests: &[Vec<u8>],
 ) -> Result<Played, RowError> {
     match open_store(rt, alloc, keeper, 1) {
@@ -198,7 +198,7 @@ fn at_opened<J: Naming, R: Wait>(
     rt: &R,
     alloc: Global,
     opened: Opened<MemKeeper>,
-    settings: &Settings,
+    settings: &Site,
     requests: &[Vec<u8>],
 ) -> Result<Played, RowError>
     requires book { opened.book ≡ J.book }
@@ -218,7 +218,7 @@ fn ask_all<J: Naming, R: Wait>(
     alloc: Global,
     store: &Store<MemKeeper, J>,
     seat: Seat,
-    settings: &Settings,
+    settings: &Site,
     requests: &[Vec<u8>],
 ) -> (Seat, Result<String, RowError>)
     requires seat { seat.book ≡ J.book }
@@ -250,7 +250,7 @@ fn ask<J: Naming, R: Wait>(
     statuses: &mut String,
     store: &Store<MemKeeper, J>,
     seat: Seat,
-    settings: &Settings,
+    settings: &Site,
     request: &[u8],
 ) -> (Seat, Result<(), RowError>)
     requires seat { seat.book ≡ J.book }
@@ -270,7 +270,7 @@ fn ask_again<J: Naming, R: Wait>(
     statuses: &mut String,
     store: &Store<MemKeeper, J>,
     seat: Seat,
-    settings: &Settings,
+    settings: &Site,
     request: &[u8],
 ) -> (Seat, Result<(), RowError>)
     requires seat { seat.book ≡ J.book }
@@ -289,7 +289,7 @@ fn ask_once<J: Naming, R: Wait>(
     statuses: &mut String,
     store: &Store<MemKeeper, J>,
     seat: Seat,
-    settings: &Settings,
+    settings: &Site,
     request: &[u8],
 ) -> (Seat, Result<bool, RowError>)
     requires seat { seat.book ≡ J.book }

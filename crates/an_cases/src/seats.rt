@@ -7,8 +7,8 @@ use an_app::session;
 use an_base::Bytes;
 use an_calls::RowError;
 use an_keep::MemKeeper;
+use an_list::Site;
 use an_policy::Who;
-use an_search::Settings;
 use an_state::Look;
 use an_store::{Naming, Opened, Seat, Store, open_store};
 use an_tables::noon;
@@ -28,7 +28,7 @@ pub(crate) fn play_seats<R: Wait>(
     rt: &R,
     alloc: Global,
     keeper: MemKeeper,
-    settings: &Settings,
+    settings: &Site,
     request: &[u8],
     unread: u64,
 ) -> Result<String, RowError> {
@@ -42,7 +42,7 @@ fn at_opened<J: Naming, R: Wait>(
     rt: &R,
     alloc: Global,
     opened: Opened<MemKeeper>,
-    settings: &Settings,
+    settings: &Site,
     request: &[u8],
     unread: u64,
 ) -> Result<String, RowError>
@@ -67,7 +67,7 @@ fn ask_and_meet<J: Naming, R: Wait>(
     store: &Store<MemKeeper, J>,
     first: Seat,
     second: Seat,
-    settings: &Settings,
+    settings: &Site,
     request: &[u8],
     unread: u64,
 ) -> (Seat, Result<String, RowError>)

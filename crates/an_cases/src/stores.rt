@@ -2,15 +2,15 @@ use an_app::{Status, import, session_at_desk};
 use an_base::Bytes;
 use an_calls::{Answers, RowError, cell_shown, look_at, number, two_parts, two_words};
 use an_keep::{Cell, Change, KeepError, Keeper, MemKeeper};
-use an_search::read_settings;
-use an_shelf::{Desk, OpenError};
+use an_list::read_site;
+use an_shelf::{Desk, NotOpened};
 use an_tables::noon;
 use an_world::{MemLink, SetClock};
 use std::alloc::{AllocError, Global};
 use std::str::from_utf8;
 
 /// Answers rows on a store in memory, one after the other. The store is closed where there is a
-/// keeper, open where there is a desk, and gone where there is neither.
+/// keeper, and open where there is a desk.
 #[derive(Drop)]
 pub struct Stores {
     keeper: Option<MemKeeper>,
@@ -27,9 +27,9 @@ impl Stores {
     }
 }
 
-/// Of a store that is gone a row is `new`. Of a closed one it is `open`, `cells`, which shows them
-/// all, `put 1 0 | {}`, which puts a cell, or `faults`, which counts the calls of its keeper that
-/// failed. Of an open one it is `close`, a look at its state, as `length 1`, `row 1 0` or `changes
+/// Of a closed store a row is `open`, `new`, which puts an empty one in its place, `cells`, which
+/// shows them all, `put 1 0 | {}`, which puts a cell, or `faults`, which counts the calls of its
+/// keeper that failed. Of an open one it is `close`, a look at its state, as `length 1`, `row 1 0` or `changes
 /// 1 0 | {}`, `import TEXT`, whose lines end in `\n`, or `session TEXT`, whose lines end in `\r\n`.
 impl Answers for Stores {
     fn answer(&mut self, alloc: Global, argument: &str) -> Result<String, RowError> {
@@ -43,16 +43,16 @@ impl Answers for Stores {
 }
 
 impl Stores {
-    /// An empty store takes the place of one that is gone.
+    /// An empty store takes the place of a closed one.
     fn begin(&mut self, alloc: Global) -> Result<String, RowError> {
-        if self.keeper.is_some() || self.desk.is_some() {
+        if self.desk.is_some() {
             return Err(RowError::Form);
         }
         self.keeper = Some(MemKeeper::new(Vec::new(alloc), Vec::new(alloc)));
         shown(alloc, "new")
     }
 
-    /// Opens a closed store. One that isn't opened is gone.
+    /// Opens a closed store. One that isn't opened stays closed.
     fn open(&mut self, alloc: Global) -> Result<String, RowError> {
         let keeper = self.keeper.take().ok_or(RowError::Form)?;
         match open_desk(alloc, keeper)? {
@@ -60,7 +60,10 @@ impl Stores {
                 drop(self.desk.replace(desk));
                 shown(alloc, "opened")
             }
-            Err(error) => Ok(format!(in alloc; "{error:?}")?),
+            Err(unopened) => {
+                self.keeper = Some(unopened.keeper);
+                Ok(format!(in alloc; "{:?}", unopened.why)?)
+            }
         }
     }
 
@@ -83,10 +86,10 @@ impl Stores {
 fn open_desk(
     alloc: Global,
     keeper: MemKeeper,
-) -> Result<Result<Box<Desk<MemKeeper>>, OpenError>, AllocError> {
+) -> Result<Result<Box<Desk<MemKeeper>>, NotOpened<MemKeeper>>, AllocError> {
     match Desk::open(alloc, keeper) {
         Ok(desk) => Ok(Ok(Box::new(alloc, desk)?)),
-        Err(unopened) => Ok(Err(unopened.why)),
+        Err(unopened) => Ok(Err(unopened)),
     }
 }
 
@@ -183,7 +186,7 @@ fn import_lines(
 
 /// How a connection ends, and what is written to it.
 fn serve(alloc: Global, desk: &mut Desk<MemKeeper>, requests: &str) -> Result<String, RowError> {
-    let Ok(settings) = read_settings(alloc, "http://a.example", "10") else {
+    let Ok(settings) = read_site(alloc, "http://a.example", "10") else {
         return Err(RowError::Memory);
     };
     let input = requests.replace(alloc, "\\r\\n", "\r\n")?;

@@ -1,7 +1,7 @@
 use an_app::find;
 use an_base::Bytes;
 use an_calls::{Answers, RowError};
-use an_search::{Settings, read_settings};
+use an_list::{Site, read_site};
 use an_world::SureLink;
 use std::alloc::Global;
 
@@ -18,8 +18,8 @@ impl Answers for SureRuns {
     }
 }
 
-fn settings(alloc: Global) -> Result<Settings, RowError> {
-    match read_settings(alloc, "http://a.example", "10") {
+fn settings(alloc: Global) -> Result<Site, RowError> {
+    match read_site(alloc, "http://a.example", "10") {
         Ok(settings) => Ok(settings),
         Err(_) => Err(RowError::Form),
     }

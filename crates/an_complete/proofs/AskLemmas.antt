@@ -1,9 +1,9 @@
 -- Pairs that are not refused.
 use Rattle.std.proofs.Common.{◌≡◌, ℕ, List, [], ◌∷◌, not, Option, Some, None, option_map, refl}
 use Rattle.an_base.specs.Outcome.{first_of, when}
-use Rattle.an_search.specs.Dates.{bad_date}
-use Rattle.an_search.specs.Given.{value_of, twice_of, is_bad_number}
-use Rattle.an_search.specs.declared.pairs.Pair.{Pair}
+use Rattle.an_query.specs.Dates.{bad_date}
+use Rattle.an_query.specs.Given.{value_of, twice_of, is_bad_number}
+use Rattle.an_query.specs.declared.pairs.Pair.{Pair}
 use Rattle.an_code.specs.declared.parameter.Parameter.TheVariants as parameter
 use Rattle.an_complete.specs.Ask.{ask_parameters, ask_refusals, has_prefix}
 use Rattle.an_complete.specs.declared.ask.QueryAskError.{QueryAskError}

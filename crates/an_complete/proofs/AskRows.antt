@@ -10,7 +10,7 @@ use Rattle.unicode_normalization.proofs.Computing.{unicode_normalization}
 use Rattle.an_base.specs.Moment.{moment_of, has_form, days_of_months}
 use Rattle.an_terms.specs.Terms.{term_of}
 use Rattle.an_code.specs.declared.parameter.Parameter.TheVariants as parameter
-use Rattle.an_search.specs.Filters.{FiltersRecord}
+use Rattle.an_query.specs.Filters.{FiltersRecord}
 use Rattle.an_complete.specs.Ask.{AskRecord, ask_of}
 use Rattle.an_complete.specs.declared.ask.QueryAskError.TheVariants as refusal
 

@@ -11,13 +11,14 @@ use Rattle.serde_json.specs.Written.{compact_text}
 use Rattle.unicode_normalization.proofs.Computing.{unicode_normalization}
 use Rattle.unicode_segmentation.proofs.Computing.{unicode_segmentation}
 use Rattle.an_policy.specs.declared.group.Group.TheVariants.{Public}
+use Rattle.an_policy.specs.declared.inner.Inner.TheVariants as inner
 use Rattle.an_terms.specs.Terms.{term_of, placed, occurrences_of}
 use Rattle.an_model.specs.Bodies.{texts_of, note_occurrences, note_terms}
 use Rattle.an_state.specs.State.{ManifestState, NoteState}
 use Rattle.an_base.specs.Totals.{capped, totals_of}
 use Rattle.an_state.specs.View.{View}
-use Rattle.an_search.specs.Site.{Site}
-use Rattle.an_search.specs.Filters.{FiltersRecord}
+use Rattle.an_list.specs.Site.{Site}
+use Rattle.an_query.specs.Filters.{FiltersRecord}
 use Rattle.an_complete.specs.Ask.{AskRecord}
 use Rattle.an_complete.specs.Cost.{complete_cost}
 use Rattle.an_complete.specs.Complete.{asked_terms, ask_form, ask_iri, complete_of, terms_page}
@@ -40,7 +41,7 @@ note name text = record {
   version = 1;
   live = Some (record {
     manifest = codes "m1";
-    group = Public;
+    group = inner.Public;
     creator = codes "http://a.example/readers/mara";
     created = pos 0;
     modified = None;

@@ -9,7 +9,8 @@ use Rattle.an_state.specs.Terms.{terms_with_prefix, totals_in}
 use Rattle.an_state.specs.View.{view_of, is_on, shows_note, readable_places}
 use Rattle.an_model.specs.Bodies.{note_terms}
 use Rattle.an_search.proofs.HitLemmas.{alone_fits}
-use Rattle.an_search.proofs.ViewLemmas.{filter_both, filter_same, readable_rows}
+use Rattle.an_list.proofs.ReadableLemmas.{filter_both, readable_rows}
+use Rattle.an_list.proofs.ListedLemmas.{filter_same}
 use Rattle.an_search.specs.Wanted.{fits, fits_but_terms, has_all, matches, wants_nothing, wants_terms_alone}
 use Rattle.an_search.specs.declared.wanted.Wanted.{Wanted}
 use Rattle.an_complete.specs.Complete.{asked_notes}

@@ -7,12 +7,13 @@ use Rattle.unicode_normalization.proofs.Computing.{unicode_normalization}
 use Rattle.unicode_segmentation.proofs.Computing.{unicode_segmentation}
 use Rattle.an_model.specs.Bodies.{texts_of, note_occurrences, note_terms}
 use Rattle.an_policy.specs.Audience.{anonymous}
-use Rattle.an_policy.specs.declared.group.Group.{Group}
-use Rattle.an_policy.specs.declared.group.Group.TheVariants.{Public, Private}
+use Rattle.an_policy.specs.declared.group.Group.TheVariants.{Public}
+use Rattle.an_policy.specs.declared.inner.Inner.{Inner}
+use Rattle.an_policy.specs.declared.inner.Inner.TheVariants as inner
 use Rattle.an_search.specs.Cost.{candidates, search_cost}
-use Rattle.an_search.specs.Query.{QueryRecord}
+use Rattle.an_query.specs.Query.{QueryRecord}
 use Rattle.an_search.specs.Search.{hits}
-use Rattle.an_search.specs.Site.{Site}
+use Rattle.an_list.specs.Site.{Site}
 use Rattle.an_state.specs.State.{ManifestState, NoteState, State}
 use Rattle.an_state.specs.View.{view_of}
 use Rattle.an_terms.specs.Terms.{term_of, terms_of, placed, occurrences_of}
@@ -27,7 +28,7 @@ site = record { base = codes "http://a.example"; size = 2 }
 abbrev manifest : ManifestState
 manifest = record { name = codes "m1"; version = 1; group = Public; live = Some (record { created = pos 0; modified = None; tree = object no_members }) }
 
-abbrev note : List ℕ → Group → List ℕ → NoteState
+abbrev note : List ℕ → Inner → List ℕ → NoteState
 note name group text = record {
   owner = codes "mara";
   name = name;
@@ -47,8 +48,8 @@ state = record {
   readers = [];
   manifests = manifest ∷ [];
   notes =
-      note (codes "n1") Public (codes "grey heron") ∷ note (codes "n2") Private (codes "heron") ∷ note (codes "n3") Public (codes "heron")
-      ∷ note (codes "n4") Public (codes "egret") ∷ note (codes "n5") Public (codes "heron") ∷ [];
+      note (codes "n1") inner.Public (codes "grey heron") ∷ note (codes "n2") inner.Private (codes "heron") ∷ note (codes "n3") inner.Public (codes "heron")
+      ∷ note (codes "n4") inner.Public (codes "egret") ∷ note (codes "n5") inner.Public (codes "heron") ∷ [];
   activities = [];
 }
 

@@ -5,10 +5,10 @@ use Rattle.serde_json.specs.View.{items_of}
 use Rattle.an_base.specs.Object.{with_member_if}
 use Rattle.an_base.specs.Write.{member_text, commas}
 use Rattle.an_base.specs.declared.span.TermTotal.{TermTotal}
-use Rattle.an_search.proofs.WrittenLemmas.{commas-member_if, piece_then, last_piece}
-use Rattle.an_search.specs.Page.{texts_beside}
+use Rattle.an_list.proofs.WrittenLemmas.{commas-member_if, piece_then, last_piece}
+use Rattle.an_list.specs.Page.{texts_beside}
 use Rattle.an_search.specs.Search.{search_context}
-use Rattle.an_search.specs.PageText.{member_if, text_if}
+use Rattle.an_list.specs.PageText.{member_if, text_if}
 use Rattle.an_complete.specs.Complete.{term_tree, terms_page}
 
 -- the text of the members before the items

@@ -3,12 +3,11 @@ use Rattle.std.specs.Prelude.{ℕ, List, [], ◌∷◌, length, nat_lt, Option, 
 use Rattle.std.specs.Prelude.{option_and_then, unwrap_or, Result, Bool, true, not}
 use Rattle.an_base.specs.Outcome.{when, first_of, unless, or_refuse, passes}
 use Rattle.an_terms.specs.Terms.{term_of}
-use Rattle.an_search.specs.Dates.{bad_date}
-use Rattle.an_search.specs.Filters.{FiltersRecord, filters_in}
-use Rattle.an_search.specs.Given.{value_of, twice_of, others_of, is_number, number_in}
-use Rattle.an_search.specs.Given.{is_bad_number}
-use Rattle.an_search.specs.Pairs.{pairs_of}
-use Rattle.an_search.specs.declared.pairs.Pair.{Pair}
+use Rattle.an_query.specs.Dates.{bad_date}
+use Rattle.an_query.specs.Filters.{FiltersRecord, filters_in}
+use Rattle.an_query.specs.Given.{value_of, twice_of, others_of, is_number, number_in, is_bad_number}
+use Rattle.an_query.specs.Pairs.{pairs_of}
+use Rattle.an_query.specs.declared.pairs.Pair.{Pair}
 use Rattle.an_code.specs.declared.parameter.Parameter.{Parameter}
 use Rattle.an_code.specs.declared.parameter.Parameter.TheVariants as parameter
 use Rattle.an_complete.specs.declared.ask.QueryAskError.{QueryAskError}

@@ -13,11 +13,11 @@ use Rattle.an_state.specs.State.{NoteState}
 use Rattle.an_state.specs.Terms.{totals_in}
 use Rattle.an_state.specs.View.{View, is_on, manifest_in}
 use Rattle.an_base.specs.declared.span.TermTotal.{TermTotal}
-use Rattle.an_search.specs.Filters.{filter_parameters}
-use Rattle.an_search.specs.Form.{form_of}
-use Rattle.an_search.specs.Page.{texts_beside}
+use Rattle.an_query.specs.Filters.{filter_parameters}
+use Rattle.an_query.specs.Form.{form_of}
+use Rattle.an_list.specs.Page.{texts_beside}
 use Rattle.an_search.specs.Search.{search_context}
-use Rattle.an_search.specs.Site.{Site}
+use Rattle.an_list.specs.Site.{Site}
 use Rattle.an_search.specs.Wanted.{matches, wanted_by}
 use Rattle.an_code.specs.declared.parameter.Parameter.TheVariants as parameter
 use Rattle.an_search.specs.declared.wanted.Wanted.{Wanted}

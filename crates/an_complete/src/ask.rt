@@ -2,14 +2,14 @@ ghost use Rattle.std.specs.Prelude.{◌≡◌, ◌∷◌, [], IfOk, IsTrue, None
 ghost use Rattle.std.specs.Prelude.{unwrap_or};
 ghost use Rattle.std.specs.Option.{option_copied};
 ghost use Rattle.an_base.specs.Outcome.{Gives, first_of, unless, when};
-ghost use Rattle.an_search.specs.Dates.{bad_date};
-ghost use Rattle.an_search.specs.Given.{value_of, is_bad_number, number_in};
+ghost use Rattle.an_query.specs.Dates.{bad_date};
+ghost use Rattle.an_query.specs.Given.{value_of, is_bad_number, number_in};
 ghost use Rattle.an_code.specs.declared.parameter.Parameter.TheVariants as parameter;
 ghost use Rattle.an_complete.specs.Ask.{has_prefix, is_number_if, ask_refusals, ask_in, ask_of};
 
 use an_base::{List, Text, TryCopy};
 use an_code::Parameter;
-use an_search::{
+use an_query::{
     Filters, Pair, bad_date, filters_in, is_bad_number, number_in, others_in, query_pairs,
     twice_in, value_in,
 };

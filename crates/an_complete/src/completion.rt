@@ -6,14 +6,15 @@ ghost use Rattle.an_state.specs.View.{view_of};
 ghost use Rattle.an_complete.specs.Complete.{ask_iri, asked_terms, complete_of, filters_of};
 ghost use Rattle.an_complete.specs.Complete.{terms_page};
 ghost use Rattle.an_complete.specs.Cost.{complete_cost, terms_cost};
-ghost use Rattle.an_search.specs.Cost.{Takes};
+ghost use Rattle.an_list.specs.Cost.{Takes};
 
 use crate::ask::Ask;
 use crate::page::{ask_iri, terms_text};
 use crate::totals::{asked_totals, first_terms};
 use an_base::{Bytes, Name, Steps, TermTotal};
+use an_list::Site;
 use an_policy::Who;
-use an_search::{Settings, Wanted, wanted_by};
+use an_search::{Wanted, wanted_by};
 use an_state::{Look, shown_manifest};
 use an_terms::term_of;
 use std::alloc::{AllocError, Global};
@@ -37,10 +38,10 @@ pub fn complete<T: Look, L: Ledger>(
     who: &Who<'_>,
     manifest: &Name,
     ask: &Ask,
-    settings: &Settings,
+    site: &Site,
     steps: &mut Steps<L>,
 ) -> Result<Bytes, CompleteError>
-    ensures answer { Gives (λ page. page) CompleteError.Memory result (complete_of settings.now
+    ensures answer { Gives (λ page. page) CompleteError.Memory result (complete_of site.now
         (view_of (T.state look.now) (identity who.now)) manifest.now ask.now) }
     ensures steps { Takes CompleteError.Memory result steps.old steps.new (complete_cost
         (view_of (T.state look.now) (identity who.now)) manifest.now ask.now) }
@@ -49,7 +50,7 @@ pub fn complete<T: Look, L: Ledger>(
     ensures steps_least { steps.old ≤ steps.new }
 {
     match shown_manifest(look, who, manifest) {
-        Some(_) => match page_of_terms(alloc, look, who, manifest, ask, settings, steps) {
+        Some(_) => match page_of_terms(alloc, look, who, manifest, ask, site, steps) {
             Ok(page) => Ok(page),
             Err(_) => Err(CompleteError::Memory),
         },
@@ -63,11 +64,11 @@ fn page_of_terms<T: Look, L: Ledger>(
     who: &Who<'_>,
     manifest: &Name,
     ask: &Ask,
-    settings: &Settings,
+    site: &Site,
     steps: &mut Steps<L>,
 ) -> Result<Bytes, AllocError>
     ensures page { IfOk result (λ page. page ≡ compact_text
-        (terms_page (ask_iri settings.now.base manifest.now ask.now) ask.now.ignored
+        (terms_page (ask_iri site.now.base manifest.now ask.now) ask.now.ignored
         (asked_terms (view_of (T.state look.now) (identity who.now)) manifest.now ask.now))) }
     ensures steps { OnOk result (steps.new ≡ steps.old + terms_cost
         (view_of (T.state look.now) (identity who.now)) manifest.now ask.now) }
@@ -76,7 +77,7 @@ fn page_of_terms<T: Look, L: Ledger>(
     ensures steps_least { steps.old ≤ steps.new }
 {
     let terms = asked_terms(alloc, look, who, manifest, ask, steps)?;
-    let iri = ask_iri(alloc, settings.base(), manifest, ask)?;
+    let iri = ask_iri(alloc, site.base(), manifest, ask)?;
     terms_text(alloc, iri.as_str(), ask.ignored(), terms.as_slice())
 }
 

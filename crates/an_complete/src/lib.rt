@@ -3,7 +3,7 @@
 //! ```text
 //! read_ask(alloc, "q=he&min=2")   Ok(ask), which asks for the terms in "he.." that occur twice
 //! read_ask(alloc, "min=2")        Err(QueryAskError::NoPrefix)
-//! complete(alloc, &look, &who, &manifest, &ask, &settings, &mut steps)   Ok(the page of these terms)
+//! complete(alloc, &look, &who, &manifest, &ask, &site, &mut steps)   Ok(the page of these terms)
 //! ```
 #![tactic(auto)]
 

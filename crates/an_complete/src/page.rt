@@ -3,9 +3,9 @@ ghost use Rattle.serde_json.specs.Data.{string};
 ghost use Rattle.serde_json.specs.View.{items_of};
 ghost use Rattle.serde_json.specs.Written.{compact_text};
 ghost use Rattle.an_base.specs.Write.{item_commas, item_text, member_text};
-ghost use Rattle.an_search.specs.Page.{texts_beside};
+ghost use Rattle.an_list.specs.Page.{texts_beside};
 ghost use Rattle.an_search.specs.Search.{search_context};
-ghost use Rattle.an_search.specs.PageText.{text_if};
+ghost use Rattle.an_list.specs.PageText.{text_if};
 ghost use Rattle.an_complete.specs.Complete.{ask_form, ask_iri, term_tree, terms_page};
 
 use crate::ask::Ask;
@@ -15,7 +15,9 @@ use an_base::{
 };
 use an_code::Parameter;
 use an_iri::complete_iri;
-use an_search::{SEARCH_CONTEXT, append_filters, append_given, push_ignored};
+use an_list::push_ignored;
+use an_query::{append_filters, append_given};
+use an_search::SEARCH_CONTEXT;
 use form_urlencoded::Serializer;
 use std::alloc::{AllocError, Global};
 

@@ -1,3 +1,4 @@
 mod ExportRows
 pub mod LineLemmas
 pub mod PlaceLemmas
+pub mod TextLemmas

@@ -5,6 +5,7 @@ use Rattle.serde_json.specs.Data.{Data}
 use Rattle.serde_json.specs.Written.{compact_text}
 use Rattle.an_base.specs.Moment.{moment_text}
 use Rattle.an_policy.specs.Group.{group_text}
+use Rattle.an_policy.specs.Inner.{inner_text}
 use Rattle.an_state.specs.State.{ManifestState, NoteState, LiveManifest, LiveNote}
 use Rattle.an_export.specs.Export.{live_manifest_line, live_note_line, manifest_line}
 
@@ -27,12 +28,12 @@ written_manifest row created tree head text head_is text_is =
 
 pub written_note : (row : NoteState) (live : LiveNote) (head text : List ℕ)
     → head ≡ moment_text live.created ++ (codes " " ++ (row.owner ++ (codes " PUT /annotations/" ++ (row.owner ++ (codes "/" ++ (row.name
-    ++ (codes "?version=1&manifest=" ++ (live.manifest ++ (codes "&group=" ++ (group_text live.group ++ codes " "))))))))))
+    ++ (codes "?version=1&manifest=" ++ (live.manifest ++ (codes "&group=" ++ (inner_text live.group ++ codes " "))))))))))
     → text ≡ compact_text live.tree
     → head ++ (text ++ codes "\n") ≡ live_note_line row live
 written_note row live head text head_is text_is =
     rw (head_is, text_is) (behind_twelve (moment_text live.created) (codes " ") row.owner (codes " PUT /annotations/") row.owner (codes "/") row.name
-    (codes "?version=1&manifest=") live.manifest (codes "&group=") (group_text live.group) (codes " ") (compact_text live.tree ++ codes "\n"))
+    (codes "?version=1&manifest=") live.manifest (codes "&group=") (inner_text live.group) (codes " ") (compact_text live.tree ++ codes "\n"))
 
 -- ---- the line of a manifest, by what is kept of it
 

@@ -5,6 +5,7 @@ use Rattle.std.specs.Option.{option_map_or}
 use Rattle.serde_json.specs.Written.{compact_text}
 use Rattle.an_base.specs.Moment.{moment_text}
 use Rattle.an_policy.specs.Group.{group_text}
+use Rattle.an_policy.specs.Inner.{inner_text}
 use Rattle.an_state.specs.State.{ManifestState, NoteState, LiveManifest, LiveNote}
 use Rattle.an_state.specs.View.{View}
 
@@ -21,7 +22,7 @@ live_note_line row live =
     moment_text live.created ++ (codes " " ++ (row.owner
     ++ (codes " PUT /annotations/" ++ (row.owner ++ (codes "/" ++ (row.name
     ++ (codes "?version=1&manifest=" ++ (live.manifest
-    ++ (codes "&group=" ++ (group_text live.group
+    ++ (codes "&group=" ++ (inner_text live.group
     ++ (codes " " ++ (compact_text live.tree ++ codes "\n"))))))))))))
 
 -- the line of a manifest; none of one that was deleted

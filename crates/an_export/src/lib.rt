@@ -7,7 +7,9 @@
 #![tactic(auto)]
 
 pub use exporting::export;
+pub use laws::groups_are_put_again;
 
 mod exporting;
+mod laws;
 mod line;
 mod shown;

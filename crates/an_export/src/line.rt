@@ -1,6 +1,7 @@
 ghost use Rattle.std.specs.Prelude.{◌≡◌, ◌++◌, codes, string_bytes, IfOk};
 ghost use Rattle.an_base.specs.Moment.{moment_text};
 ghost use Rattle.an_policy.specs.Group.{group_text};
+ghost use Rattle.an_policy.specs.Inner.{inner_text};
 ghost use Rattle.an_state.specs.Live.{lent_note};
 ghost use Rattle.an_export.specs.Export.{live_manifest_line, live_note_line, manifest_line};
 ghost use Rattle.an_export.specs.Export.{note_line};
@@ -8,7 +9,7 @@ ghost use Rattle.an_export.specs.Export.{note_line};
 use an_base::{Moment, moment_text};
 use an_keyed::Keyed;
 use an_manifest::KeptSheet;
-use an_policy::group_text;
+use an_policy::{group_text, inner_text};
 use an_state::{LiveNote, ManifestRow, NoteRow};
 use std::alloc::{AllocError, Global};
 
@@ -78,14 +79,15 @@ fn note_head(alloc: Global, row: &NoteRow, live: &LiveNote<'_>) -> Result<String
     ensures text { IfOk result (λ head. string_bytes head ≡ moment_text live.now.created
         ++ (codes " " ++ (row.now.owner ++ (codes " PUT /annotations/" ++ (row.now.owner
         ++ (codes "/" ++ (row.now.name ++ (codes "?version=1&manifest=" ++ (live.now.manifest.now
-        ++ (codes "&group=" ++ (group_text live.now.group.now ++ codes " "))))))))))) }
+        ++ (codes "&group=" ++ (inner_text live.now.group.now ++ codes " "))))))))))) }
 {
     let created = moment_text(alloc, live.created)?;
     let created = created.as_str();
     let owner = row.owned_by().as_str();
     let name = row.name().as_str();
     let manifest = live.manifest.as_str();
-    let group = group_text(live.group);
+    let groups = inner_text(alloc, live.group)?;
+    let group = groups.as_str();
     format!(in alloc;
         "{created} {owner} PUT /annotations/{owner}/{name}\
          ?version=1&manifest={manifest}&group={group} "

@@ -19,9 +19,9 @@ use Rattle.an_state.specs.View.{View}
 use Rattle.an_state.specs.declared.activity.Seen.{Seen}
 use Rattle.an_state.specs.declared.command.Object.{Object}
 use Rattle.an_state.specs.declared.command.Object.TheVariants as object
-use Rattle.an_search.specs.Page.{page_link, link_before, link_after, page_count, start_of, page_of, page_iri}
-use Rattle.an_search.specs.Site.{Site, goes_on_from, is_base, is_base_sign, is_size}
-use Rattle.an_search.specs.declared.page.PageForm.TheVariants as form
+use Rattle.an_list.specs.Page.{page_link, link_before, link_after, page_count, start_of, page_of, page_iri}
+use Rattle.an_list.specs.Site.{Site, goes_on_from, is_base, is_base_sign, is_size}
+use Rattle.an_list.specs.declared.page.PageForm.TheVariants as form
 use Rattle.an_stream.specs.Activity.{activity}
 use Rattle.an_stream.specs.Stream.{changes_whole, changes_page_of, page_of_stream, stream_page, stream_tree}
 use Rattle.an_stream.specs.declared.stream.StreamError.{StreamError}

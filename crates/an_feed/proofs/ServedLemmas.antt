@@ -41,9 +41,9 @@ use Rattle.std.proofs.lemmas.Bool.{and_from}
 use Rattle.serde_json.specs.Written.{compact_text}
 use Rattle.an_harvest.specs.Feed.{Change, change_of, changes_of, is_activity, has_moment, kind_in, manifest_in, id_in, number_in, items_in}
 use Rattle.an_selectors.specs.Region.{behind}
-use Rattle.an_search.specs.Page.{page_link, link_before, link_after, page_count, start_of, page_of, page_iri}
-use Rattle.an_search.specs.declared.page.PageForm.TheVariants as form
-use Rattle.an_search.specs.declared.page.Whole.{Whole}
+use Rattle.an_list.specs.Page.{page_link, link_before, link_after, page_count, start_of, page_of, page_iri}
+use Rattle.an_list.specs.declared.page.PageForm.TheVariants as form
+use Rattle.an_list.specs.declared.page.Whole.{Whole}
 use Rattle.an_state.specs.declared.activity.Seen.{Seen}
 use Rattle.an_state.specs.declared.command.Object.{Object}
 use Rattle.an_state.specs.declared.command.Object.TheVariants as object

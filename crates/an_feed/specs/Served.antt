@@ -4,8 +4,8 @@ use Rattle.std.specs.Prelude.{Result}
 use Rattle.std.specs.List.{All}
 use Rattle.an_state.specs.View.{View}
 use Rattle.an_state.specs.declared.activity.Seen.{Seen}
-use Rattle.an_search.specs.Page.{page_count}
-use Rattle.an_search.specs.Site.{Site, is_base, is_size}
+use Rattle.an_list.specs.Page.{page_count}
+use Rattle.an_list.specs.Site.{Site, is_base, is_size}
 use Rattle.an_stream.specs.Stream.{changes_of, changes_page_of}
 use Rattle.an_stream.specs.declared.stream.StreamError.{StreamError}
 use Rattle.an_harvest.specs.Walk.{Walk, Gets, Stops, Ends}

@@ -4,7 +4,7 @@ ghost use Rattle.an_keyed.specs.Key.{Key};
 ghost use Rattle.an_state.specs.declared.activity.Seen.{Seen};
 ghost use Rattle.an_harvest.specs.Live.{live_at};
 ghost use Rattle.an_harvest.specs.Walk.{ComesTo, Walk, walk};
-ghost use Rattle.an_search.specs.Site.{Site};
+ghost use Rattle.an_list.specs.Site.{Site};
 ghost use Rattle.an_state.specs.View.{View};
 ghost use Rattle.an_feed.specs.Served.{HasAll, IsServed, Serves};
 ghost use Rattle.an_feed.specs.Told.{IsNamed, IsTold, change_told, iri_of, lives, object_of_key};

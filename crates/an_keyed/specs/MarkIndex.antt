@@ -4,10 +4,11 @@ use Rattle.std.specs.Prelude.{◌≡◌, ℕ, ◌<◌, List, length, fold, min, 
 use Rattle.std.specs.Prelude.{true, false, Option, Some, None}
 use Rattle.std.specs.Hash as fed
 use Rattle.std.specs.Hash.DefaultHasher as sip
+use Rattle.an_keyed.specs.Hashes.{short_hash}
 
--- SipHash-1-3 of the mark
+-- of SipHash-1-3 of the mark
 unfoldable pub mark_hash : List ℕ → ℕ
-mark_hash mark = sip.finish (fold sip.write sip.initial (fed.str mark))
+mark_hash mark = short_hash (sip.finish (fold sip.write sip.initial (fed.str mark)))
 
 -- what was entered: hashes, and beside each the place that it stands for; and how many more there
 -- is memory for

@@ -1,7 +1,7 @@
 ghost use Rattle.std.specs.Prelude.{◌≡◌, ◌+◌, ◌<◌, ◌≤◌, [], ◌∷◌, ◌++◌, ℕ, None, OnOk, length, take};
 ghost use Rattle.std.specs.Prelude.{if◌then◌else◌, nat_eq, slice_index};
 ghost use Rattle.std.specs.HashMap.{get, spare};
-ghost use Rattle.an_keyed.specs.Hashes.{IsLast};
+ghost use Rattle.an_keyed.specs.Hashes.{IsLast, short_hash};
 
 use std::alloc::{AllocError, Global};
 use std::collections::HashMap;
@@ -10,12 +10,20 @@ use std::marker::Model;
 /// So many hashes can be listed, since a place is kept in 32 bits.
 const MOST_HASHES: usize = 4_294_967_296;
 
+/// What is kept of a hash: its low 32 bits.
+#[tactic(auto, unfolding(crate::specs::Hashes::short_hash))]
+pub fn short_hash(hash: u64) -> u32
+    ensures short { result ≡ short_hash hash }
+{
+    (hash % 4_294_967_296) as u32
+}
+
 /// A list of hashes, in which the last place of each hash is found at once. Contracts see the list,
 /// and for how many more there is memory.
 #[derive(Drop)]
 pub struct Hashes {
-    newest: HashMap<u64, u32>,
-    hashes: Vec<u64>,
+    newest: HashMap<u32, u32>,
+    hashes: Vec<u32>,
     /// For a place whose hash stands before it too, the last such place.
     earlier: HashMap<u32, u32>,
     room: usize,
@@ -54,7 +62,7 @@ impl Hashes {
     }
 
     /// The last place with this hash.
-    pub fn last(&self, hash: u64) -> Option<usize>
+    pub fn last(&self, hash: u32) -> Option<usize>
         ensures last { IsLast hash self.now.hashes result }
     {
         as_place(self.newest.get(&hash).copied())
@@ -89,7 +97,7 @@ impl Hashes {
     }
 
     /// Adds a hash behind all. It takes no memory.
-    pub fn push(&mut self, hash: u64)
+    pub fn push(&mut self, hash: u32)
         requires room { 0 < self.old.room }
         ensures hashes { self.new.hashes ≡ self.old.hashes ++ hash ∷ [] }
         ensures room { self.old.room ≡ self.new.room + 1 }

@@ -3,6 +3,7 @@ ghost use Rattle.std.specs.Option.{option_copied};
 ghost use Rattle.an_keyed.specs.Key.{Key, same_key, same_owner};
 ghost use Rattle.an_keyed.specs.KeyHash.{key_hash};
 
+use crate::hashes::short_hash;
 use an_base::{Name, Shared};
 use std::hash::{DefaultHasher, Hash, Hasher};
 
@@ -52,14 +53,14 @@ pub fn is_same_owner(one: Option<&Name>, other: Option<&Name>) -> bool
 
 /// The hash of a key. Its seed is fixed.
 #[tactic(auto, unfolding(crate::specs::KeyHash::key_hash))]
-pub(crate) fn hash_of(owner: Option<&Name>, name: &Name) -> u64
+pub(crate) fn hash_of(owner: Option<&Name>, name: &Name) -> u32
     ensures hash { result ≡ key_hash
         (record { owner = option_copied owner.entry; name = name.now }) }
 {
     let mut hasher = DefaultHasher::new();
     text_of(owner).hash(&mut hasher);
     name.as_str().hash(&mut hasher);
-    hasher.finish()
+    short_hash(hasher.finish())
 }
 
 fn text_of(owner: Option<&Name>) -> Option<&str>

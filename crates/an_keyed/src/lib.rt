@@ -6,7 +6,7 @@
 //! ```
 #![tactic(auto)]
 
-pub use hashes::Hashes;
+pub use hashes::{Hashes, short_hash};
 pub use key::{Keyed, is_same_owner};
 pub use log::Log;
 pub use mark::Marked;

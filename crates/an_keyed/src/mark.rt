@@ -4,6 +4,7 @@ ghost use Rattle.an_base.specs.Outcome.{passes};
 ghost use Rattle.an_keyed.specs.MarkIndex.{mark_hash, with_place};
 ghost use Rattle.an_keyed.specs.Marks.{is_mark};
 
+use crate::hashes::short_hash;
 use std::hash::{DefaultHasher, Hash, Hasher};
 
 /// What may have a mark: a text by which it is found beside its key. Several may have one mark.
@@ -18,12 +19,12 @@ pub trait Marked {
 
 /// The hash of a mark. Its seed is fixed.
 #[tactic(auto, unfolding(crate::specs::MarkIndex::mark_hash))]
-pub(crate) fn hash_of_mark(mark: &str) -> u64
+pub(crate) fn hash_of_mark(mark: &str) -> u32
     ensures hash { result ≡ mark_hash mark.now }
 {
     let mut hasher = DefaultHasher::new();
     mark.hash(&mut hasher);
-    hasher.finish()
+    short_hash(hasher.finish())
 }
 
 /// Whether the place isn't before `start`, and has a row with this mark.

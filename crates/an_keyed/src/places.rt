@@ -49,7 +49,7 @@ impl Places {
     }
 
     /// The last entry with this hash.
-    pub fn last(&self, hash: u64) -> Option<usize>
+    pub fn last(&self, hash: u32) -> Option<usize>
         ensures last { IsLast hash self.now.hashes result }
     {
         self.hashes.last(hash)
@@ -88,7 +88,7 @@ impl Places {
     }
 
     /// Enters the place under the hash, where it isn't yet. It takes no memory.
-    pub fn enter(&mut self, hash: u64, place: usize)
+    pub fn enter(&mut self, hash: u32, place: usize)
         requires room { 0 < self.old.room }
         ensures entered { IsEntered hash place self.new }
         ensures kept { IsKept self.old self.new }
@@ -102,7 +102,7 @@ impl Places {
         }
     }
 
-    fn is_entered(&self, hash: u64, place: usize) -> bool
+    fn is_entered(&self, hash: u32, place: usize) -> bool
         ensures entered { IsTrue result ↔ IsEntered hash place self.now }
     {
         let mut next = self.last(hash);

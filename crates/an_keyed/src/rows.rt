@@ -129,7 +129,7 @@ impl<R: Keyed + Drop> Rows<R> {
 fn place_in<R: Keyed>(
     rows: &[R],
     index: &Hashes,
-    hash: u64,
+    hash: u32,
     owner: Option<&Name>,
     name: &Name,
 ) -> Option<usize>

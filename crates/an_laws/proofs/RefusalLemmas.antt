@@ -6,13 +6,13 @@ use Rattle.std.proofs.lemmas.Bool.{and_parts, not-false}
 use Rattle.std.proofs.lemmas.Slice.Eq.{bytes_eq-Decides}
 use Rattle.serde_json.specs.Data.{Data}
 use Rattle.an_base.specs.Outcome.{when, first_of, passes, or_refuse}
-use Rattle.an_code.specs.declared.code.Code.TheVariants as code
 use Rattle.an_manifest.specs.Manifest.{manifest_of}
 use Rattle.an_model.specs.Note.{note_of}
 use Rattle.an_policy.specs.Audience.{Identity}
 use Rattle.an_policy.specs.Reader.{reader_of, token_in, role_in, user_in, groups_in}
 use Rattle.an_policy.specs.declared.group.Group.{Group}
 use Rattle.an_policy.specs.declared.group.Group.TheVariants.{Public, Private, Named}
+use Rattle.an_policy.specs.declared.inner.Inner.{Inner}
 use Rattle.an_policy.specs.declared.reader.Reader.{Reader}
 use Rattle.an_policy.specs.declared.reader.ReaderError.{ReaderError}
 use Rattle.an_policy.specs.declared.reader.ReaderError.TheVariants as error
@@ -32,7 +32,7 @@ use Rattle.an_state.specs.declared.command.Command.{Command}
 use Rattle.an_state.specs.declared.command.Command.TheVariants.{PutReader, DropReader, PutManifest, DropManifest, PutNote, DropNote}
 use Rattle.an_state.specs.declared.command.Object.TheVariants as object
 use Rattle.an_machine.specs.declared.command.Refused.{Refused}
-use Rattle.an_machine.specs.declared.command.Refused.TheVariants.{NoManifest, TokenTaken, GroupFixed, Shape}
+use Rattle.an_machine.specs.declared.command.Refused.TheVariants.{NoManifest, TokenTaken, GroupFixed, PrivateManifest}
 
 -- ---- lists of refusals
 
@@ -102,13 +102,13 @@ agree-reader name version tree asked is =
 
 -- a manifest that is put isn't private
 agree-unless_private : (name : List ℕ) (version : ℕ) (group : Group) (tree : Data) (asked : Asked) (private : Bool)
-    → cond private (Err (Shape code.Group)) (result_map_both (asked_manifest name version group) no_manifest (manifest_of tree)) ≡ Ok asked → Agree (PutManifest name version group tree) asked
+    → cond private (Err PrivateManifest) (result_map_both (asked_manifest name version group) no_manifest (manifest_of tree)) ≡ Ok asked → Agree (PutManifest name version group tree) asked
 agree-unless_private name version group tree asked true is = absurd (cc)
 agree-unless_private name version group tree asked false is =
     let read = map-ok (asked_manifest name version group) no_manifest (manifest_of tree) asked is in
     rw read.2 (record { object = refl; version = refl; manifest = refl })
 
-agree-note : (owner name : List ℕ) (version : ℕ) (manifest : List ℕ) (group : Group) (tree : Data) (asked : Asked)
+agree-note : (owner name : List ℕ) (version : ℕ) (manifest : List ℕ) (group : Inner) (tree : Data) (asked : Asked)
     → asked_of (PutNote owner name version manifest group tree) ≡ Ok asked → Agree (PutNote owner name version manifest group tree) asked
 agree-note owner name version manifest group tree asked is =
     let read = map-ok (asked_note owner name version manifest group) no_note (note_of tree) asked is in

@@ -10,7 +10,7 @@ use Rattle.an_keyed.specs.Key.{same_key}
 use Rattle.an_keyed.specs.Rows.{row_of}
 use Rattle.an_keyed.proofs.KeyLemmas.{same_key-true}
 use Rattle.an_keyed.proofs.PutLemmas.{distinct-put_row}
-use Rattle.an_policy.specs.Audience.{Identity, is_in, is_named, may}
+use Rattle.an_policy.specs.Audience.{Identity, is_in, is_inside, is_named, may}
 use Rattle.an_policy.specs.Seen.{reads, as_seen}
 use Rattle.an_policy.specs.declared.who.Caller.{Caller}
 use Rattle.an_policy.specs.declared.group.Group.{Group}
@@ -99,7 +99,7 @@ module _ (reader : Identity) where
   opens_to found = passes (λ manifest. is_in reader manifest.group) found
 
   below-opened : (row : NoteState) (live : LiveNote) (found : Option ManifestState)
-      → passes (λ manifest. may reader (note_audience manifest row live)) found ≡ (opens_to found && (is_in reader live.group || is_named reader row.owner))
+      → passes (λ manifest. may reader (note_audience manifest row live)) found ≡ (opens_to found && (is_inside reader live.group || is_named reader row.owner))
   below-opened row live None = refl
   below-opened row live (Some manifest) = refl
 
@@ -110,7 +110,7 @@ module _ (reader : Identity) where
     live-alike row None = refl
     live-alike row (Some live) =
         below-opened row live (manifest_row t live.manifest)
-        ∙ ap (λ b. b && (is_in reader live.group || is_named reader row.owner)) (alike live.manifest)
+        ∙ ap (λ b. b && (is_inside reader live.group || is_named reader row.owner)) (alike live.manifest)
         ∙ sym (below-opened row live (manifest_row s live.manifest))
 
     -- where each manifest is open to the caller in both states or in none, the same annotations are shown

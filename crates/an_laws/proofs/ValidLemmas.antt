@@ -12,9 +12,9 @@ use Rattle.an_keyed.specs.Key.{Key}
 use Rattle.an_keyed.specs.Rows.{row_of}
 use Rattle.an_keyed.proofs.PutLemmas.{all-put_row}
 use Rattle.an_policy.specs.Audience.{Identity, anonymous, operator, signed}
-use Rattle.an_policy.specs.Group.{is_valid_group}
+use Rattle.an_policy.specs.Inner.{is_valid_inner}
 use Rattle.an_policy.specs.declared.group.Audience.{Audience}
-use Rattle.an_policy.specs.declared.group.Group.TheVariants.{Public}
+use Rattle.an_policy.specs.declared.inner.Inner.TheVariants.{Public}
 use Rattle.an_policy.specs.declared.reader.Reader.{Reader}
 use Rattle.an_policy.specs.declared.who.Caller.{Caller}
 use Rattle.an_policy.specs.declared.who.Caller.TheVariants.{Anonymous, Operator, Token, Named}
@@ -84,7 +84,7 @@ pub note-audience : (s : State) (row : NoteState) → AllValid s → if_any is_v
 unfolding is_valid_audience is_valid_manifest_row
 note-audience s row all valid = by_live row.live valid
   where
-    by_manifest : (live : LiveNote) (found : Option ManifestState) → is_valid_group live.group ≡ true → if_any is_valid_manifest_row found ≡ true
+    by_manifest : (live : LiveNote) (found : Option ManifestState) → is_valid_inner live.group ≡ true → if_any is_valid_manifest_row found ≡ true
         → if_any (is_valid_audience (Some row.owner)) (option_map (λ m. record { outer = m.group; inner = live.group; owner = Some row.owner }) found) ≡ true
     by_manifest live None grouped valid = refl
     by_manifest live (Some m) grouped valid =
@@ -95,10 +95,10 @@ note-audience s row all valid = by_live row.live valid
         → if_any (is_valid_audience (Some row.owner)) (option_and_then (λ l. option_map (λ m. record { outer = m.group; inner = l.group; owner = Some row.owner }) (manifest_row s l.manifest)) live) ≡ true
     by_live None h = refl
     by_live (Some l) h =
-        let tree = and_parts (is_name l.manifest && is_valid_group l.group && is_iri l.creator && is_moment l.created && if_any is_moment l.modified) _ h in
-        let modified = and_parts (is_name l.manifest && is_valid_group l.group && is_iri l.creator && is_moment l.created) _ tree.0 in
-        let created = and_parts (is_name l.manifest && is_valid_group l.group && is_iri l.creator) _ modified.0 in
-        let creator = and_parts (is_name l.manifest && is_valid_group l.group) _ created.0 in
+        let tree = and_parts (is_name l.manifest && is_valid_inner l.group && is_iri l.creator && is_moment l.created && if_any is_moment l.modified) _ h in
+        let modified = and_parts (is_name l.manifest && is_valid_inner l.group && is_iri l.creator && is_moment l.created) _ tree.0 in
+        let created = and_parts (is_name l.manifest && is_valid_inner l.group && is_iri l.creator) _ modified.0 in
+        let creator = and_parts (is_name l.manifest && is_valid_inner l.group) _ created.0 in
         by_manifest l (manifest_row s l.manifest) (and_parts (is_name l.manifest) _ creator.0).1
         (found-any manifest_key is_valid_manifest_row (record { owner = None; name = l.manifest }) s.manifests all.manifests)
 

@@ -10,7 +10,6 @@ use Rattle.an_base.specs.Moment.{is_moment}
 use Rattle.an_base.specs.Name.{is_name}
 use Rattle.an_base.specs.Outcome.{passes, first_of}
 use Rattle.an_base.specs.Tree.{is_tree, is_whole}
-use Rattle.an_code.specs.declared.code.Code.TheVariants as code
 use Rattle.an_manifest.specs.Manifest.{manifest_of}
 use Rattle.an_model.specs.Note.{note_of}
 use Rattle.serde_json.specs.Data.{Data}
@@ -20,6 +19,7 @@ use Rattle.an_keyed.specs.Rows.{row_of}
 use Rattle.an_keyed.proofs.PutLemmas.{row_of-find}
 use Rattle.an_policy.specs.Audience.{Identity, anonymous, operator, signed, is_named}
 use Rattle.an_policy.specs.Group.{is_valid_group}
+use Rattle.an_policy.specs.Inner.{is_valid_inner}
 use Rattle.an_policy.specs.declared.group.Audience.{Audience}
 use Rattle.an_policy.specs.declared.reader.Reader.{Reader}
 use Rattle.an_machine.specs.Accepted.{manifest_activity, manifest_made, changed, put_manifest, live_in, creator_of, note_made, put_note, manifest_tombstone, number_behind, buried, notes_on, burial, user_of, effect_of, moment_of_write}
@@ -42,7 +42,7 @@ use Rattle.an_state.specs.declared.command.Command.{Command}
 use Rattle.an_state.specs.declared.command.Command.TheVariants.{PutReader, DropReader, PutManifest, DropManifest, PutNote, DropNote}
 use Rattle.an_state.specs.declared.command.Object.TheVariants as object
 use Rattle.an_machine.specs.declared.command.Refused.{Refused}
-use Rattle.an_machine.specs.declared.command.Refused.TheVariants.{NotOwn, Shape}
+use Rattle.an_machine.specs.declared.command.Refused.TheVariants.{NotOwn, PrivateManifest}
 use Rattle.an_machine.specs.declared.effect.Effect.{Effect}
 use Rattle.an_state.specs.declared.entry.Row.TheVariants as kept
 use Rattle.an_policy.specs.Reader.{reader_of}
@@ -55,8 +55,9 @@ use Rattle.an_laws.proofs.StepLemmas.{accepted-is}
 use Rattle.an_laws.proofs.ValidLemmas.{found-any, manifest-audience, note-audience, is_good_signer, signer-good, write-moment, valid-rows, valid-activities, manifest_activity-valid, note_activity-valid}
 use Rattle.an_rows.specs.Valid.{if_any, is_iri, is_tombstone_number, is_valid_reader, is_valid_reader_row, is_manifest_group, is_sheet, is_note, is_valid_live_manifest, is_valid_manifest_row, is_valid_live_note, is_number_of_note, is_valid_note_row, is_valid_audience, is_valid_activity, is_valid_row, is_valid}
 use Rattle.an_rows.specs.Cells as cells
+use Rattle.an_rows.specs.declared.format.Format.TheVariants.{Second}
 use Rattle.an_rows.proofs.OpenedLemmas.{AllValid, valid-parts, valid-from}
-use Rattle.an_rows.proofs.RestoreLemmas.{cells-read-back}
+use Rattle.an_rows.proofs.RestoreLemmas.{cells-read-back, second-said}
 use Rattle.an_rows.proofs.ValidLemmas.{same_Ok}
 use Rattle.an_rows.proofs.ValidRowLemmas.{described-valid}
 use Rattle.an_rows.proofs.ValidTreeLemmas.{sheet-of, note-of}
@@ -184,18 +185,18 @@ module _ (s : State) (who : Identity) (at : ℤ) (all : AllValid s) (good : is_g
   creator-iri : is_iri (user_of who) ≡ true → (before : Option LiveNote) → if_any is_valid_live_note before ≡ true → is_iri (creator_of who before) ≡ true
   creator-iri user None valid = user
   creator-iri user (Some l) valid =
-      (and_parts (is_name l.manifest && is_valid_group l.group) _ (and_parts (is_name l.manifest && is_valid_group l.group && is_iri l.creator) _
-      (and_parts (is_name l.manifest && is_valid_group l.group && is_iri l.creator && is_moment l.created) _
-      (and_parts (is_name l.manifest && is_valid_group l.group && is_iri l.creator && is_moment l.created && if_any is_moment l.modified) _ valid).0).0).0).1
+      (and_parts (is_name l.manifest && is_valid_inner l.group) _ (and_parts (is_name l.manifest && is_valid_inner l.group && is_iri l.creator) _
+      (and_parts (is_name l.manifest && is_valid_inner l.group && is_iri l.creator && is_moment l.created) _
+      (and_parts (is_name l.manifest && is_valid_inner l.group && is_iri l.creator && is_moment l.created && if_any is_moment l.modified) _ valid).0).0).0).1
 
   created-moment : (before : Option LiveNote) → if_any is_valid_live_note before ≡ true → is_moment (unwrap_or (option_map (λ live. live.created) before) at) ≡ true
   created-moment None valid = when
   created-moment (Some l) valid =
-      (and_parts (is_name l.manifest && is_valid_group l.group && is_iri l.creator) _
-      (and_parts (is_name l.manifest && is_valid_group l.group && is_iri l.creator && is_moment l.created) _
-      (and_parts (is_name l.manifest && is_valid_group l.group && is_iri l.creator && is_moment l.created && if_any is_moment l.modified) _ valid).0).0).1
+      (and_parts (is_name l.manifest && is_valid_inner l.group && is_iri l.creator) _
+      (and_parts (is_name l.manifest && is_valid_inner l.group && is_iri l.creator && is_moment l.created) _
+      (and_parts (is_name l.manifest && is_valid_inner l.group && is_iri l.creator && is_moment l.created && if_any is_moment l.modified) _ valid).0).0).1
 
-  pub put_note-valid : (n : NotePut) → is_name n.owner ≡ true → is_name n.name ≡ true → is_number n.version ≡ true → is_name n.manifest ≡ true → is_valid_group n.group ≡ true → is_note n.note ≡ true
+  pub put_note-valid : (n : NotePut) → is_name n.owner ≡ true → is_name n.name ≡ true → is_number n.version ≡ true → is_name n.manifest ≡ true → is_valid_inner n.group ≡ true → is_note n.note ≡ true
       → is_iri (user_of who) ≡ true → is_live_manifest s n.manifest ≡ true → IsValidEffect (effect_of s who at (put.Note n))
   unfolding is_valid_note_row
   put_note-valid n owned named numbered on grouped note user live =
@@ -314,7 +315,7 @@ mapped : {A B E D : Type 0} (f : A → B) (g : E → D) (read : Result A E) (y :
 mapped f g (Ok x) y is = (x, refl, same_Ok (f x) y is)
 mapped f g (Err e) y is = absurd (cc)
 
-unprivate : (private : Bool) (otherwise : Result Asked Refused) (asked : Asked) → (if private then Err (Shape code.Group) else otherwise) ≡ Ok asked → (private ≡ false) × (otherwise ≡ Ok asked)
+unprivate : (private : Bool) (otherwise : Result Asked Refused) (asked : Asked) → (if private then Err PrivateManifest else otherwise) ≡ Ok asked → (private ≡ false) × (otherwise ≡ Ok asked)
 unprivate true otherwise asked is = absurd (cc)
 unprivate false otherwise asked is = (refl, is)
 
@@ -358,7 +359,7 @@ module _ (s : State) (who : Identity) (at : ℤ) (all : AllValid s) (stand : lis
       let live = drop-next s (object.Manifest name) version (ap (is_next s) same ∙ next) in
       subst Comes same (drop_manifest-valid s who at all good when stand name version both.0 both.1 live)
   effect-valid asked (PutNote owner name version manifest group tree) is_it reads none next =
-      let tree_is = and_parts (is_name owner && is_name name && is_number version && is_name manifest && is_valid_group group) _ is_it in
+      let tree_is = and_parts (is_name owner && is_name name && is_number version && is_name manifest && is_valid_inner group) _ is_it in
       let group_is = and_parts (is_name owner && is_name name && is_number version && is_name manifest) _ tree_is.0 in
       let on = and_parts (is_name owner && is_name name && is_number version) _ group_is.0 in
       let number = and_parts (is_name owner && is_name name) _ on.0 in
@@ -398,6 +399,6 @@ histories-valid s (write ∷ writes) legal right sound valid =
 pub histories-kept : (s : State) (writes : List Write) → Legal s writes → AreWrites writes → IsTrue (is_sound s) → IsTrue (is_valid s)
     → cells.state_of (cells.cells (state_of s writes)) ≡ Ok (state_of s writes)
 histories-kept s writes legal right sound valid =
-    cells-read-back (state_of s writes) (histories-valid s writes legal right sound valid) (histories-sound s writes legal sound)
+    cells-read-back Second (state_of s writes) (histories-valid s writes legal right sound valid) (histories-sound s writes legal sound) (second-said (state_of s writes))
 
 pub ruleset validity = (valid-after, histories-valid, histories-kept)

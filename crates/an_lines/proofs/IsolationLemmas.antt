@@ -2,7 +2,7 @@
 use Rattle.std.proofs.Common.{◌≡◌, ℕ, List, Result, Ok, Err, refl, ap}
 use Rattle.an_code.specs.declared.code.Code.{Code}
 use Rattle.an_state.specs.State.{State}
-use Rattle.an_search.specs.Site.{Site}
+use Rattle.an_list.specs.Site.{Site}
 use Rattle.an_answers.specs.Answer.{answer_of}
 use Rattle.an_answers.specs.Answer as answer
 use Rattle.an_lines.specs.Asked.{asked_of}

@@ -5,7 +5,7 @@ use Rattle.std.proofs.lemmas.List.{take-append-drop}
 use Rattle.an_base.specs.Faults.{Rises}
 use Rattle.an_world.specs.Link.{Traffic, Reads, Writes, WritesFront, IsAtEnd, ReadsAtMost}
 use Rattle.an_state.specs.State.{empty}
-use Rattle.an_search.specs.Site.{Site}
+use Rattle.an_list.specs.Site.{Site}
 use Rattle.an_lines.specs.Find.{Played, Report, play, report_of, report_played}
 use Rattle.an_lines.specs.Split.{lines_of}
 use Rattle.an_lines.specs.Input.{input_limit, IsReadWhole}

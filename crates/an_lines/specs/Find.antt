@@ -9,7 +9,7 @@ use Rattle.an_http.specs.declared.reply.Reply.{Reply}
 use Rattle.an_policy.specs.declared.who.Caller.{Caller}
 use Rattle.an_policy.specs.declared.who.Caller.TheVariants as caller
 use Rattle.an_state.specs.State.{State, empty}
-use Rattle.an_search.specs.Site.{Site}
+use Rattle.an_list.specs.Site.{Site}
 use Rattle.an_base.specs.declared.span.Prefer.{Prefer}
 use Rattle.an_answers.specs.Answer.{answer_of, query_answer}
 use Rattle.an_state.specs.View.{view_by}

@@ -1,7 +1,7 @@
 -- How a run ends: its status, what it has read and printed, and why.
 use Rattle.std.specs.Prelude.{◌≡◌, ℕ, ◌+◌, ◌≤◌, ◌⊎◌, List, [], ◌++◌, length, codes, Option, ⊤}
 use Rattle.an_world.specs.Link.{Traffic, Tells}
-use Rattle.an_search.specs.Site.{Site}
+use Rattle.an_list.specs.Site.{Site}
 use Rattle.an_lines.specs.Find.{Report, report_of}
 use Rattle.an_lines.specs.Input.{input_limit, IsReadWhole}
 use Rattle.an_lines.specs.declared.status.Status.{Status}

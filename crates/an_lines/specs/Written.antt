@@ -12,7 +12,7 @@ use Rattle.an_machine.specs.declared.command.Decided.{Decided}
 use Rattle.an_machine.specs.declared.command.Refused.{Refused}
 use Rattle.an_machine.specs.declared.command.Refused.TheVariants.{Version}
 use Rattle.an_state.specs.Entries.{state_after}
-use Rattle.an_machine.specs.Told.{write_refusal}
+use Rattle.an_answers.specs.Refused.{write_refusal}
 
 -- it is done, and perhaps a repeat, which leaves the state as it was; or it is old; or it is
 -- refused, which ends the run

@@ -8,8 +8,8 @@ use crate::line::{LineWords, words_of};
 use an_base::{Moment, Name};
 use an_code::Code;
 use an_http::{Allow, Method};
+use an_query::text_of;
 use an_routes::{Read, Route, RouteError, command_of, name_in, route};
-use an_search::text_of;
 use an_state::Command;
 use std::alloc::{AllocError, Global};
 

@@ -11,7 +11,7 @@ use crate::split::first_line;
 use crate::status::Status;
 use crate::stop::{Stop, TOO_LARGE, refusal_line};
 use crate::turn::turn;
-use an_search::Settings;
+use an_list::Site;
 use an_state::Book;
 use an_world::{Link, LinkError, read_to, write_all};
 use std::alloc::{AllocError, Global};
@@ -38,7 +38,7 @@ struct Played {
 /// refused and isn't old ends the run. An input of more than 268,435,456 bytes is refused before
 /// its first line. Nothing is printed where memory runs out.
 #[tactic(auto, using(crate::proofs::StatusLemmas::ends_of_find))]
-pub fn find<L: Link>(alloc: Global, link: &mut L, settings: &Settings) -> Status
+pub fn find<L: Link>(alloc: Global, link: &mut L, settings: &Site) -> Status
     ensures finds { Finds settings.now
         (Rises (L.read_faults link.old) (L.read_faults link.new))
         (Rises (L.write_faults link.old) (L.write_faults link.new))
@@ -68,7 +68,7 @@ pub fn find<L: Link>(alloc: Global, link: &mut L, settings: &Settings) -> Status
 
 /// What comes of an input.
 #[tactic(auto, unfolding(crate::specs::Find::report_of))]
-fn report_of(alloc: Global, input: Vec<u8>, settings: &Settings) -> Result<Report, AllocError>
+fn report_of(alloc: Global, input: Vec<u8>, settings: &Site) -> Result<Report, AllocError>
     ensures { IfOk result (λ r. record { status = r.status; text = r.text.items }
         ≡ report_of settings.now input.items) }
 {
@@ -106,7 +106,7 @@ fn report_played(alloc: Global, played: Played) -> Result<Report, AllocError>
 }
 
 /// Plays all lines of an input, from the empty state.
-fn play(alloc: Global, input: Vec<u8>, settings: &Settings) -> Result<Played, AllocError>
+fn play(alloc: Global, input: Vec<u8>, settings: &Site) -> Result<Played, AllocError>
     ensures { IfOk result (λ played. shown played
         ≡ play settings.now (lines_of input.items) 1 empty) }
 {

@@ -15,10 +15,10 @@ use an_answers::{answer_uncounted, query_answer};
 use an_base::{Moment, Name, Prefer};
 use an_code::Code;
 use an_http::{Allow, Reply};
+use an_list::Site;
 use an_machine::{Decided, Refused, decide};
 use an_policy::Caller;
 use an_routes::Read;
-use an_search::Settings;
 use an_state::{Book, Command};
 use std::alloc::{AllocError, Global};
 
@@ -34,7 +34,7 @@ const NO_PREFERENCE: Prefer = Prefer {
 pub(crate) fn turn(
     alloc: Global,
     book: &mut Book,
-    settings: &Settings,
+    settings: &Site,
     line: &[u8],
     output: &mut Vec<u8>,
 ) -> Result<Option<Code>, AllocError>
@@ -50,7 +50,7 @@ pub(crate) fn turn(
 fn asked_turn(
     alloc: Global,
     book: &mut Book,
-    settings: &Settings,
+    settings: &Site,
     asked: Asked,
     output: &mut Vec<u8>,
 ) -> Result<Option<Code>, AllocError>
@@ -120,7 +120,7 @@ fn apply(book: &mut Book, decided: Decided) -> Result<Option<Code>, AllocError>
 fn read_turn(
     alloc: Global,
     book: &Book,
-    settings: &Settings,
+    settings: &Site,
     by: Option<Name>,
     read: &Read,
     output: &mut Vec<u8>,

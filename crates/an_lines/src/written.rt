@@ -1,10 +1,11 @@
 ghost use Rattle.std.specs.Prelude.{◌≡◌, ◌<◌, None, Some, if◌then◌else◌};
-ghost use Rattle.an_machine.specs.Told.{write_refusal};
+ghost use Rattle.an_answers.specs.Refused.{write_refusal};
 ghost use Rattle.an_lines.specs.Written.{is_old, writer};
 
+use an_answers::write_refusal;
 use an_base::Name;
 use an_code::Code;
-use an_machine::{Refused, write_refusal};
+use an_machine::Refused;
 use an_policy::Caller;
 
 /// Who writes a line. A line by nobody's name is the operator's.

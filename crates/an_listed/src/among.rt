@@ -7,11 +7,12 @@ ghost use Rattle.an_state.specs.Terms.{has_term};
 ghost use Rattle.an_listed.specs.Filed.{reads, reads_on};
 ghost use Rattle.an_listed.specs.Stands.{Stands};
 
+use crate::asks::classes_read;
 use crate::filed::Filed;
 use crate::register::Register;
 use an_base::Name;
 use an_policy::{Classes, Who};
-use an_postings::{ClassPostings, common, is_listed, length_of};
+use an_postings::{ClassPostings, is_listed, length_of};
 use std::alloc::{AllocError, Global};
 
 /// The lists of a term are merged and walked along where they are at most so many times as long as
@@ -46,8 +47,10 @@ impl Register {
         if length_of(lists) / WALKED > places.len() {
             return looked_up(alloc, lists, rows, classes, who, places);
         }
-        let others = self.with_term(alloc, classes, who, manifest, term)?;
-        common(alloc, places, others.as_slice())
+        let own = self.words.classes(alloc, manifest, term)?;
+        let read = classes_read(alloc, classes, who, own.as_slice())?;
+        self.words
+            .common(alloc, manifest, term, read.as_slice(), places)
     }
 }
 

@@ -80,7 +80,7 @@ impl Register {
 }
 
 /// Those of the classes that the caller may read.
-fn classes_read(
+pub(crate) fn classes_read(
     alloc: Global,
     classes: &Classes,
     who: &Who<'_>,

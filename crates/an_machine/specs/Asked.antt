@@ -3,7 +3,6 @@ use Rattle.std.specs.Prelude.{ℕ, List, Bool, true, false, if◌then◌else◌,
 use Rattle.std.specs.Prelude.{Ok, Err}
 use Rattle.std.specs.Result.{result_map_both}
 use Rattle.serde_json.specs.Data.{Data}
-use Rattle.an_code.specs.declared.code.Code.TheVariants as code
 use Rattle.an_manifest.specs.Manifest.{manifest_of}
 use Rattle.an_manifest.specs.declared.sheet.SheetError.{SheetError}
 use Rattle.an_manifest.specs.declared.sheet.SheetError.TheVariants as sheet
@@ -12,6 +11,7 @@ use Rattle.an_model.specs.declared.refusal.NoteError.{NoteError}
 use Rattle.an_model.specs.declared.refusal.NoteError.TheVariants as note
 use Rattle.an_policy.specs.Group.{is_private}
 use Rattle.an_policy.specs.declared.group.Group.{Group}
+use Rattle.an_policy.specs.declared.inner.Inner.{Inner}
 use Rattle.an_policy.specs.declared.reader.ReaderError.{ReaderError}
 use Rattle.an_policy.specs.declared.reader.ReaderError.TheVariants as error
 use Rattle.an_policy.specs.Reader.{reader_of}
@@ -25,7 +25,8 @@ use Rattle.an_state.specs.declared.command.Command.TheVariants.{PutNote, DropNot
 use Rattle.an_state.specs.declared.command.Object.{Object}
 use Rattle.an_state.specs.declared.command.Object.TheVariants as object
 use Rattle.an_machine.specs.declared.command.Refused.{Refused}
-use Rattle.an_machine.specs.declared.command.Refused.TheVariants.{Shape, Memory}
+use Rattle.an_machine.specs.declared.command.Refused.TheVariants.{ReaderTree, PrivateManifest}
+use Rattle.an_machine.specs.declared.command.Refused.TheVariants.{ManifestTree, NoteTree, Memory}
 
 -- ---- a command
 
@@ -34,8 +35,8 @@ abbrev pub manifest_under : Command → Option (List ℕ)
 manifest_under (PutNote owner name version manifest group tree) = Some manifest
 manifest_under _ = None
 
--- the group that an annotation is put in
-abbrev pub group_within : Command → Option Group
+-- the groups that an annotation is put in
+abbrev pub group_within : Command → Option Inner
 group_within (PutNote owner name version manifest group tree) = Some group
 group_within _ = None
 
@@ -43,35 +44,24 @@ group_within _ = None
 
 -- why a tree is refused that describes no reader; want of memory stays what it is
 abbrev pub no_reader : ReaderError → Refused
-no_reader error.Token = Shape code.ReaderToken
-no_reader error.Role = Shape code.ReaderRole
-no_reader error.User = Shape code.ReaderUser
-no_reader error.Groups = Shape code.ReaderGroups
 no_reader error.Memory = Memory
+no_reader why = ReaderTree why
 
 -- why a tree is refused that is no manifest
 abbrev pub no_manifest : SheetError → Refused
-no_manifest sheet.Version2 = Shape code.ManifestVersion2
-no_manifest sheet.WrongType = Shape code.ManifestType
-no_manifest sheet.Label = Shape code.ManifestLabel
-no_manifest sheet.Items = Shape code.ManifestItems
-no_manifest (sheet.Canvas at) = Shape (code.ManifestCanvas at)
 no_manifest sheet.Memory = Memory
+no_manifest why = ManifestTree why
 
 -- why a tree is refused that is no annotation
 abbrev pub no_note : NoteError → Refused
-no_note note.WrongType = Shape code.NoteType
-no_note (note.Target at) = Shape (code.NoteTarget at)
-no_note (note.Selector at) = Shape (code.NoteSelector at)
-no_note (note.Body at) = Shape (code.NoteBody at)
-no_note (note.Motivation at) = Shape (code.NoteMotivation at)
 no_note note.Memory = Memory
+no_note why = NoteTree why
 
 abbrev pub asked_manifest : List ℕ → ℕ → Group → Data → Asked
 asked_manifest name version group sheet =
     put.Manifest (record { name = name; version = version; group = group; sheet = sheet })
 
-abbrev pub asked_note : List ℕ → List ℕ → ℕ → List ℕ → Group → Data → Asked
+abbrev pub asked_note : List ℕ → List ℕ → ℕ → List ℕ → Inner → Data → Asked
 asked_note owner name version manifest group note = put.Note (record {
   owner = owner;
   name = name;
@@ -86,7 +76,7 @@ abbrev pub asked_of : Command → Result Asked Refused
 asked_of (PutReader name version tree) =
     result_map_both put.Reader no_reader (reader_of tree name version)
 asked_of (PutManifest name version group tree) =
-    if is_private group then Err (Shape code.Group)
+    if is_private group then Err PrivateManifest
     else result_map_both (asked_manifest name version group) no_manifest (manifest_of tree)
 asked_of (PutNote owner name version manifest group tree) =
     result_map_both (asked_note owner name version manifest group) no_note (note_of tree)

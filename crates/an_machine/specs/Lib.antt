@@ -4,4 +4,3 @@ pub mod Refusals
 pub mod Accepted
 pub mod Step
 pub mod Legal
-pub mod Told

@@ -3,8 +3,8 @@ use Rattle.std.specs.Prelude.{ℕ, List, [], ◌∷◌, Bool, true, false, ◌&&
 use Rattle.std.specs.Prelude.{Option, Some, None, option_and_then}
 use Rattle.std.specs.List.{list_any}
 use Rattle.an_base.specs.Outcome.{when, passes}
-use Rattle.an_policy.specs.declared.group.Group.{Group}
-use Rattle.an_policy.specs.declared.group.Group.TheVariants.{Public, Private, Named}
+use Rattle.an_policy.specs.declared.inner.Inner.{Inner}
+use Rattle.an_policy.specs.declared.inner.Inner.TheVariants.{Public, Private, Names}
 use Rattle.an_policy.specs.declared.reader.Reader.{Reader}
 use Rattle.an_policy.specs.declared.reader.Role.{Role}
 use Rattle.an_policy.specs.declared.reader.Role.TheVariants as role
@@ -76,11 +76,11 @@ is_anothers who _ = false
 abbrev pub is_hidden : State → Identity → List ℕ → Bool
 is_hidden s who manifest = not (passes (shows_manifest who) (manifest_row s manifest))
 
--- a named group that the caller is no member of
-abbrev pub is_outside : Identity → Group → Bool
+-- one of the groups is a named one that the caller is no member of
+abbrev pub is_outside : Identity → Inner → Bool
 is_outside who Public = false
 is_outside who Private = false
-is_outside who (Named group) = not (is_among (groups_of who) group)
+is_outside who (Names names) = list_any (λ name. not (is_among (groups_of who) name)) names
 
 -- ---- what is asked for
 

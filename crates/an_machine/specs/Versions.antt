@@ -4,7 +4,7 @@ use Rattle.std.specs.Prelude.{Option, option_map, unwrap_or}
 use Rattle.std.specs.Cmp.Lexicographic.{pointwise}
 use Rattle.an_base.specs.Outcome.{passes}
 use Rattle.an_base.specs.Tree.{same_text}
-use Rattle.an_policy.specs.Group.{same_group}
+use Rattle.an_policy.specs.Inner.{same_inner}
 use Rattle.an_policy.specs.declared.reader.Reader.{Reader}
 use Rattle.an_policy.specs.declared.reader.Role.{Role}
 use Rattle.an_policy.specs.declared.reader.Role.TheVariants as role
@@ -85,7 +85,7 @@ holds_manifest m row = passes (λ live. same_text live.tree m.sheet) row.live
 abbrev pub holds_note : NotePut → NoteState → Bool
 holds_note n row = passes (λ live.
     bytes_eq live.manifest n.manifest
-    && same_group live.group n.group
+    && same_inner live.group n.group
     && same_text live.tree n.note) row.live
 
 -- what is asked for is so already

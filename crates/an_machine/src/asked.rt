@@ -13,10 +13,9 @@ ghost use Rattle.an_state.specs.Commands.{object_of};
 
 use crate::command::Refused;
 use an_base::{Name, Tree, TryCopy, copy_both};
-use an_code::Code;
 use an_manifest::{KeptSheet, SheetError, read_manifest};
 use an_model::{KeptNote, NoteError, read_note};
-use an_policy::{Group, Reader, ReaderError, read_reader};
+use an_policy::{Group, Inner, Reader, ReaderError, read_reader};
 use an_state::{Command, Object, object_of};
 use std::alloc::{AllocError, Global};
 
@@ -36,7 +35,7 @@ pub struct NotePut {
     pub name: Name,
     pub version: u32,
     pub manifest: Name,
-    pub group: Group,
+    pub group: Inner,
     pub note: KeptNote,
 }
 
@@ -67,7 +66,7 @@ pub(crate) fn asked_of(alloc: Global, command: &Command) -> Result<Asked, Refuse
             group,
             tree,
         } => if is_private(group) {
-            Err(Refused::Shape(Code::Group))
+            Err(Refused::PrivateManifest)
         } else {
             manifest_to_put(alloc, name, *version, group, tree.get())
         },
@@ -142,7 +141,7 @@ fn note_to_put(
     name: &Name,
     version: u32,
     manifest: &Name,
-    group: &Group,
+    group: &Inner,
     tree: &Tree,
 ) -> Result<Asked, Refused>
     ensures asked { Gives (λ a. a) Refused.Memory result
@@ -161,7 +160,7 @@ fn note_put(
     name: &Name,
     version: u32,
     manifest: &Name,
-    group: &Group,
+    group: &Inner,
     note: KeptNote,
 ) -> Result<NotePut, AllocError>
     ensures { IfOk result (λ put. put ≡ record {
@@ -203,11 +202,8 @@ impl From<ReaderError> for Refused {
 
     fn from(error: ReaderError) -> Refused {
         match error {
-            ReaderError::Token => Refused::Shape(Code::ReaderToken),
-            ReaderError::Role => Refused::Shape(Code::ReaderRole),
-            ReaderError::User => Refused::Shape(Code::ReaderUser),
-            ReaderError::Groups => Refused::Shape(Code::ReaderGroups),
             ReaderError::Memory => Refused::Memory,
+            _ => Refused::ReaderTree(error),
         }
     }
 }
@@ -219,12 +215,8 @@ impl From<SheetError> for Refused {
 
     fn from(error: SheetError) -> Refused {
         match error {
-            SheetError::Version2 => Refused::Shape(Code::ManifestVersion2),
-            SheetError::WrongType => Refused::Shape(Code::ManifestType),
-            SheetError::Label => Refused::Shape(Code::ManifestLabel),
-            SheetError::Items => Refused::Shape(Code::ManifestItems),
-            SheetError::Canvas { at } => Refused::Shape(Code::ManifestCanvas { at }),
             SheetError::Memory => Refused::Memory,
+            _ => Refused::ManifestTree(error),
         }
     }
 }
@@ -236,12 +228,8 @@ impl From<NoteError> for Refused {
 
     fn from(error: NoteError) -> Refused {
         match error {
-            NoteError::WrongType => Refused::Shape(Code::NoteType),
-            NoteError::Target { at } => Refused::Shape(Code::NoteTarget { at }),
-            NoteError::Selector { at } => Refused::Shape(Code::NoteSelector { at }),
-            NoteError::Body { at } => Refused::Shape(Code::NoteBody { at }),
-            NoteError::Motivation { at } => Refused::Shape(Code::NoteMotivation { at }),
             NoteError::Memory => Refused::Memory,
+            _ => Refused::NoteTree(error),
         }
     }
 }

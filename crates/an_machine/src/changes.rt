@@ -7,7 +7,7 @@ ghost use Rattle.an_state.specs.View.{audience_of_manifest, audience_of_note};
 ghost use Rattle.an_machine.specs.Accepted.{manifest_activity, note_activity};
 
 use an_base::{Moment, Name, Shared, TryCopy, copy_both};
-use an_policy::{Audience, Group, Who};
+use an_policy::{Audience, Inner, Who};
 use an_state::{Activity, Book, ManifestRow, NoteRow};
 use std::alloc::{AllocError, Global};
 
@@ -83,7 +83,7 @@ pub(crate) fn audience_of_manifest(row: &ManifestRow) -> Result<Option<Audience>
         let outer = row.group().copy()?;
         Ok(Some(Audience {
             outer,
-            inner: Group::Public,
+            inner: Inner::Public,
             owner: None,
         }))
     } else {
@@ -116,7 +116,7 @@ pub(crate) fn audience_of_note(book: &Book, row: &NoteRow) -> Result<Option<Audi
 pub(crate) fn audience_below(
     manifest: Option<&ManifestRow>,
     owner: &Name,
-    group: &Group,
+    group: &Inner,
 ) -> Result<Option<Audience>, AllocError>
     ensures { IfOk result (λ audience. audience ≡ option_map
         (λ m. record { outer = m.group; inner = group.now; owner = Some owner.now })

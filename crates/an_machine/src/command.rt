@@ -1,7 +1,8 @@
 ghost use Rattle.std.specs.Prelude.{◌≡◌};
-ghost use Rattle.an_machine.specs.Told.{write_refusal};
 
-use an_code::Code;
+use an_manifest::SheetError;
+use an_model::NoteError;
+use an_policy::ReaderError;
 use an_state::{Entry, Object};
 use std::alloc::AllocError;
 
@@ -37,8 +38,14 @@ pub enum Refused {
     NoManifest,
     /// The caller is no member of the annotation's group.
     NotMember,
-    /// The tree isn't of its shape.
-    Shape(Code),
+    /// The tree describes no reader.
+    ReaderTree(ReaderError),
+    /// A manifest is put that is private.
+    PrivateManifest,
+    /// The tree is no manifest.
+    ManifestTree(SheetError),
+    /// The tree is no annotation.
+    NoteTree(NoteError),
     /// The manifest has another group.
     GroupFixed,
     /// Another live reader has the token.
@@ -57,23 +64,5 @@ impl From<AllocError> for Refused {
 
     fn from(_error: AllocError) -> Refused {
         Refused::Memory
-    }
-}
-
-/// The code by which it is told why a write is refused. Want of memory is told otherwise.
-pub fn write_refusal(refused: Refused) -> Code
-    ensures refusal { result ≡ write_refusal refused }
-{
-    match refused {
-        Refused::Shape(code) => code,
-        Refused::NotSigned => Code::NotSigned,
-        Refused::NotWriter => Code::NotWriter,
-        Refused::NotOwn => Code::NotOwn,
-        Refused::NoManifest => Code::Absent,
-        Refused::NotMember => Code::NotMember,
-        Refused::GroupFixed => Code::GroupFixed,
-        Refused::TokenTaken => Code::TokenTaken,
-        Refused::Version { current } => Code::Version { current },
-        Refused::Memory => Code::Absent,
     }
 }

@@ -12,7 +12,7 @@ pub use an_state::{
     Activity, Book, Command, Entry, LiveNote, Look, ManifestRow, NoteRow, Object, ReaderRow, Row,
     Seen,
 };
-pub use command::{Decided, Refused, WriteReply, write_refusal};
+pub use command::{Decided, Refused, WriteReply};
 pub use judging::decide;
 
 mod asked;

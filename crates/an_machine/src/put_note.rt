@@ -17,7 +17,7 @@ use crate::effect::{Effect, change, moments};
 use crate::versions::{is_behind, note_standing, unless_done};
 use an_base::{Moment, Name, Shared, Text, TryCopy};
 use an_keyed::Keyed;
-use an_policy::{Audience, Who, is_same_group, user_of};
+use an_policy::{Audience, Who, is_same_inner, user_of};
 use an_state::{Activity, Book, LiveNote, ManifestRow, NoteRow, Row, as_known};
 use std::alloc::{AllocError, Global};
 
@@ -52,7 +52,7 @@ fn is_held(row: Option<&NoteRow>, put: &NotePut) -> bool
         Some(row) => match row.live() {
             Some(live) => {
                 live.manifest == &put.manifest
-                    && is_same_group(live.group, &put.group)
+                    && is_same_inner(live.group, &put.group)
                     && live.tree.text() == put.note.text()
             }
             None => false,

@@ -1,9 +1,10 @@
 //! Why a write is refused before its tree is read.
-ghost use Rattle.std.specs.Prelude.{◌≡◌, [], ◌∷◌, IfOk, option_and_then};
+ghost use Rattle.std.specs.Prelude.{◌≡◌, [], ◌∷◌, IfOk, not, option_and_then};
+ghost use Rattle.std.specs.List.{list_any};
 ghost use Rattle.std.specs.Option.{option_copied};
 ghost use Rattle.std.specs.Result.{result_err};
 ghost use Rattle.an_base.specs.Outcome.{first_of, passes, when};
-ghost use Rattle.an_policy.specs.Audience.{identity};
+ghost use Rattle.an_policy.specs.Audience.{groups_of, identity, is_among};
 ghost use Rattle.an_machine.specs.Asked.{manifest_under};
 ghost use Rattle.an_state.specs.Commands.{object_of};
 ghost use Rattle.an_state.specs.State.{manifest_row};
@@ -13,7 +14,7 @@ ghost use Rattle.an_state.specs.View.{shows_manifest};
 
 use crate::command::Refused;
 use an_base::Name;
-use an_policy::{Group, Role, Who, is_member, is_named};
+use an_policy::{Inner, Role, Who, is_member, is_named};
 use an_state::{Book, Command, ManifestRow, Object, is_manifest_shown};
 
 /// The first refusal before the tree of a command is read. Without one, the row of the manifest
@@ -53,7 +54,7 @@ fn place<'a>(
     book: &'a Book,
     who: &Who<'_>,
     manifest: &Name,
-    group: &Group,
+    group: &Inner,
 ) -> Result<Option<&'a ManifestRow>, Refused>
     ensures refused { result_err result ≡ first_of
         (when (is_hidden book.now.state (identity who.now) manifest.now) Refused.NoManifest
@@ -113,15 +114,23 @@ fn is_anothers(who: &Who<'_>, object: &Object) -> bool
     }
 }
 
-/// Whether it is a named group that the caller is no member of.
-fn is_outside(who: &Who<'_>, group: &Group) -> bool
-    ensures { result ≡ is_outside (identity who.now) group.now }
+/// Whether one of the groups is a named one that the caller is no member of.
+fn is_outside(who: &Who<'_>, groups: &Inner) -> bool
+    ensures { result ≡ is_outside (identity who.now) groups.now }
 {
-    match group {
-        Group::Public => false,
-        Group::Private => false,
-        Group::Named(name) => !is_member(who, name),
+    match groups {
+        Inner::Public => false,
+        Inner::Private => false,
+        Inner::Names(names) => lacks_one(who, names.as_slice()),
     }
+}
+
+/// Whether the caller is no member of one of the groups of these names.
+fn lacks_one(who: &Who<'_>, names: &[Name]) -> bool
+    ensures { result
+        ≡ list_any (λ name. not (is_among (groups_of (identity who.now)) name)) names.now }
+{
+    names.iter().any(|name| !is_member(who, name))
 }
 
 /// Whether there is a live manifest that the caller may read.

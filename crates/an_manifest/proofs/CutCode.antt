@@ -10,7 +10,7 @@ use Rattle.an_base.specs.Cut.{below, above, members_in}
 use Rattle.an_base.specs.Write.{commas}
 use Rattle.an_manifest.specs.declared.cut.Cut.{Cut}
 use Rattle.an_manifest.specs.Cuts.{last_cut, cuts_at, canvas_cuts}
-use Rattle.an_manifest.proofs.DressLemmas.{HasNone, HasNone-get}
+use Rattle.an_manifest.proofs.FloatLemmas.{HasNone, HasNone-get}
 
 pub last_cut-more : (values : List Value) (start end : ℕ) → 0 < length values → last_cut (Some (items_view values)) start end ≡ end - 1
 last_cut-more [] start end some = absurd (omega arith)

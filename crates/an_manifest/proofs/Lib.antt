@@ -1,13 +1,6 @@
 pub mod TakeLemmas
 pub mod ManifestLemmas
-pub mod DressLemmas
-pub mod DressLaws
-pub mod PieceLemmas
-pub mod SplitLemmas
-pub mod CutLemmas
-pub mod ServedLemmas
 pub mod ReadyLemmas
-pub mod SheetLemmas
-pub mod PushLemmas
+pub mod FloatLemmas
 pub mod CutCode
-pub mod WrittenLemmas
+pub mod KeptSheetLemmas

@@ -1,4 +1,3 @@
 pub mod Shape
 pub mod Manifest
-pub mod Dress
 pub mod Cuts

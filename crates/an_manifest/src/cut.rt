@@ -16,7 +16,7 @@ use std::sync::ArcSlice;
 /// Where the text of an object is cut around the values of a member, so that the member gets one
 /// more. Each place is a number of bytes from the object's start.
 #[derive(Clone, Copy, Debug)]
-pub(crate) struct Cut {
+pub struct Cut {
     /// How long the object's text is.
     pub size: usize,
     /// Behind the members whose names stand before it.
@@ -31,10 +31,14 @@ pub(crate) struct Cut {
 
 /// Where the text of a manifest is cut.
 #[derive(Clone, Copy, Debug)]
-pub(crate) struct SheetCuts {
+pub struct SheetCuts {
+    /// Before the members whose names stand behind `@context`.
     pub context: usize,
+    /// Before the members whose names stand behind `id`.
     pub id: usize,
+    /// Around its canvases.
     pub items: Cut,
+    /// Around its services.
     pub service: Cut,
 }
 

@@ -1,8 +1,7 @@
 ghost use Rattle.std.specs.Prelude.{◌≡◌, false, Ok, IsTrue, IfOk};
 ghost use Rattle.serde_json.specs.Written.{compact_text};
 ghost use Rattle.an_base.specs.Tree.{is_tree};
-ghost use Rattle.an_base.specs.Write.{item_commas};
-ghost use Rattle.an_manifest.specs.Cuts.{led, canvas_cuts, sheet_cuts};
+ghost use Rattle.an_manifest.specs.Cuts.{canvas_cuts, sheet_cuts};
 ghost use Rattle.an_manifest.specs.Manifest.{is_kept, canvases_in, canvases_of};
 
 use crate::cut::{Cut, SheetCuts, canvas_cuts, sheet_cuts};
@@ -45,7 +44,7 @@ impl Model for KeptSheet {
 
 impl KeptSheet {
     /// What is kept of a manifest.
-    #[tactic(auto, using(crate::proofs::WrittenLemmas::keeping_text))]
+    #[tactic(auto, using(crate::proofs::KeptSheetLemmas::keeping_text))]
     pub fn keep(alloc: Global, sheet: &Sheet) -> Result<KeptSheet, AllocError>
         ensures value { IfOk result (λ kept. kept ≡ sheet.now) }
     {
@@ -91,13 +90,15 @@ impl KeptSheet {
         self.canvases.as_slice()
     }
 
-    pub(crate) fn cuts(&self) -> SheetCuts
+    /// Where the text is cut for what is served.
+    pub fn cuts(&self) -> SheetCuts
         ensures cuts { result ≡ sheet_cuts self.now }
     {
         self.cuts
     }
 
-    pub(crate) fn canvas_cuts(&self) -> &[Cut]
+    /// Where the text of each canvas is cut around its annotations.
+    pub fn canvas_cuts(&self) -> &[Cut]
         ensures cuts { result.now ≡ canvas_cuts (canvases_in self.now) }
     {
         self.by_canvas.as_slice()

@@ -1,11 +1,37 @@
--- Cuts of the same members are the same.
-use Rattle.std.proofs.Common.{◌≡◌, codes, ap, ◌∙◌}
-use Rattle.serde_json.specs.Data.{Members}
-use Rattle.an_base.specs.Cut.{cut}
-use Rattle.an_model.specs.Served.{HasCuts}
-use Rattle.an_model.specs.declared.cuts.Cuts.{Cuts}
+-- An annotation is an object, and cuts of the same members are the same.
+use Rattle.std.proofs.Common.{◌≡◌, List, ◌∷◌, Bool, true, false, not, Option, None, codes, refl, ap, ◌∙◌}
+use Rattle.serde_json.specs.Data.{Data, null, boolean, number, string, array, object, Members}
+use Rattle.an_base.specs.Cut.{cut, is_object}
+use Rattle.an_base.specs.Member.{has_type}
+use Rattle.an_base.specs.Outcome.{when, first_of}
+use Rattle.an_model.specs.Cuts.{HasCuts}
+use Rattle.an_model.specs.Note.{note_refusal}
+use Rattle.an_model.specs.declared.cuts.NoteCuts.{NoteCuts}
+use Rattle.an_model.specs.declared.refusal.NoteError.{NoteError}
+use Rattle.an_model.specs.declared.refusal.NoteError.TheVariants.{WrongType}
 
-pub same_cuts : (old new : Cuts) (ms ns : Members) → new ≡ old → ms ≡ ns → HasCuts old ms → HasCuts new ns
+typed : (b : Bool) (later : List (Option NoteError)) → first_of (when (not b) WrongType ∷ later) ≡ None → b ≡ true
+typed true later h = refl
+typed false later h = absurd (cc)
+
+has_its_type : (tree : Data) → note_refusal tree ≡ None → has_type (codes "Annotation") tree ≡ true
+unfolding note_refusal
+has_its_type tree h = typed (has_type (codes "Annotation") tree) _ h
+
+typed_object : (tree : Data) → has_type (codes "Annotation") tree ≡ true → is_object tree ≡ true
+typed_object null h = absurd (cc)
+typed_object (boolean b) h = absurd (cc)
+typed_object (number n) h = absurd (cc)
+typed_object (string text) h = absurd (cc)
+typed_object (array items) h = absurd (cc)
+typed_object (object all) h = refl
+
+pub note_is_object : (tree : Data) → note_refusal tree ≡ None → is_object tree ≡ true
+note_is_object tree h = typed_object tree (has_its_type tree h)
+
+-- ---- cuts
+
+pub same_cuts : (old new : NoteCuts) (ms ns : Members) → new ≡ old → ms ≡ ns → HasCuts old ms → HasCuts new ns
 same_cuts old new ms ns e f h = record {
   context = ap (λ c. c.context) e ∙ h.context ∙ ap (cut (codes "@context")) f;
   created = ap (λ c. c.created) e ∙ h.created ∙ ap (cut (codes "created")) f;

@@ -1,8 +1,6 @@
 pub mod NoteLemmas
 pub mod BareLemmas
 pub mod CutTextLemmas
-pub mod ServedLemmas
-pub mod DressLemmas
 pub mod KeptNoteLemmas
 pub mod TargetLemmas
 pub mod WalkLemmas

@@ -7,7 +7,7 @@ use Rattle.an_base.specs.Totals.{totals_of}
 use Rattle.an_base.specs.Tree.{is_tree}
 use Rattle.an_model.specs.Bodies.{iris_of, note_terms}
 use Rattle.an_model.specs.Note.{note_refusal, is_bare, motivations_of}
-use Rattle.an_model.specs.Served.{HasCuts}
+use Rattle.an_model.specs.Cuts.{HasCuts}
 use Rattle.an_model.specs.Targets.{kept_target, targets_of}
 use Rattle.an_model.specs.declared.kept.KeptNote.TheInside.{Inside}
 

@@ -1,8 +1,7 @@
 pub mod Targets
 pub mod Bodies
 pub mod Note
-pub mod Dress
 pub mod Lent
 pub mod Held
-pub mod Served
+pub mod Cuts
 pub mod KeptParts

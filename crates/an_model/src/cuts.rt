@@ -5,7 +5,7 @@ ghost use Rattle.serde_json.specs.Data.{object};
 ghost use Rattle.an_base.specs.Cut.{below, cut, is_object, members_in};
 ghost use Rattle.an_base.specs.Tree.{ascend, names};
 ghost use Rattle.an_base.specs.Write.{commas};
-ghost use Rattle.an_model.specs.Served.{HasCuts};
+ghost use Rattle.an_model.specs.Cuts.{HasCuts};
 
 use an_base::{close_members, push_members, push_members_above, to_u32};
 use serde_json::{Map, Value};
@@ -14,19 +14,24 @@ use std::alloc::{AllocError, Global};
 /// How many bytes of an annotation's members stand before the place of each member that the
 /// server writes. Members of 4 GiB are refused as want of memory.
 #[derive(Clone, Copy, Debug)]
-pub(crate) struct Cuts {
-    pub(crate) context: u32,
-    pub(crate) created: u32,
-    pub(crate) creator: u32,
-    pub(crate) id: u32,
-    pub(crate) modified: u32,
+pub struct NoteCuts {
+    /// Before `@context`.
+    pub context: u32,
+    /// Before `created`.
+    pub created: u32,
+    /// Before `creator`.
+    pub creator: u32,
+    /// Before `id`.
+    pub id: u32,
+    /// Before `modified`.
+    pub modified: u32,
 }
 
 /// The text of an annotation, with its cuts.
 #[derive(Drop)]
 pub(crate) struct CutText {
     pub(crate) text: Vec<u8>,
-    pub(crate) cuts: Cuts,
+    pub(crate) cuts: NoteCuts,
 }
 
 /// The first members, each behind a comma, with the first cuts.
@@ -112,7 +117,7 @@ fn write_rest(
     let text = close_members(text, 0)?;
     Ok(CutText {
         text,
-        cuts: Cuts {
+        cuts: NoteCuts {
             context,
             created,
             creator,

@@ -7,10 +7,10 @@ ghost use Rattle.an_base.specs.Totals.{totals_of};
 ghost use Rattle.an_base.specs.Tree.{is_tree};
 ghost use Rattle.an_model.specs.Bodies.{iris_of, note_terms};
 ghost use Rattle.an_model.specs.Note.{is_bare, motivations_of, note_refusal};
-ghost use Rattle.an_model.specs.Served.{HasCuts};
+ghost use Rattle.an_model.specs.Cuts.{HasCuts};
 ghost use Rattle.an_model.specs.Targets.{kept_target, targets_of};
 
-use crate::cuts::{CutText, Cuts, cut_text};
+use crate::cuts::{CutText, NoteCuts, cut_text};
 use crate::note::{Note, note_over};
 use crate::occurrence::NoteOccurrence;
 use crate::target::Target;
@@ -41,7 +41,7 @@ pub struct KeptTarget {
 /// What is kept of an annotation beside its text.
 #[derive(Debug, Drop)]
 pub(crate) struct NoteParts {
-    pub(crate) cuts: Cuts,
+    pub(crate) cuts: NoteCuts,
     pub(crate) terms: TermList,
     pub(crate) motivations: TextSet,
     pub(crate) iris: TextSet,
@@ -142,7 +142,8 @@ impl KeptNote {
         self.parts.targets.as_slice()
     }
 
-    pub(crate) fn kept_tree(&self) -> &KeptTree
+    /// Its tree, as it is kept.
+    pub fn kept_tree(&self) -> &KeptTree
         ensures value { result.now ≡ self.now }
         ensures tree { IsTrue (is_tree self.now) }
         ensures note { note_refusal self.now ≡ None }
@@ -151,7 +152,8 @@ impl KeptNote {
         &self.tree
     }
 
-    pub(crate) fn cuts(&self) -> Cuts
+    /// Where the members that the server writes stand in its text.
+    pub fn cuts(&self) -> NoteCuts
         ensures cuts { HasCuts result (members_in self.now) }
     {
         self.parts.cuts
@@ -167,7 +169,7 @@ impl TryCopy for KeptNote {
     }
 }
 
-fn note_parts(alloc: Global, note: &Note, cuts: Cuts) -> Result<NoteParts, AllocError>
+fn note_parts(alloc: Global, note: &Note, cuts: NoteCuts) -> Result<NoteParts, AllocError>
     ensures cuts { IfOk result (λ p. p.cuts ≡ cuts) }
     ensures terms { IfOk result (λ p. p.terms ≡ totals_of (note_terms note.now)) }
     ensures motivations { IfOk result (λ p. p.motivations ≡ ascending (motivations_of note.now)) }

@@ -6,21 +6,18 @@
 //! ```
 #![tactic(auto)]
 
-pub use dressed::dress;
+pub use cuts::NoteCuts;
 pub use kept::{KeptNote, KeptTarget};
 pub use note::{Note, read_note};
 pub use occurrence::NoteOccurrence;
 pub use refusal::{NoteError, note_refusal};
-pub use served::{push_dressed, push_shown};
 pub use target::Target;
 
 mod body;
 mod cuts;
-mod dressed;
 mod kept;
 mod motivation;
 mod note;
 mod occurrence;
 mod refusal;
-mod served;
 mod target;

@@ -12,15 +12,15 @@ use Rattle.an_state.specs.State.{State, NoteState}
 use Rattle.an_state.specs.Places.{places_from}
 use Rattle.an_state.specs.View.{view_of, is_on, shows_note, readable_places}
 use Rattle.an_base.specs.declared.span.Prefer.{Prefer}
-use Rattle.an_search.proofs.FoundLemmas.{stand-found}
-use Rattle.an_search.proofs.ViewLemmas.{filter_both}
-use Rattle.an_search.proofs.WrittenLemmas.{commas-member_if}
-use Rattle.an_search.specs.Found.{StandAt}
-use Rattle.an_search.specs.Page.{page_count, page_iri, page_of, start_of, lacks_page, link_after, link_before}
-use Rattle.an_search.specs.PageText.{member_if, text_if}
-use Rattle.an_search.specs.Site.{Site}
-use Rattle.an_search.specs.declared.page.PageForm.TheVariants as form
-use Rattle.an_search.specs.declared.page.Whole.{Whole}
+use Rattle.an_list.proofs.ListedLemmas.{stand-found}
+use Rattle.an_list.proofs.ReadableLemmas.{filter_both}
+use Rattle.an_list.proofs.WrittenLemmas.{commas-member_if}
+use Rattle.an_list.specs.Listed.{StandAt}
+use Rattle.an_list.specs.Page.{page_count, page_iri, page_of, start_of, lacks_page, link_after, link_before}
+use Rattle.an_list.specs.PageText.{member_if, text_if}
+use Rattle.an_list.specs.Site.{Site}
+use Rattle.an_list.specs.declared.page.PageForm.TheVariants as form
+use Rattle.an_list.specs.declared.page.Whole.{Whole}
 use Rattle.an_pages.proofs.NoteLemmas.{count_is}
 use Rattle.an_pages.specs.Bodies.{note_context}
 use Rattle.an_pages.specs.Container.{container_contexts, container_link, container_tree, container_body, container_types, first_page, held_page, iri_item, items_on, notes_on, own_page, own_text}

@@ -6,8 +6,8 @@ use Rattle.json.specs.Print.{escape_byte}
 use Rattle.serde_json.specs.Data.{no_items, item, string}
 use Rattle.serde_json.specs.Written.{compact_text}
 use Rattle.an_selectors.specs.declared.region.Xywh.{Xywh}
-use Rattle.an_search.specs.Page.{page_iri}
-use Rattle.an_search.specs.declared.page.Whole.{Whole}
+use Rattle.an_list.specs.Page.{page_iri}
+use Rattle.an_list.specs.declared.page.Whole.{Whole}
 use Rattle.an_pages.specs.Canvas.{canvas_at, canvas_whole, meets, overlap}
 use Rattle.an_pages.specs.Container.{container_tree, container_whole, first_page, held_page, own_page}
 

@@ -3,7 +3,8 @@ use Rattle.std.proofs.Common.{◌≡◌, ℕ, List, length, Bool, true, false, r
 use Rattle.an_policy.specs.Audience.{Identity}
 use Rattle.an_state.specs.State.{State}
 use Rattle.an_state.specs.View.{readable_places, view_of}
-use Rattle.an_search.proofs.HitLemmas.{page_count-same, readable_count}
+use Rattle.an_list.proofs.PageLemmas.{page_count-same}
+use Rattle.an_list.proofs.ReadableLemmas.{readable_count}
 use Rattle.an_pages.specs.Container.{notes_on}
 use Rattle.an_pages.specs.Cost.{first_cost}
 

@@ -12,12 +12,11 @@ use Rattle.an_model.specs.declared.target.Target.{Target}
 use Rattle.an_policy.specs.Audience.{Identity}
 use Rattle.an_state.specs.State.{State, NoteState}
 use Rattle.an_state.specs.View.{view_of, readable_places}
-use Rattle.an_search.proofs.ViewLemmas.{readable_rows}
-use Rattle.an_search.specs.Found.{StandAt}
-use Rattle.an_search.specs.Listed.{listed_note}
-use Rattle.an_search.specs.Page.{list_page, page_count, lacks_page, page_of}
-use Rattle.an_search.specs.Site.{Site}
-use Rattle.an_search.specs.declared.page.Whole.{Whole}
+use Rattle.an_list.proofs.ReadableLemmas.{readable_rows}
+use Rattle.an_list.specs.Listed.{StandAt, listed_note}
+use Rattle.an_list.specs.Page.{list_page, page_count, lacks_page, page_of}
+use Rattle.an_list.specs.Site.{Site}
+use Rattle.an_list.specs.declared.page.Whole.{Whole}
 use Rattle.an_pages.specs.Canvas.{is_kept_in, is_row_about, is_target_in, notes_about, notes_text, passes_at, presentation_context}
 use Rattle.an_pages.specs.declared.error.PageError.TheVariants.{NoPage}
 

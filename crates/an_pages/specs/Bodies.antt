@@ -3,14 +3,14 @@ use Rattle.std.specs.Prelude.{ℕ, List, codes, if◌then◌else◌, Option, Som
 use Rattle.std.specs.Prelude.{option_and_then, ok_or, Result}
 use Rattle.serde_json.specs.Data.{string}
 use Rattle.serde_json.specs.Written.{compact_text}
-use Rattle.an_manifest.specs.Dress.{dressed}
+use Rattle.an_served.specs.Manifest.{dressed}
 use Rattle.an_base.specs.Object.{with_member}
 use Rattle.an_base.specs.Outcome.{passes}
 use Rattle.an_policy.specs.Seen.{is_deletion}
 use Rattle.an_state.specs.State.{ManifestState, NoteState, LiveManifest, LiveNote}
 use Rattle.an_state.specs.View.{View, manifest_in, note_in, last_kind}
-use Rattle.an_search.specs.Listed.{listed_live}
-use Rattle.an_search.specs.Site.{Site}
+use Rattle.an_list.specs.Listed.{listed_live}
+use Rattle.an_list.specs.Site.{Site}
 use Rattle.an_pages.specs.declared.error.PageError.{PageError}
 use Rattle.an_pages.specs.declared.error.PageError.TheVariants.{Absent, Gone}
 

@@ -16,10 +16,10 @@ use Rattle.an_model.specs.declared.target.Target.{Target}
 use Rattle.an_manifest.specs.Manifest.{canvases_of}
 use Rattle.an_state.specs.State.{ManifestState, NoteState}
 use Rattle.an_state.specs.View.{View, is_on, manifest_in}
-use Rattle.an_search.specs.Listed.{listed_note}
-use Rattle.an_search.specs.Page.{list_page, page_count, page_of, lacks_page}
-use Rattle.an_search.specs.Site.{Site}
-use Rattle.an_search.specs.declared.page.Whole.{Whole}
+use Rattle.an_list.specs.Listed.{listed_note}
+use Rattle.an_list.specs.Page.{list_page, page_count, page_of, lacks_page}
+use Rattle.an_list.specs.Site.{Site}
+use Rattle.an_list.specs.declared.page.Whole.{Whole}
 use Rattle.an_pages.specs.declared.error.PageError.{PageError}
 use Rattle.an_pages.specs.declared.error.PageError.TheVariants.{Absent, NoPage}
 

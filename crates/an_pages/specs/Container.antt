@@ -12,12 +12,12 @@ use Rattle.an_base.specs.declared.span.Prefer.{Prefer}
 use Rattle.an_iri.specs.Iris.{container_iri, note_iri}
 use Rattle.an_state.specs.State.{NoteState}
 use Rattle.an_state.specs.View.{View, is_on, manifest_in}
-use Rattle.an_search.specs.Listed.{listed_note}
-use Rattle.an_search.specs.Page.{page_count, page_iri, page_of, start_of, lacks_page}
-use Rattle.an_search.specs.Page.{link_after, link_before}
-use Rattle.an_search.specs.Site.{Site}
-use Rattle.an_search.specs.declared.page.PageForm.TheVariants as form
-use Rattle.an_search.specs.declared.page.Whole.{Whole}
+use Rattle.an_list.specs.Listed.{listed_note}
+use Rattle.an_list.specs.Page.{page_count, page_iri, page_of, start_of, lacks_page}
+use Rattle.an_list.specs.Page.{link_after, link_before}
+use Rattle.an_list.specs.Site.{Site}
+use Rattle.an_list.specs.declared.page.PageForm.TheVariants as form
+use Rattle.an_list.specs.declared.page.Whole.{Whole}
 use Rattle.an_pages.specs.Bodies.{note_context}
 use Rattle.an_pages.specs.declared.error.PageError.{PageError}
 use Rattle.an_pages.specs.declared.error.PageError.TheVariants.{Absent, NoPage}

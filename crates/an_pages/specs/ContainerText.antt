@@ -2,10 +2,10 @@
 use Rattle.std.specs.Prelude.{ℕ, List, ◌++◌, codes}
 use Rattle.serde_json.specs.Data.{number, unsigned, string, array, Items}
 use Rattle.an_base.specs.Write.{member_text}
-use Rattle.an_search.specs.Page.{page_count, page_iri, start_of, link_after, link_before}
-use Rattle.an_search.specs.PageText.{text_if}
-use Rattle.an_search.specs.declared.page.PageForm.TheVariants as form
-use Rattle.an_search.specs.declared.page.Whole.{Whole}
+use Rattle.an_list.specs.Page.{page_count, page_iri, start_of, link_after, link_before}
+use Rattle.an_list.specs.PageText.{text_if}
+use Rattle.an_list.specs.declared.page.PageForm.TheVariants as form
+use Rattle.an_list.specs.declared.page.Whole.{Whole}
 use Rattle.an_pages.specs.Container.{container_link, container_types}
 
 -- the text of the members from its IRI to the page after it

@@ -6,9 +6,9 @@ use Rattle.std.specs.Option.{option_map_or}
 use Rattle.an_base.specs.declared.span.Prefer.{Prefer}
 use Rattle.an_selectors.specs.declared.region.Xywh.{Xywh}
 use Rattle.an_state.specs.View.{View, manifest_in}
-use Rattle.an_search.specs.Cost.{page_cost}
-use Rattle.an_search.specs.Page.{page_of}
-use Rattle.an_search.specs.Site.{Site}
+use Rattle.an_list.specs.Cost.{page_cost}
+use Rattle.an_list.specs.Page.{page_of}
+use Rattle.an_list.specs.Site.{Site}
 use Rattle.an_pages.specs.Canvas.{canvas_in, notes_about}
 use Rattle.an_pages.specs.Container.{notes_on}
 

@@ -38,7 +38,7 @@ pub(crate) fn places_about<T: Look, L: Ledger>(
     Ok(found)
 }
 
-#[tactic(auto, using(an_search::proofs::PieceLemmas::pieces_left))]
+#[tactic(auto, using(an_list::proofs::PieceLemmas::pieces_left))]
 fn places_among<T: Look, L: Ledger>(
     alloc: Global,
     look: &T,

@@ -9,10 +9,9 @@ ghost use Rattle.an_policy.specs.Audience.{identity};
 ghost use Rattle.an_state.specs.State.{NoteState};
 ghost use Rattle.an_state.specs.View.{view_of};
 ghost use Rattle.an_manifest.specs.Manifest.{canvases_of};
-ghost use Rattle.an_search.specs.Cost.{Takes, page_cost};
-ghost use Rattle.an_search.specs.Found.{StandAt};
-ghost use Rattle.an_search.specs.Listed.{listed_note};
-ghost use Rattle.an_search.specs.Page.{list_page};
+ghost use Rattle.an_list.specs.Cost.{Takes, page_cost};
+ghost use Rattle.an_list.specs.Listed.{StandAt, listed_note};
+ghost use Rattle.an_list.specs.Page.{list_page};
 ghost use Rattle.an_pages.specs.Canvas.{canvas_at, canvas_in, row_canvas, canvas_whole};
 ghost use Rattle.an_pages.specs.Canvas.{region_form, presentation_context, notes_about};
 ghost use Rattle.an_pages.specs.Canvas.{notes_text, canvas_page_of};
@@ -22,9 +21,9 @@ use crate::about::places_about;
 use crate::error::PageError;
 use an_base::{Bytes, Name, Steps, Text};
 use an_iri::canvas_iri;
+use an_list::{Paging, Site, Whole, list_items, page_of, page_text};
 use an_manifest::KeptSheet;
 use an_policy::Who;
-use an_search::{Paging, Settings, Whole, list_items, page_of, page_text};
 use an_selectors::Xywh;
 use an_state::{Look, ManifestRow, shown_manifest};
 use std::alloc::{AllocError, Global};
@@ -45,24 +44,24 @@ pub fn canvas_page<T: Look, L: Ledger>(
     canvas: u32,
     region: Option<Xywh>,
     page: u32,
-    settings: &Settings,
+    site: &Site,
     steps: &mut Steps<L>,
 ) -> Result<Bytes, PageError>
-    ensures answer { Gives (λ body. body) PageError.Memory result (canvas_page_of settings.now
+    ensures answer { Gives (λ body. body) PageError.Memory result (canvas_page_of site.now
         (view_of (T.state look.now) (identity who.now)) name.now canvas region page) }
     ensures steps { Takes PageError.Memory result steps.old steps.new
-        (canvas_page_cost settings.now (view_of (T.state look.now) (identity who.now))
+        (canvas_page_cost site.now (view_of (T.state look.now) (identity who.now))
         name.now canvas region page) }
     ensures steps_most { steps.new ≤ steps.old
-        + canvas_page_cost settings.now (view_of (T.state look.now) (identity who.now))
+        + canvas_page_cost site.now (view_of (T.state look.now) (identity who.now))
         name.now canvas region page }
     ensures steps_least { steps.old ≤ steps.new }
 {
     match shown_canvas(look, who, name, canvas) {
         Some(id) => {
-            let whole = canvas_whole(alloc, settings.base(), name, canvas, region)?;
+            let whole = canvas_whole(alloc, site.base(), name, canvas, region)?;
             page_about(
-                alloc, look, who, name, id, region, &whole, page, settings, steps,
+                alloc, look, who, name, id, region, &whole, page, site, steps,
             )
         }
         None => Err(PageError::Absent),
@@ -124,22 +123,22 @@ fn page_about<T: Look, L: Ledger>(
     region: Option<Xywh>,
     whole: &Whole,
     page: u32,
-    settings: &Settings,
+    site: &Site,
     steps: &mut Steps<L>,
 ) -> Result<Bytes, PageError>
     ensures body { Gives (λ body. body) PageError.Memory result
-        (notes_text settings.now whole.now page (notes_about
+        (notes_text site.now whole.now page (notes_about
         (view_of (T.state look.now) (identity who.now)) name.now canvas.now region)) }
     ensures steps { Takes PageError.Memory result steps.old steps.new
-        (about_cost settings.now (view_of (T.state look.now) (identity who.now)) name.now
+        (about_cost site.now (view_of (T.state look.now) (identity who.now)) name.now
         region page canvas.now) }
     ensures steps_most { steps.new ≤ steps.old
-        + about_cost settings.now (view_of (T.state look.now) (identity who.now)) name.now
+        + about_cost site.now (view_of (T.state look.now) (identity who.now)) name.now
         region page canvas.now }
     ensures steps_least { steps.old ≤ steps.new }
 {
     let places = places_about(alloc, look, who, name, canvas, region, steps)?;
-    page_at(alloc, look, whole, page, places.as_slice(), settings, steps)
+    page_at(alloc, look, whole, page, places.as_slice(), site, steps)
 }
 
 /// The page of this number of the annotations at these places.
@@ -149,21 +148,21 @@ fn page_at<T: Look, L: Ledger>(
     whole: &Whole,
     page: u32,
     places: &[usize],
-    settings: &Settings,
+    site: &Site,
     steps: &mut Steps<L>,
 ) -> Result<Bytes, PageError>
     ensures body { (rows : List NoteState) → StandAt (T.state look.now).notes places.now rows
         → Gives (λ body. body) PageError.Memory result
-        (notes_text settings.now whole.now page rows) }
+        (notes_text site.now whole.now page rows) }
     ensures steps { Takes PageError.Memory result steps.old steps.new
-        (page_cost page settings.now.size places.now) }
+        (page_cost page site.now.size places.now) }
     ensures steps_most { steps.new ≤ steps.old
-        + page_cost page settings.now.size places.now }
+        + page_cost page site.now.size places.now }
     ensures steps_least { steps.old ≤ steps.new }
 {
     let paging = Paging {
         page,
-        size: settings.size(),
+        size: site.size(),
         total: places.len(),
     };
     if paging.is_past() {
@@ -171,7 +170,7 @@ fn page_at<T: Look, L: Ledger>(
         return Err(PageError::NoPage { pages });
     }
     let shown = page_of(places, paging);
-    Ok(write_page(alloc, look, whole, paging, settings.base(), shown, steps)?)
+    Ok(write_page(alloc, look, whole, paging, site.base(), shown, steps)?)
 }
 
 /// The text of the page that has the annotations at these places.

@@ -6,9 +6,9 @@ ghost use Rattle.an_base.specs.Outcome.{Gives};
 ghost use Rattle.an_policy.specs.Audience.{identity};
 ghost use Rattle.an_state.specs.State.{NoteState};
 ghost use Rattle.an_state.specs.View.{view_of};
-ghost use Rattle.an_search.specs.Cost.{Takes, page_cost};
-ghost use Rattle.an_search.specs.Found.{StandAt};
-ghost use Rattle.an_search.specs.Page.{page_iri, page_of};
+ghost use Rattle.an_list.specs.Cost.{Takes, page_cost};
+ghost use Rattle.an_list.specs.Listed.{StandAt};
+ghost use Rattle.an_list.specs.Page.{page_iri, page_of};
 ghost use Rattle.an_pages.specs.Container.{container_body, container_of};
 ghost use Rattle.an_pages.specs.Container.{container_page_of, container_whole, first_page};
 ghost use Rattle.an_pages.specs.Container.{iris_form, items_on, notes_on, own_page, own_text};
@@ -19,8 +19,8 @@ use crate::items::items_at;
 use crate::written::{container_text, held_text, own_text};
 use an_base::{Bytes, Name, Prefer, Steps, Text, push_text};
 use an_iri::container_iri;
+use an_list::{Paging, Site, Whole, page_iri, page_of};
 use an_policy::Who;
-use an_search::{Paging, Settings, Whole, page_iri, page_of};
 use an_state::{Look, shown_manifest};
 use std::alloc::{AllocError, Global};
 use std::sync::ledger::Ledger;
@@ -35,21 +35,21 @@ pub fn container<T: Look, L: Ledger>(
     who: &Who<'_>,
     name: &Name,
     prefer: Prefer,
-    settings: &Settings,
+    site: &Site,
     steps: &mut Steps<L>,
 ) -> Result<Bytes, PageError>
-    ensures answer { Gives (λ body. body) PageError.Memory result (container_of settings.now
+    ensures answer { Gives (λ body. body) PageError.Memory result (container_of site.now
         (view_of (T.state look.now) (identity who.now)) name.now prefer) }
     ensures steps { Takes PageError.Memory result steps.old steps.new
-        (container_cost settings.now (view_of (T.state look.now) (identity who.now)) name.now
+        (container_cost site.now (view_of (T.state look.now) (identity who.now)) name.now
         prefer) }
     ensures steps_most { steps.new ≤ steps.old
-        + container_cost settings.now (view_of (T.state look.now) (identity who.now)) name.now
+        + container_cost site.now (view_of (T.state look.now) (identity who.now)) name.now
         prefer }
     ensures steps_least { steps.old ≤ steps.new }
 {
     match shown_manifest(look, who, name) {
-        Some(_) => Ok(container_body(alloc, look, who, name, prefer, settings, steps)?),
+        Some(_) => Ok(container_body(alloc, look, who, name, prefer, site, steps)?),
         None => Err(PageError::Absent),
     }
 }
@@ -60,31 +60,23 @@ fn container_body<T: Look, L: Ledger>(
     who: &Who<'_>,
     name: &Name,
     prefer: Prefer,
-    settings: &Settings,
+    site: &Site,
     steps: &mut Steps<L>,
 ) -> Result<Bytes, AllocError>
-    ensures body { IfOk result (λ body. body ≡ container_body settings.now
-        (container_whole settings.now.base name.now prefer.iris) prefer
+    ensures body { IfOk result (λ body. body ≡ container_body site.now
+        (container_whole site.now.base name.now prefer.iris) prefer
         (notes_on (view_of (T.state look.now) (identity who.now)) name.now)) }
     ensures steps { OnOk result (steps.new ≡ steps.old
-        + first_cost settings.now.size prefer.minimal
+        + first_cost site.now.size prefer.minimal
         (notes_on (view_of (T.state look.now) (identity who.now)) name.now)) }
     ensures steps_most { steps.new ≤ steps.old
-        + first_cost settings.now.size prefer.minimal
+        + first_cost site.now.size prefer.minimal
         (notes_on (view_of (T.state look.now) (identity who.now)) name.now) }
     ensures steps_least { steps.old ≤ steps.new }
 {
-    let whole = container_whole(alloc, settings.base(), name, prefer.iris)?;
+    let whole = container_whole(alloc, site.base(), name, prefer.iris)?;
     let places = look.readable(alloc, who, name)?;
-    let body = container_at(
-        alloc,
-        look,
-        &whole,
-        prefer,
-        places.as_slice(),
-        settings,
-        steps,
-    )?;
+    let body = container_at(alloc, look, &whole, prefer, places.as_slice(), site, steps)?;
     Ok(body)
 }
 
@@ -95,24 +87,24 @@ fn container_at<T: Look, L: Ledger>(
     whole: &Whole,
     prefer: Prefer,
     places: &[usize],
-    settings: &Settings,
+    site: &Site,
     steps: &mut Steps<L>,
 ) -> Result<Bytes, AllocError>
     ensures body { (rows : List NoteState) → StandAt (T.state look.now).notes places.now rows
-        → IfOk result (λ body. body ≡ container_body settings.now whole.now prefer rows) }
+        → IfOk result (λ body. body ≡ container_body site.now whole.now prefer rows) }
     ensures steps { OnOk result (steps.new ≡ steps.old
-        + first_cost settings.now.size prefer.minimal places.now) }
+        + first_cost site.now.size prefer.minimal places.now) }
     ensures steps_most { steps.new ≤ steps.old
-        + first_cost settings.now.size prefer.minimal places.now }
+        + first_cost site.now.size prefer.minimal places.now }
     ensures steps_least { steps.old ≤ steps.new }
 {
     let paging = Paging {
         page: 1,
-        size: settings.size(),
+        size: site.size(),
         total: places.len(),
     };
     let shown = page_of(places, paging);
-    let base = settings.base();
+    let base = site.base();
     let first = first_text(alloc, look, whole, paging, shown, base, prefer, steps)?;
     let body = container_text(alloc, whole, paging, first.as_slice())?;
     Ok(body)
@@ -169,21 +161,21 @@ pub fn container_page<T: Look, L: Ledger>(
     name: &Name,
     page: u32,
     iris: bool,
-    settings: &Settings,
+    site: &Site,
     steps: &mut Steps<L>,
 ) -> Result<Bytes, PageError>
-    ensures answer { Gives (λ body. body) PageError.Memory result (container_page_of settings.now
+    ensures answer { Gives (λ body. body) PageError.Memory result (container_page_of site.now
         (view_of (T.state look.now) (identity who.now)) name.now page iris) }
     ensures steps { Takes PageError.Memory result steps.old steps.new
-        (container_page_cost settings.now (view_of (T.state look.now) (identity who.now))
+        (container_page_cost site.now (view_of (T.state look.now) (identity who.now))
         name.now page) }
     ensures steps_most { steps.new ≤ steps.old
-        + container_page_cost settings.now (view_of (T.state look.now) (identity who.now))
+        + container_page_cost site.now (view_of (T.state look.now) (identity who.now))
         name.now page }
     ensures steps_least { steps.old ≤ steps.new }
 {
     match shown_manifest(look, who, name) {
-        Some(_) => page_shown(alloc, look, who, name, page, iris, settings, steps),
+        Some(_) => page_shown(alloc, look, who, name, page, iris, site, steps),
         None => Err(PageError::Absent),
     }
 }
@@ -195,21 +187,21 @@ fn page_shown<T: Look, L: Ledger>(
     name: &Name,
     page: u32,
     iris: bool,
-    settings: &Settings,
+    site: &Site,
     steps: &mut Steps<L>,
 ) -> Result<Bytes, PageError>
-    ensures body { Gives (λ body. body) PageError.Memory result (own_text settings.now
-        (container_whole settings.now.base name.now iris) iris page
+    ensures body { Gives (λ body. body) PageError.Memory result (own_text site.now
+        (container_whole site.now.base name.now iris) iris page
         (notes_on (view_of (T.state look.now) (identity who.now)) name.now)) }
     ensures steps { Takes PageError.Memory result steps.old steps.new
-        (page_cost page settings.now.size (notes_on (view_of (T.state look.now) (identity who.now))
+        (page_cost page site.now.size (notes_on (view_of (T.state look.now) (identity who.now))
         name.now)) }
     ensures steps_most { steps.new ≤ steps.old
-        + page_cost page settings.now.size (notes_on (view_of (T.state look.now) (identity who.now))
+        + page_cost page site.now.size (notes_on (view_of (T.state look.now) (identity who.now))
         name.now) }
     ensures steps_least { steps.old ≤ steps.new }
 {
-    let whole = container_whole(alloc, settings.base(), name, iris)?;
+    let whole = container_whole(alloc, site.base(), name, iris)?;
     let places = look.readable(alloc, who, name)?;
     page_at(
         alloc,
@@ -218,7 +210,7 @@ fn page_shown<T: Look, L: Ledger>(
         iris,
         page,
         places.as_slice(),
-        settings,
+        site,
         steps,
     )
 }
@@ -231,21 +223,21 @@ fn page_at<T: Look, L: Ledger>(
     iris: bool,
     page: u32,
     places: &[usize],
-    settings: &Settings,
+    site: &Site,
     steps: &mut Steps<L>,
 ) -> Result<Bytes, PageError>
     ensures body { (rows : List NoteState) → StandAt (T.state look.now).notes places.now rows
         → Gives (λ body. body) PageError.Memory result
-        (own_text settings.now whole.now iris page rows) }
+        (own_text site.now whole.now iris page rows) }
     ensures steps { Takes PageError.Memory result steps.old steps.new
-        (page_cost page settings.now.size places.now) }
+        (page_cost page site.now.size places.now) }
     ensures steps_most { steps.new ≤ steps.old
-        + page_cost page settings.now.size places.now }
+        + page_cost page site.now.size places.now }
     ensures steps_least { steps.old ≤ steps.new }
 {
     let paging = Paging {
         page,
-        size: settings.size(),
+        size: site.size(),
         total: places.len(),
     };
     if paging.is_past() {
@@ -253,16 +245,7 @@ fn page_at<T: Look, L: Ledger>(
         return Err(PageError::NoPage { pages });
     }
     let shown = page_of(places, paging);
-    Ok(write_page(
-        alloc,
-        look,
-        whole,
-        paging,
-        shown,
-        settings.base(),
-        iris,
-        steps,
-    )?)
+    Ok(write_page(alloc, look, whole, paging, shown, site.base(), iris, steps)?)
 }
 
 /// The text of the page that has the annotations at these places.

@@ -4,13 +4,13 @@ ghost use Rattle.std.specs.List.{filter_map};
 ghost use Rattle.serde_json.specs.View.{items_of};
 ghost use Rattle.an_base.specs.Write.{item_commas, item_text};
 ghost use Rattle.an_state.specs.State.{NoteState};
-ghost use Rattle.an_search.specs.Found.{StandAt};
+ghost use Rattle.an_list.specs.Listed.{StandAt};
 ghost use Rattle.an_pages.specs.Container.{iri_item, items_on};
 
 use an_base::Steps;
 use an_iri::note_iri;
 use an_keyed::Keyed;
-use an_search::{Listed, list_items, push_text_item};
+use an_list::{Listed, list_items, push_text_item};
 use an_state::{Look, NoteRow};
 use std::alloc::{AllocError, Global};
 use std::sync::ledger::Ledger;
@@ -47,7 +47,7 @@ pub(crate) fn items_at<T: Look, L: Ledger>(
 }
 
 /// Their IRIs.
-#[tactic(auto, using(an_search::proofs::PieceLemmas::pieces_left))]
+#[tactic(auto, using(an_list::proofs::PieceLemmas::pieces_left))]
 fn iris_at<T: Look, L: Ledger>(
     alloc: Global,
     look: &T,

@@ -2,7 +2,7 @@
 //! canvas or in a container.
 //!
 //! ```text
-//! annotation(alloc, &look, &who, &owner, &name, &settings)   Ok(body) where `who` may read it,
+//! annotation(alloc, &look, &who, &owner, &name, &site)   Ok(body) where `who` may read it,
 //!     Err(PageError::Gone) where it could once, and else Err(PageError::Absent)
 //! ```
 #![tactic(auto)]

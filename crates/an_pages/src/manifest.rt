@@ -3,15 +3,16 @@ ghost use Rattle.serde_json.specs.Written.{compact_text};
 ghost use Rattle.an_base.specs.Outcome.{Gives};
 ghost use Rattle.an_policy.specs.Audience.{identity};
 ghost use Rattle.an_state.specs.View.{view_of};
-ghost use Rattle.an_manifest.specs.Dress.{dressed};
+ghost use Rattle.an_served.specs.Manifest.{dressed};
 ghost use Rattle.an_pages.specs.Bodies.{manifest_body, manifest_of_view};
 
 use crate::error::PageError;
 use an_base::{Bytes, Name};
 use an_keyed::Keyed;
-use an_manifest::{KeptSheet, push_manifest};
+use an_list::Site;
+use an_manifest::KeptSheet;
 use an_policy::Who;
-use an_search::Settings;
+use an_served::push_manifest;
 use an_state::{Look, ManifestRow, shown_manifest};
 use std::alloc::{AllocError, Global};
 
@@ -24,13 +25,13 @@ pub fn manifest_answer<T: Look>(
     look: &T,
     who: &Who<'_>,
     name: &Name,
-    settings: &Settings,
+    site: &Site,
 ) -> Result<Bytes, PageError>
-    ensures answer { Gives (λ body. body) PageError.Memory result (manifest_of_view settings.now
+    ensures answer { Gives (λ body. body) PageError.Memory result (manifest_of_view site.now
         (view_of (T.state look.now) (identity who.now)) name.now) }
 {
     match shown_manifest(look, who, name) {
-        Some(row) => match row_body(alloc, row, settings) {
+        Some(row) => match row_body(alloc, row, site) {
             Ok(body) => match body {
                 Some(body) => Ok(body),
                 None => Err(PageError::Absent),
@@ -42,15 +43,11 @@ pub fn manifest_answer<T: Look>(
 }
 
 /// The text by which a manifest is served, while it is live.
-fn row_body(
-    alloc: Global,
-    row: &ManifestRow,
-    settings: &Settings,
-) -> Result<Option<Bytes>, AllocError>
-    ensures { IfOk result (λ body. body ≡ manifest_body settings.now row.now) }
+fn row_body(alloc: Global, row: &ManifestRow, site: &Site) -> Result<Option<Bytes>, AllocError>
+    ensures { IfOk result (λ body. body ≡ manifest_body site.now row.now) }
 {
     match row.sheet() {
-        Some(sheet) => Ok(Some(sheet_body(alloc, sheet, row.name(), settings)?)),
+        Some(sheet) => Ok(Some(sheet_body(alloc, sheet, row.name(), site)?)),
         None => Ok(None),
     }
 }
@@ -59,11 +56,11 @@ fn sheet_body(
     alloc: Global,
     sheet: &KeptSheet,
     name: &Name,
-    settings: &Settings,
+    site: &Site,
 ) -> Result<Bytes, AllocError>
     ensures { IfOk result (λ body. body
-        ≡ compact_text (dressed settings.now.base name.now sheet.now)) }
+        ≡ compact_text (dressed site.now.base name.now sheet.now)) }
 {
-    let text = push_manifest(alloc, Vec::new(alloc), sheet, settings.base(), name)?;
+    let text = push_manifest(alloc, Vec::new(alloc), sheet, site.base(), name)?;
     Ok(Bytes::from_vec(text))
 }

@@ -10,9 +10,9 @@ use crate::error::PageError;
 use an_base::{Bytes, Name};
 use an_iri::note_iri;
 use an_keyed::Keyed;
-use an_model::push_shown;
+use an_list::Site;
 use an_policy::{Kind, Who};
-use an_search::Settings;
+use an_served::push_shown;
 use an_state::{LiveNote, Look, NoteRow, shown_note};
 use std::alloc::{AllocError, Global};
 
@@ -30,12 +30,12 @@ pub fn annotation<T: Look>(
     who: &Who<'_>,
     owner: &Name,
     name: &Name,
-    settings: &Settings,
+    site: &Site,
 ) -> Result<Bytes, PageError>
-    ensures answer { Gives (λ body. body) PageError.Memory result (annotation_of_view settings.now
+    ensures answer { Gives (λ body. body) PageError.Memory result (annotation_of_view site.now
         (view_of (T.state look.now) (identity who.now)) owner.now name.now) }
 {
-    match shown_body(alloc, look, who, owner, name, settings) {
+    match shown_body(alloc, look, who, owner, name, site) {
         Ok(body) => match body {
             Some(body) => Ok(body),
             None => Err(missing(look, who, owner, name)),
@@ -51,13 +51,13 @@ fn shown_body<T: Look>(
     who: &Who<'_>,
     owner: &Name,
     name: &Name,
-    settings: &Settings,
+    site: &Site,
 ) -> Result<Option<Bytes>, AllocError>
-    ensures body { IfOk result (λ body. body ≡ option_and_then (note_body settings.now)
+    ensures body { IfOk result (λ body. body ≡ option_and_then (note_body site.now)
         (note_in (view_of (T.state look.now) (identity who.now)) owner.now name.now)) }
 {
     match shown_note(look, who, owner, name) {
-        Some(row) => note_body(alloc, row, settings),
+        Some(row) => note_body(alloc, row, site),
         None => Ok(None),
     }
 }
@@ -84,11 +84,11 @@ fn is_deletion(kind: Kind) -> bool
 }
 
 /// The text by which an annotation's row is shown, while it is live.
-fn note_body(alloc: Global, row: &NoteRow, settings: &Settings) -> Result<Option<Bytes>, AllocError>
-    ensures { IfOk result (λ body. body ≡ note_body settings.now row.now) }
+fn note_body(alloc: Global, row: &NoteRow, site: &Site) -> Result<Option<Bytes>, AllocError>
+    ensures { IfOk result (λ body. body ≡ note_body site.now row.now) }
 {
     match row.live() {
-        Some(live) => Ok(Some(shown_live(alloc, row, &live, settings)?)),
+        Some(live) => Ok(Some(shown_live(alloc, row, &live, site)?)),
         None => Ok(None),
     }
 }
@@ -98,11 +98,11 @@ fn shown_live(
     alloc: Global,
     row: &NoteRow,
     live: &LiveNote<'_>,
-    settings: &Settings,
+    site: &Site,
 ) -> Result<Bytes, AllocError>
-    ensures { IfOk result (λ body. body ≡ shown_live settings.now row.now (lent_note live.now)) }
+    ensures { IfOk result (λ body. body ≡ shown_live site.now row.now (lent_note live.now)) }
 {
-    let iri = note_iri(alloc, settings.base(), row.owned_by(), row.name())?;
+    let iri = note_iri(alloc, site.base(), row.owned_by(), row.name())?;
     let creator = live.creator.get().as_str();
     let text = push_shown(
         Vec::new(alloc),

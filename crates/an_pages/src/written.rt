@@ -11,7 +11,7 @@ use crate::note::NOTE_CONTEXT;
 use an_base::{
     Bytes, close_members, push_array_member, push_name, push_number_member, push_text_member,
 };
-use an_search::{PageForm, Paging, Whole, push_link_member, push_next, push_prev, push_text_item};
+use an_list::{PageForm, Paging, Whole, push_link_member, push_next, push_prev, push_text_item};
 use std::alloc::{AllocError, Global};
 
 /// The context of containers (Linked Data Platform 1.0).

@@ -8,16 +8,25 @@
 #![tactic(auto)]
 
 pub use classes::Classes;
+pub use former::one_group_stays;
 pub use group::{Audience, Group, group_named, group_text, groups_read_back, is_same_group};
+pub use inner::{
+    Inner, inner_groups_read_back, inner_named, inner_of, inner_text, inner_texts, is_same_inner,
+    one_group, typed_inner,
+};
 pub use kind::{Kind, as_seen};
+pub use names::Names;
 pub use permission::{is_member, is_named, may, may_read};
 pub use reader::{Reader, ReaderError, Role, is_user, read_reader, user_of};
 pub use who::{Caller, Who};
 
 mod audience;
 mod classes;
+mod former;
 mod group;
+mod inner;
 mod kind;
+mod names;
 mod permission;
 mod reader;
 mod who;

@@ -1,4 +1,4 @@
-ghost use Rattle.std.specs.Prelude.{◌≡◌, [], ◌++◌, IfOk, OnOk, map, flat_map, ℕ, false};
+ghost use Rattle.std.specs.Prelude.{◌≡◌, [], ◌++◌, IfOk, OnOk, filter, map, flat_map, ℕ, false};
 ghost use Rattle.an_slots.specs.Places.{Rises, ascending, has};
 ghost use Rattle.an_postings.specs.Gather.{AllRise, picked};
 ghost use Rattle.an_postings.specs.Lists.{IsOrdered, class_of, places_at};
@@ -6,6 +6,7 @@ ghost use Rattle.an_postings.specs.Lists.{IsOrdered, class_of, places_at};
 use crate::class_postings::ClassPostings;
 use crate::merge::{merged, wide};
 use crate::sorted::sorted;
+use crate::walk::common;
 use an_slots::is_among;
 use std::alloc::{AllocError, Global};
 use std::collections::VecDeque;
@@ -63,7 +64,40 @@ fn choose<'a>(chosen: &mut Vec<&'a [u32]>, list: &'a VecDeque<u32>) -> Result<()
     Ok(())
 }
 
-/// One list is copied, a few are merged, and many, which are mostly short, are sorted.
+/// Those of the places, which ascend, that stand in a list of one of these classes.
+pub(crate) fn common_in(
+    alloc: Global,
+    lists: &[ClassPostings],
+    classes: &[usize],
+    places: &[usize],
+) -> Result<Vec<usize>, AllocError>
+    requires ordered { IsOrdered lists.now }
+    requires rises { Rises 0 classes.now }
+    requires places { Rises 0 places.now }
+    ensures common { IfOk result (λ common. common.items ≡ filter
+        (λ place. has place (ascending (flat_map (places_at lists.now) classes.now)))
+        places.now) }
+{
+    let chosen = chosen(alloc, lists, classes)?;
+    common_among(alloc, chosen.as_slice(), places)
+}
+
+/// One list is walked along where it stands.
+fn common_among(alloc: Global, lists: &[&[u32]], places: &[usize]) -> Result<Vec<usize>, AllocError>
+    requires rise { AllRise lists.now }
+    requires places { Rises 0 places.now }
+    ensures common { IfOk result (λ common. common.items ≡ filter
+        (λ place. has place (ascending (flat_map (λ l. l.now) lists.now))) places.now) }
+{
+    let count = lists.len();
+    if count == 1 {
+        return common(alloc, places, lists[0]);
+    }
+    let others = joined(alloc, lists)?;
+    common(alloc, places, others.as_slice())
+}
+
+/// The same places as indices. One list is copied.
 fn widened(alloc: Global, lists: &[&[u32]]) -> Result<Vec<usize>, AllocError>
     requires rise { AllRise lists.now }
     ensures places { IfOk result (λ places. places.items
@@ -73,11 +107,21 @@ fn widened(alloc: Global, lists: &[&[u32]]) -> Result<Vec<usize>, AllocError>
     if count == 1 {
         return wide(alloc, lists[0]);
     }
-    if count > 32 {
-        return sorted(alloc, lists);
+    let joined = joined(alloc, lists)?;
+    wide(alloc, joined.as_slice())
+}
+
+/// A few lists are merged, and many, which are mostly short, are sorted.
+fn joined(alloc: Global, lists: &[&[u32]]) -> Result<Vec<u32>, AllocError>
+    requires rise { AllRise lists.now }
+    ensures places { IfOk result (λ places. places.items
+        ≡ ascending (flat_map (λ l. l.now) lists.now)) }
+{
+    if lists.len() > 32 {
+        sorted(alloc, lists)
+    } else {
+        merged(alloc, lists)
     }
-    let narrow = merged(alloc, lists)?;
-    wide(alloc, narrow.as_slice())
 }
 
 /// The classes that have a list, ascending.

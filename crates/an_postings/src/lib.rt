@@ -13,7 +13,6 @@ pub use among::{is_listed, length_of};
 pub use class_postings::ClassPostings;
 pub use laws::all_is_told;
 pub use postings::Postings;
-pub use walk::common;
 
 mod among;
 mod class_postings;

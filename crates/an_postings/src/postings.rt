@@ -1,5 +1,5 @@
 ghost use Rattle.std.specs.Prelude.{◌≡◌, ◌-◌, ◌<◌, ◌≤◌, ◌^◌, ◌||◌, ℕ, [], false, IfOk, IsTrue};
-ghost use Rattle.std.specs.Prelude.{OnOk, flat_map, not, true};
+ghost use Rattle.std.specs.Prelude.{OnOk, filter, flat_map, not, true};
 ghost use Rattle.std.specs.List.{sum_by};
 ghost use Rattle.an_base.specs.Totals.{capped};
 ghost use Rattle.an_slots.specs.Places.{Rises, ascending, has, with_place, without_place};
@@ -12,6 +12,7 @@ ghost use Rattle.an_postings.specs.Postings.{IsSpentAt, count_in, has_room, plac
 ghost use Rattle.an_postings.specs.Totals.{Climbs, told_from};
 
 use crate::class_postings::ClassPostings;
+use crate::gather::common_in;
 use crate::manifest_postings::ManifestPostings;
 use an_base::{Name, TermTotal};
 use std::alloc::{AllocError, Global};
@@ -296,6 +297,26 @@ impl Postings {
             Some(terms) => terms.places(alloc, term, classes),
             None => Ok(Vec::new(alloc)),
         }
+    }
+
+    /// Those of the places, which ascend, that stand in the lists of a manifest and term in these
+    /// classes, which ascend. Both are walked along once.
+    pub fn common(
+        &self,
+        alloc: Global,
+        manifest: &Name,
+        term: &str,
+        classes: &[usize],
+        places: &[usize],
+    ) -> Result<Vec<usize>, AllocError>
+        requires rises { Rises 0 classes.now }
+        requires places { Rises 0 places.now }
+        ensures common { IfOk result (λ common. common.items ≡ filter (λ place. has place
+            (ascending (flat_map
+            (λ class. places_in self.now (slot_of manifest.now term.now class)) classes.now)))
+            places.now) }
+    {
+        common_in(alloc, self.lists_of(manifest, term), classes, places)
     }
 
     /// Classes, ascending, and among them each in which the term has a place on the manifest.

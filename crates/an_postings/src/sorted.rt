@@ -4,7 +4,7 @@ ghost use Rattle.an_slots.specs.Places.{ascending};
 use std::alloc::{AllocError, Global};
 
 /// Many lists as one, ascending, each place once.
-pub(crate) fn sorted(alloc: Global, lists: &[&[u32]]) -> Result<Vec<usize>, AllocError>
+pub(crate) fn sorted(alloc: Global, lists: &[&[u32]]) -> Result<Vec<u32>, AllocError>
     ensures places { IfOk result (λ places. places.items
         ≡ ascending (flat_map (λ l. l.now) lists.now)) }
 {
@@ -14,7 +14,7 @@ pub(crate) fn sorted(alloc: Global, lists: &[&[u32]]) -> Result<Vec<usize>, Allo
     Ok(places)
 }
 
-fn joined(alloc: Global, lists: &[&[u32]]) -> Result<Vec<usize>, AllocError>
+fn joined(alloc: Global, lists: &[&[u32]]) -> Result<Vec<u32>, AllocError>
     ensures places { IfOk result (λ places. places.items ≡ flat_map (λ l. l.now) lists.now) }
 {
     let mut places = Vec::new(alloc);
@@ -24,11 +24,9 @@ fn joined(alloc: Global, lists: &[&[u32]]) -> Result<Vec<usize>, AllocError>
     Ok(places)
 }
 
-fn append(places: &mut Vec<usize>, list: &[u32]) -> Result<(), AllocError>
+fn append(places: &mut Vec<u32>, list: &[u32]) -> Result<(), AllocError>
     ensures ok { OnOk result (places.new.items ≡ places.old.items ++ list.now) }
 {
-    for place in list {
-        places.push(*place as usize)?;
-    }
+    places.extend_from_slice(list)?;
     Ok(())
 }

@@ -30,12 +30,12 @@ impl Model for Event {
 
 /// A store was opened. It has no bytes.
 #[derive(Drop)]
-pub(crate) struct Found<K: Keeper> {
+pub(crate) struct OpeningEvent<K: Keeper> {
     book: Snapshot<Book>,
     keeper: Snapshot<K>,
 }
 
-impl<K: Keeper> Model for Found<K> {
+impl<K: Keeper> Model for OpeningEvent<K> {
     ghost use Rattle.std.specs.Coded.{codes};
     ghost use Rattle.an_base.specs.TreeCode.{tree_code};
     ghost use Rattle.an_laws.specs.Events.{Event, Opened};
@@ -47,11 +47,11 @@ impl<K: Keeper> Model for Found<K> {
     ghost view = { λ found. Opened found.book.value.state (K.told found.keeper.value) };
 }
 
-impl<K: Keeper> Found<K> {
-    pub(crate) fn new(book: &Book, keeper: &K) -> Found<K>
+impl<K: Keeper> OpeningEvent<K> {
+    pub(crate) fn new(book: &Book, keeper: &K) -> OpeningEvent<K>
         ensures { result ≡ Opened book.now.state (K.told keeper.now) }
     {
-        Found {
+        OpeningEvent {
             book: Snapshot::of(book),
             keeper: Snapshot::of(keeper),
         }
@@ -60,7 +60,7 @@ impl<K: Keeper> Found<K> {
 
 /// A write was accepted and kept. It has no bytes but its moment.
 #[derive(Drop)]
-pub struct Kept<K: Keeper> {
+pub struct KeptEvent<K: Keeper> {
     moment: Moment,
     caller: Snapshot<Caller>,
     command: Snapshot<Command>,
@@ -68,7 +68,7 @@ pub struct Kept<K: Keeper> {
     keeper: Snapshot<K>,
 }
 
-impl<K: Keeper> Model for Kept<K> {
+impl<K: Keeper> Model for KeptEvent<K> {
     ghost use Rattle.std.specs.Coded.{codes};
     ghost use Rattle.an_base.specs.TreeCode.{tree_code};
     ghost use Rattle.an_laws.specs.Events.{Event, Wrote};
@@ -85,7 +85,7 @@ impl<K: Keeper> Model for Kept<K> {
     }) (K.told kept.keeper.value) };
 }
 
-impl<K: Keeper> Kept<K> {
+impl<K: Keeper> KeptEvent<K> {
     /// The write, with the entry that was decided, and what the keeper tells behind it.
     pub fn new(
         moment: Moment,
@@ -93,7 +93,7 @@ impl<K: Keeper> Kept<K> {
         command: &Command,
         entry: &Entry,
         keeper: &K,
-    ) -> Kept<K>
+    ) -> KeptEvent<K>
         ensures { result ≡ Wrote (record {
           moment = moment;
           caller = caller.now;
@@ -101,7 +101,7 @@ impl<K: Keeper> Kept<K> {
           entry = entry.now;
         }) (K.told keeper.now) }
     {
-        Kept {
+        KeptEvent {
             moment,
             caller: Snapshot::of(caller),
             command: Snapshot::of(command),

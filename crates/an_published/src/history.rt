@@ -4,7 +4,7 @@ ghost use Rattle.std.specs.Prelude.{◌≡◌, ◌≤◌, ◌^◌, [], ◌∷◌
 ghost use Rattle.an_laws.specs.Events.{Opened};
 ghost use Rattle.an_published.specs.History.{head_of};
 
-use crate::event::{Event, Found, Kept};
+use crate::event::{Event, KeptEvent, OpeningEvent};
 use an_keep::Keeper;
 use an_state::Book;
 use logbook::{Gain, Offer, Opening, Plain, Play, Rule, Seen, Start, Word};
@@ -59,7 +59,7 @@ impl Model for Mark {
 
 struct First;
 
-impl<K: Keeper> Opening<Found<K>, Event> for First {
+impl<K: Keeper> Opening<OpeningEvent<K>, Event> for First {
     ghost use Rattle.std.specs.Prelude.{[], ◌∷◌};
 
     ghost log = { λ count found. found ∷ [] };
@@ -81,7 +81,7 @@ impl Play<Event, u64> for Add {
     ghost then = { Adds };
 }
 
-impl<K: Keeper> Plain<Kept<K>, Event, u64> for Add {
+impl<K: Keeper> Plain<KeptEvent<K>, Event, u64> for Add {
     ghost use Rattle.std.specs.Prelude.{None};
 
     ghost ask = { λ kept. kept };
@@ -94,8 +94,8 @@ pub fn begin<K: Keeper>(book: &Book, keeper: &K) -> (Head, Mark)
     ensures list { result.1.list ≡ Opened book.now.state (K.told keeper.now) ∷ [] }
     ensures head { result.0 ≡ head_of result.1.book }
 {
-    let found = Found::new(book, keeper);
-    let (seen, mut pens) = Seen::open_row::<Found<K>, First>(&found, Start::alone(), 1);
+    let found = OpeningEvent::new(book, keeper);
+    let (seen, mut pens) = Seen::open_row::<OpeningEvent<K>, First>(&found, Start::alone(), 1);
     let mut pen = pens.take();
     (Word::tracked(0, &mut pen), Mark { seen, count: 0 })
 }
@@ -131,14 +131,14 @@ impl Mark {
 }
 
 /// Adds the write to all that was reached, where that is the whole history.
-fn try_extend<K: Keeper>(head: &Head, mark: &Mark, next: u64, kept: &Kept<K>) -> Option<Mark>
+fn try_extend<K: Keeper>(head: &Head, mark: &Mark, next: u64, kept: &KeptEvent<K>) -> Option<Mark>
     requires head { head.now ≡ head_of mark.now.book }
     requires next { next ≡ length mark.now.list }
     ensures book { IfSome result (λ longer. longer.book ≡ mark.now.book) }
     ensures list { IfSome result (λ longer. longer.list ≡ mark.now.list ++ kept.now ∷ []) }
 {
     let mut seen = mark.seen.again();
-    let mut offer: Offer<Event, u64, Law, Nothing> = seen.plain::<Nothing, Kept<K>, Add>(kept);
+    let mut offer: Offer<Event, u64, Law, Nothing> = seen.plain::<Nothing, KeptEvent<K>, Add>(kept);
     let mut pen = seen.no_pen();
     let count = mark.count;
     let found = head.compare_exchange::<Add, Nothing>(count, next, &mut seen, &mut offer, &mut pen);
@@ -155,7 +155,7 @@ pub fn extend<K: Keeper, R: Wait>(
     head: &Head,
     mark: &Mark,
     next: u64,
-    kept: &Kept<K>,
+    kept: &KeptEvent<K>,
 ) -> Mark
     requires head { head.now ≡ head_of mark.now.book }
     requires next { next ≡ length mark.now.list }

@@ -9,12 +9,12 @@
 #![tactic(auto)]
 
 pub use copy::look_at;
-pub use event::Kept;
+pub use event::KeptEvent;
 pub use history::{Head, Mark, begin, extend};
 pub use lock::{StoreWriter, align, earn, publish};
 pub use published::{Addition, Published};
 pub use seat::{Seat, Shown};
-pub use view::Naming;
+pub use seat_knowledge::Naming;
 
 mod copy;
 mod event;
@@ -22,4 +22,4 @@ mod history;
 mod lock;
 mod published;
 mod seat;
-mod view;
+mod seat_knowledge;

@@ -10,14 +10,14 @@ ghost use Rattle.an_published.specs.Rule.{Ready, Shows, notice};
 use crate::history::Mark;
 use crate::published::{Addition, Published};
 use crate::seat::Seat;
-use crate::view::{OneList, Publishing, View};
+use crate::seat_knowledge::{OneList, Publishing, SeatKnowledge};
 use core::mem::replace_with;
 use left_right::writer::Writer;
 use std::alloc::AllocError;
 use std::sync::Wait;
 
 /// Who publishes.
-pub type StoreWriter = Writer<Published, Addition, View, OneList>;
+pub type StoreWriter = Writer<Published, Addition, SeatKnowledge, OneList>;
 
 /// Publishes what is pending: readers are shown it from then on. It waits for those who are still
 /// reading what was shown before the last time. Where memory runs out it still pends.

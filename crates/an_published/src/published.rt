@@ -23,11 +23,11 @@ pub struct Addition {
 }
 
 /// What two copies of what is shown share: contracts alone speak of it, and no value of it is made.
-pub struct Shared {
+pub struct LedState {
     nothing: (),
 }
 
-impl Model for Shared {
+impl Model for LedState {
     ghost use Rattle.std.specs.Prelude.{[]};
     ghost use Rattle.std.specs.Coded.{codes};
     ghost use Rattle.an_base.specs.TreeCode.{tree_code};
@@ -45,7 +45,7 @@ impl Model for Shared {
 impl Absorb<Addition> for Published {
     ghost use Rattle.an_published.specs.Rule.{led, taking};
 
-    type State = Shared;
+    type State = LedState;
 
     ghost state = { led };
 

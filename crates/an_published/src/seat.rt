@@ -9,7 +9,7 @@ ghost use Rattle.an_published.specs.Rule.{notice};
 use crate::history::Mark;
 use crate::lock::StoreWriter;
 use crate::published::Published;
-use crate::view::{Earning, Looking, OneList, Telling, View};
+use crate::seat_knowledge::{Earning, Looking, OneList, SeatKnowledge, Telling};
 use an_snapshot::Snapshot;
 use left_right::reader::{Reader, Reading};
 use std::alloc::AllocError;
@@ -19,7 +19,7 @@ use std::marker::Model;
 /// those of them that are its own writes.
 #[derive(Drop)]
 pub struct Seat {
-    reader: Reader<Published, View, OneList>,
+    reader: Reader<Published, SeatKnowledge, OneList>,
     mark: Mark,
 }
 
@@ -45,7 +45,7 @@ impl Model for Seat {
 
 /// A seat with what it is shown. It isn't `Drop`: end it by `leave`.
 pub struct Shown {
-    reading: Reading<Published, View, OneList>,
+    reading: Reading<Published, SeatKnowledge, OneList>,
     mark: Mark,
 }
 

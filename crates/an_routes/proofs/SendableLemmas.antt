@@ -1,4 +1,4 @@
--- What a route writes has a number from 1 to 999,999,999, and a group that is one.
+-- What a route writes has a number from 1 to 999,999,999, and a manifest's group is one.
 use Rattle.std.proofs.Common.{◌≡◌, ℕ, ◌^◌, ◌&&◌, Bool, true, false, nat_le, nat_lt, List, Option, Some, None, Result, Ok, Err, IsTrue, refl, sym, ap, ◌∙◌, arith}
 use Rattle.std.specs.Prelude.{IfOk, IfSome, option_and_then, if◌then◌else◌}
 use Rattle.std.specs.Result.{result_map_both}
@@ -18,11 +18,12 @@ use Rattle.an_http.specs.declared.method.Method.{Method}
 use Rattle.an_http.specs.declared.method.Method.TheVariants.{Get, Head, Options, Put, Delete}
 use Rattle.an_policy.specs.Group.{group_named, is_valid_group}
 use Rattle.an_policy.specs.declared.group.Group.{Group}
+use Rattle.an_policy.specs.declared.inner.Inner.{Inner}
 use Rattle.an_policy.proofs.GroupLemmas.{valid}
-use Rattle.an_search.specs.Given.{number_in, value_of}
-use Rattle.an_search.specs.Given as given
-use Rattle.an_search.specs.Query.{query_of}
-use Rattle.an_search.specs.declared.pairs.Pair.{Pair}
+use Rattle.an_query.specs.Given.{number_in, value_of}
+use Rattle.an_query.specs.Given as given
+use Rattle.an_query.specs.Query.{query_of}
+use Rattle.an_query.specs.declared.pairs.Pair.{Pair}
 use Rattle.an_state.specs.Commands.{is_number, is_sendable}
 use Rattle.an_state.specs.declared.command.Command.{Command}
 use Rattle.an_state.specs.declared.command.Command.TheVariants as command
@@ -30,8 +31,8 @@ use Rattle.an_state.specs.declared.command.Object.{Object}
 use Rattle.an_state.specs.declared.command.Object.TheVariants as object
 use Rattle.an_routes.specs.Commands.{command_of, is_sendable_route, is_sendable_write, with_tree}
 use Rattle.an_routes.specs.Paths.{delete_reads, kind_of, methods_of, object_kind, path_of, row_of}
-use Rattle.an_routes.specs.Query.{and_then, given_of, group_in, group_of, manifest_of, version_of}
-use Rattle.an_routes.specs.Routes.{ask_refused, delete_at, deletion, deletion_of, grouped, meant_at, numbered, object_read, put_at, put_of, put_with, query_refused, read_at, read_by, route_at, route_of, route_to, told, written}
+use Rattle.an_routes.specs.Query.{and_then, given_of, group_in, group_of, inner_of, manifest_of, version_of}
+use Rattle.an_routes.specs.Routes.{ask_refused, delete_at, deletion, deletion_of, grouped, manifest_put, meant_at, numbered, object_read, put_at, put_of, put_with, query_refused, read_at, read_by, route_at, route_of, route_to, told, written}
 use Rattle.an_routes.specs.Target.{segments_of, target_parts}
 use Rattle.an_routes.specs.declared.paths.Kind.TheVariants as kind
 use Rattle.an_routes.specs.declared.paths.Path.{Path}
@@ -89,17 +90,23 @@ writes-group : (write : Group → WriteRoute) → ((group : Group) → is_valid_
 writes-group write right None is = tt
 writes-group write right (Some group) is = right group is
 
-writes-grouped : (write : Group → WriteRoute) (pairs : List Pair) → ((group : Group) → is_valid_group group ≡ true → is_sendable_write (write group) ≡ true) → Writes (grouped write pairs)
-writes-grouped write pairs right = writes-group write right (group_of pairs) (groups-value (value_of parameter.Group pairs))
+writes-manifest : (name : List ℕ) (pairs : List Pair) (version : ℕ) → is_number version ≡ true → Writes (manifest_put name pairs version)
+writes-manifest name pairs version is =
+    writes-group (PutManifest name version) (λ group its. and_from _ _ is its) (group_of pairs) (groups-value (value_of parameter.Group pairs))
+
+writes-inner : (owner name manifest : List ℕ) (version : ℕ) → is_number version ≡ true
+    → (found : Option Inner) → Writes (or_refuse code.Group found (λ inner. Ok (PutNote owner name version manifest inner)))
+writes-inner owner name manifest version is None = tt
+writes-inner owner name manifest version is (Some inner) = is
 
 writes-note : (owner name : List ℕ) (pairs : List Pair) (version : ℕ) → is_number version ≡ true
-    → (found : Option (List ℕ)) → Writes (or_refuse code.Manifest found (λ manifest. grouped (PutNote owner name version manifest) pairs))
+    → (found : Option (List ℕ)) → Writes (or_refuse code.Manifest found (λ manifest. grouped inner_of (PutNote owner name version manifest) pairs))
 writes-note owner name pairs version is None = tt
-writes-note owner name pairs version is (Some manifest) = writes-grouped (PutNote owner name version manifest) pairs (λ group its. and_from _ _ is its)
+writes-note owner name pairs version is (Some manifest) = writes-inner owner name manifest version is (inner_of pairs)
 
 writes-put : (what : Object) (pairs : List Pair) (version : ℕ) → is_number version ≡ true → Writes (put_with what pairs version)
 writes-put (object.Reader name) pairs version is = is
-writes-put (object.Manifest name) pairs version is = writes-grouped (PutManifest name version) pairs (λ group its. and_from _ _ is its)
+writes-put (object.Manifest name) pairs version is = writes-manifest name pairs version is
 writes-put (object.Note owner name) pairs version is = writes-note owner name pairs version is (manifest_of pairs)
 
 writes-deletion : (what : Object) (version : ℕ) → is_number version ≡ true → is_sendable_write (deletion what version) ≡ true
@@ -159,7 +166,7 @@ means-object (object.Note owner name) query = reads-by (given_of (row_of kind.No
 
 means-read : (at : Path) (query : List ℕ) → Means (read_at at query)
 means-read (path.Object what) query = means-object what query
-means-read (path.Search manifest) query = reads (read.Search manifest) query_refused (query_of query)
+means-read (path.Search manifest) query = reads (read.Search manifest) query_refused (query_of (row_of kind.Search).get query)
 means-read (path.Complete manifest) query = reads (read.Complete manifest) ask_refused (ask_of query)
 means-read (path.Canvas manifest canvas) query = reads-by (given_of (row_of kind.Canvas).get query) _
 means-read (path.Container manifest) query = reads-by (given_of (row_of kind.Container).get query) _

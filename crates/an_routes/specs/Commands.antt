@@ -40,14 +40,13 @@ command_of (PutNote owner name version manifest group) text =
     with_tree (command.PutNote owner name version manifest group) (tree_of text)
 command_of (DropNote owner name version) text = Ok (command.DropNote owner name version)
 
--- its number is one and its group is a group, as those of the command are then
+-- its number is one and a manifest's group is a group, as those of the command are then
 abbrev pub is_sendable_write : WriteRoute → Bool
 is_sendable_write (PutReader name version) = is_number version
 is_sendable_write (DropReader name version) = is_number version
 is_sendable_write (PutManifest name version group) = is_number version && is_valid_group group
 is_sendable_write (DropManifest name version) = is_number version
-is_sendable_write (PutNote owner name version manifest group) =
-    is_number version && is_valid_group group
+is_sendable_write (PutNote owner name version manifest group) = is_number version
 is_sendable_write (DropNote owner name version) = is_number version
 
 -- what it writes, if it writes, is such

@@ -7,8 +7,8 @@ use Rattle.an_code.specs.declared.parameter.Parameter.TheVariants.{Iris, Xywh}
 use Rattle.an_complete.specs.Ask.{ask_parameters}
 use Rattle.an_http.specs.declared.reply.Allow.{Allow}
 use Rattle.an_http.specs.declared.reply.Allow.TheVariants.{Full, ReadOnly, WriteOnly}
-use Rattle.an_search.specs.Given.{number_in}
-use Rattle.an_search.specs.Query.{search_parameters}
+use Rattle.an_query.specs.Given.{number_in}
+use Rattle.an_query.specs.Query.{search_parameters}
 use Rattle.an_state.specs.declared.command.Object.{Object}
 use Rattle.an_state.specs.declared.command.Object.TheVariants as object
 use Rattle.an_routes.specs.Query.{name_in}

@@ -10,11 +10,14 @@ use Rattle.an_code.specs.declared.parameter.Parameter.TheVariants as parameter
 use Rattle.an_policy.specs.Group.{group_named}
 use Rattle.an_policy.specs.declared.group.Group.{Group}
 use Rattle.an_policy.specs.declared.group.Group.TheVariants.{Public}
+use Rattle.an_policy.specs.Inner.{inner_named}
+use Rattle.an_policy.specs.declared.inner.Inner.{Inner}
+use Rattle.an_policy.specs.declared.inner.Inner.TheVariants as inner
 use Rattle.an_selectors.specs.Region.{region_of_numbers}
 use Rattle.an_selectors.specs.declared.region.Xywh.{Xywh}
-use Rattle.an_search.specs.Given.{number_in, twice_of, value_of}
-use Rattle.an_search.specs.Pairs.{pairs_of}
-use Rattle.an_search.specs.declared.pairs.Pair.{Pair}
+use Rattle.an_query.specs.Given.{number_in, twice_of, value_of}
+use Rattle.an_query.specs.Pairs.{pairs_of}
+use Rattle.an_query.specs.declared.pairs.Pair.{Pair}
 
 -- the pairs of a query, or the first refusal: a pair that isn't UTF-8, or else the first of the
 -- parameters that are read that comes a second time
@@ -35,13 +38,20 @@ name_in text = only_if is_name text
 abbrev pub manifest_of : List Pair → Option (List ℕ)
 manifest_of given = option_and_then name_in (value_of parameter.Manifest given)
 
--- a group that isn't given is that of everybody
+-- a group that isn't given is that of everybody; so are inner groups
 abbrev pub group_in : Option (List ℕ) → Option Group
 group_in None = Some Public
 group_in (Some text) = group_named text
 
 abbrev pub group_of : List Pair → Option Group
 group_of given = group_in (value_of parameter.Group given)
+
+abbrev pub inner_in : Option (List ℕ) → Option Inner
+inner_in None = Some inner.Public
+inner_in (Some text) = inner_named text
+
+abbrev pub inner_of : List Pair → Option Inner
+inner_of given = inner_in (value_of parameter.Group given)
 
 -- what a value that may be given says, if it says something; or the refusal
 abbrev pub given_as : {A : Type 0} → Code → (List ℕ → Option A) → Option (List ℕ)

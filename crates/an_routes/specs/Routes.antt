@@ -11,15 +11,14 @@ use Rattle.an_complete.specs.declared.ask.QueryAskError.TheVariants as no_ask
 use Rattle.an_http.specs.declared.method.Method.{Method}
 use Rattle.an_http.specs.declared.method.Method.TheVariants.{Get, Head, Options, Put, Delete}
 use Rattle.an_http.specs.declared.reply.Allow.{Allow}
-use Rattle.an_policy.specs.declared.group.Group.{Group}
-use Rattle.an_search.specs.Query.{QueryRecord, query_of}
-use Rattle.an_search.specs.declared.pairs.Pair.{Pair}
-use Rattle.an_search.specs.declared.query.QueryError.{QueryError}
-use Rattle.an_search.specs.declared.query.QueryError.TheVariants as no_query
+use Rattle.an_query.specs.Query.{QueryRecord, query_of}
+use Rattle.an_query.specs.declared.pairs.Pair.{Pair}
+use Rattle.an_query.specs.declared.query.QueryError.{QueryError}
+use Rattle.an_query.specs.declared.query.QueryError.TheVariants as no_query
 use Rattle.an_state.specs.declared.command.Object.{Object}
 use Rattle.an_state.specs.declared.command.Object.TheVariants as object
 use Rattle.an_routes.specs.Paths.{row_of, methods_of, delete_reads, object_kind, kind_of, path_of}
-use Rattle.an_routes.specs.Query.{given_of, version_of, manifest_of, group_of, page_of, iris_of}
+use Rattle.an_routes.specs.Query.{given_of, version_of, manifest_of, group_of, inner_of, page_of, iris_of}
 use Rattle.an_routes.specs.Query.{and_then, region_of}
 use Rattle.an_routes.specs.Target.{target_parts, segments_of}
 use Rattle.an_routes.specs.declared.paths.Kind.{Kind}
@@ -47,18 +46,18 @@ abbrev pub numbered : Result (List Pair) Code → (List Pair → ℕ → Result 
 numbered (Ok given) write = or_refuse code.VersionForm (version_of given) (write given)
 numbered (Err refusal) write = Err refusal
 
-abbrev pub grouped : (Group → WriteRoute) → List Pair → Result WriteRoute Code
-grouped write given =
-    or_refuse code.Group (group_of given) (λ group. Ok (write group))
+abbrev pub grouped : {G : Type 0} → (List Pair → Option G) → (G → WriteRoute) → List Pair
+    → Result WriteRoute Code
+grouped read write given = or_refuse code.Group (read given) (λ group. Ok (write group))
 
 abbrev pub manifest_put : List ℕ → List Pair → ℕ → Result WriteRoute Code
-manifest_put name given version = grouped (PutManifest name version) given
+manifest_put name given version = grouped group_of (PutManifest name version) given
 
 -- the manifest, and then the group
 abbrev pub note_put : List ℕ → List ℕ → List Pair → ℕ → Result WriteRoute Code
 note_put owner name given version =
     or_refuse code.Manifest (manifest_of given)
-    (λ manifest. grouped (PutNote owner name version manifest) given)
+    (λ manifest. grouped inner_of (PutNote owner name version manifest) given)
 
 abbrev pub put_with : Object → List Pair → ℕ → Result WriteRoute Code
 put_with (object.Reader name) given version = Ok (PutReader name version)
@@ -155,7 +154,7 @@ object_read (object.Note owner name) query =
 
 abbrev pub read_at : Path → List ℕ → Result Route Unrouted
 read_at (path.Object object) query = object_read object query
-read_at (path.Search manifest) query = searched manifest (query_of query)
+read_at (path.Search manifest) query = searched manifest (query_of (row_of kind.Search).get query)
 read_at (path.Complete manifest) query = completed manifest (ask_of query)
 read_at (path.Canvas manifest canvas) query =
     canvas_read manifest canvas (given_of (row_of kind.Canvas).get query)

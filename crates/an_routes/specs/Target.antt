@@ -2,7 +2,7 @@
 use Rattle.std.specs.Prelude.{ℕ, List, [], map, length, ◌==◌, nat_lt, if◌then◌else◌, Option, Some}
 use Rattle.std.specs.Prelude.{None, option_and_then}
 use Rattle.std.specs.List.{slice_split, position_or_len, before_first, after_first}
-use Rattle.an_search.specs.Pairs.{all_there, escaped_text}
+use Rattle.an_query.specs.Pairs.{all_there, escaped_text}
 
 -- what stands before the first such sign, and what behind it; nothing where there is no such sign
 abbrev pub cut_at : ℕ → List ℕ → Option (List ℕ × List ℕ)

@@ -13,7 +13,7 @@ ghost use Rattle.an_state.specs.declared.command.Command.{Command};
 use crate::kinds::WriteRoute;
 use an_base::{Name, Shared, Tree, TreeError, read_tree};
 use an_code::Code;
-use an_policy::Group;
+use an_policy::{Group, Inner};
 use an_state::Command;
 use std::alloc::{AllocError, Global};
 
@@ -114,7 +114,7 @@ fn put_note(
     alloc: Global,
     path: (Name, Name),
     version: u32,
-    home: (Name, Group),
+    home: (Name, Inner),
     text: &[u8],
 ) -> Result<Result<Command, Code>, AllocError>
     ensures { IfOk result (λ command. command

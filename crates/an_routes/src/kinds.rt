@@ -6,8 +6,8 @@ use an_base::Name;
 use an_code::Code;
 use an_complete::Ask;
 use an_http::Allow;
-use an_policy::Group;
-use an_search::Query;
+use an_policy::{Group, Inner};
+use an_query::Query;
 use an_selectors::Xywh;
 
 /// What is read.
@@ -80,7 +80,7 @@ pub enum WriteRoute {
         name: Name,
         version: u32,
         manifest: Name,
-        group: Group,
+        group: Inner,
     },
     DropNote {
         owner: Name,

@@ -10,7 +10,7 @@ use crate::target::segments_of;
 use an_base::{Name, Text};
 use an_code::Parameter;
 use an_http::Allow;
-use an_search::number_in;
+use an_query::number_in;
 use an_state::Object;
 use std::alloc::{AllocError, Global};
 

@@ -1,11 +1,11 @@
 ghost use Rattle.std.specs.Prelude.{◌≡◌, IfOk};
-ghost use Rattle.an_routes.specs.Query.{given_of, version_of, name_in, manifest_of, group_of};
+ghost use Rattle.an_routes.specs.Query.{given_of, version_of, name_in, manifest_of, group_of, inner_of};
 ghost use Rattle.an_routes.specs.Query.{page_of, iris_of, region_of};
 
 use an_base::{List, Name, NameError};
 use an_code::{Code, Parameter};
-use an_policy::{Group, group_named};
-use an_search::{Pair, number_in, query_pairs, twice_in, value_in};
+use an_policy::{Group, Inner, group_named, inner_named};
+use an_query::{Pair, number_in, query_pairs, twice_in, value_in};
 use an_selectors::{Xywh, read_region_numbers};
 use std::alloc::{AllocError, Global};
 
@@ -57,6 +57,16 @@ pub(crate) fn group_of(alloc: Global, given: &[Pair]) -> Result<Option<Group>, A
     match value_in(Parameter::Group, given) {
         Some(text) => group_named(alloc, text.as_str()),
         None => Ok(Some(Group::Public)),
+    }
+}
+
+/// The inner groups, which are those of everybody where none are given.
+pub(crate) fn inner_of(alloc: Global, given: &[Pair]) -> Result<Option<Inner>, AllocError>
+    ensures { IfOk result (λ inner. inner ≡ inner_of given.now) }
+{
+    match value_in(Parameter::Group, given) {
+        Some(text) => inner_named(alloc, text.as_str()),
+        None => Ok(Some(Inner::Public)),
     }
 }
 

@@ -1,7 +1,7 @@
 ghost use Rattle.std.specs.Prelude.{◌≡◌, [], IfOk, Ok, Some};
 ghost use Rattle.an_base.specs.Outcome.{Gives};
 ghost use Rattle.an_complete.specs.Ask.{ask_of};
-ghost use Rattle.an_search.specs.Query.{query_of};
+ghost use Rattle.an_query.specs.Query.{query_of};
 ghost use Rattle.an_routes.specs.Paths.{row_of};
 ghost use Rattle.an_routes.specs.Query.{given_of};
 ghost use Rattle.an_routes.specs.Routes.{changes_read, container_at, container_read, canvas_read};
@@ -17,13 +17,15 @@ use crate::paths::{
     CANVAS_READS, CHANGES_READS, CONTAINER_READS, NUMBER_READS, Path, READS_NOTHING, path_in,
     put_reads,
 };
-use crate::query::{given_in, group_of, iris_of, manifest_of, page_of, region_of, version_of};
+use crate::query::{
+    given_in, group_of, inner_of, iris_of, manifest_of, page_of, region_of, version_of,
+};
 use crate::target::target_parts;
 use an_base::Name;
 use an_code::Code;
 use an_complete::{QueryAskError, read_ask};
 use an_http::Method;
-use an_search::{Pair, QueryError, read_query};
+use an_query::{Pair, QueryError, SEARCH_PARAMETERS, read_query};
 use an_state::Object;
 use std::alloc::{AllocError, Global};
 
@@ -223,9 +225,9 @@ fn shown(alloc: Global, read: Read, query: &str) -> Result<Route, Unrouted>
 /// A search with its query, or the first refusal of the query.
 fn searched(alloc: Global, manifest: Name, query: &str) -> Result<Route, Unrouted>
     ensures { Gives (λ route. route) Unrouted.Memory result
-        (searched manifest (query_of query.now)) }
+        (searched manifest (query_of (row_of kind.Search).get query.now)) }
 {
-    match read_query(alloc, query) {
+    match read_query(alloc, &SEARCH_PARAMETERS, query) {
         Ok(query) => Ok(Route::Read(Read::Search { manifest, query })),
         Err(error) => Err(query_refused(error)),
     }
@@ -362,7 +364,7 @@ fn note_put(
     ensures { IfOk result (λ write. write ≡ note_put owner name given.now version) }
 {
     match manifest_of(alloc, given)? {
-        Some(manifest) => match group_of(alloc, given)? {
+        Some(manifest) => match inner_of(alloc, given)? {
             Some(group) => Ok(Ok(WriteRoute::PutNote {
                 owner,
                 name,

@@ -3,7 +3,7 @@ ghost use Rattle.std.specs.List.{slice_split};
 ghost use Rattle.an_routes.specs.Target.{cut_at, target_parts, segments_of};
 
 use an_base::Text;
-use an_search::escaped_text;
+use an_query::escaped_text;
 use std::alloc::{AllocError, Global};
 
 /// The path of a target behind its first `/`, and its query, which is empty where there is none.
@@ -25,7 +25,7 @@ pub(crate) fn target_parts(target: &str) -> Option<(&str, &str)>
 }
 
 /// The segments of a path, each with its escapes decoded; none where one of them isn't UTF-8 then.
-#[tactic(auto, using(an_search::proofs::PairLemmas::pairs_left))]
+#[tactic(auto, using(an_query::proofs::PairLemmas::pairs_left))]
 pub(crate) fn segments_of(alloc: Global, path: &str) -> Result<Option<Vec<Text>>, AllocError>
     ensures { IfOk result (λ segments. option_map (λ v. v.items) segments ≡ segments_of path.now) }
 {

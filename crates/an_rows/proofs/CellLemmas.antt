@@ -9,6 +9,7 @@ use Rattle.an_keep.specs.Cells.{comes_before, is_at, is_before, is_behind, put_c
 use Rattle.an_state.specs.declared.entry.Row.{Row}
 use Rattle.an_rows.specs.RowTree.{table_of}
 use Rattle.an_rows.specs.Cells.{cell_of, cells_from}
+use Rattle.an_rows.specs.declared.format.Format.{Format}
 
 -- ---- the order of cells
 
@@ -64,9 +65,9 @@ module _ (cell : Cell) where
 
 -- ---- the cells of a list
 
-module _ {R : Type 0} (kind : R → Row) where
+module _ {R : Type 0} (format : Format) (kind : R → Row) where
   -- what holds of each cell of a row holds of all
-  pub all-cells : (p : Cell → Bool) → ((row : R) (key : ℕ) → p (cell_of key (kind row)) ≡ true) → (key : ℕ) (rows : List R) → list_all p (cells_from kind key rows) ≡ true
+  pub all-cells : (p : Cell → Bool) → ((row : R) (key : ℕ) → p (cell_of format key (kind row)) ≡ true) → (key : ℕ) (rows : List R) → list_all p (cells_from format kind key rows) ≡ true
   all-cells p each key [] = refl
   all-cells p each key (row ∷ rows) = and_from _ _ (each row key) (all-cells p each (key + 1) rows)
 
@@ -80,22 +81,22 @@ module _ {R : Type 0} (kind : R → Row) where
   module _ (one : (row other : R) → table_of (kind row) ≡ table_of (kind other)) (p : R → Bool) (row : R) where
     -- a row is put in the place of the first that passes, or behind all
     pub put_cell-among : (start : ℕ) (rows : List R)
-        → put_cell (cell_of (start + position_or_len p rows) (kind row)) (cells_from kind start rows) ≡ cells_from kind start (set_or_push p row rows)
-    put_cell-among start [] = ap (λ key. cell_of key (kind row) ∷ []) (zero-more start)
+        → put_cell (cell_of format (start + position_or_len p rows) (kind row)) (cells_from format kind start rows) ≡ cells_from format kind start (set_or_push p row rows)
+    put_cell-among start [] = ap (λ key. cell_of format key (kind row) ∷ []) (zero-more start)
     put_cell-among start (first ∷ rows) = elim (cases_Bool (p first)) [
       | inl here ↦
           let at : start + position_or_len p (first ∷ rows) ≡ start = ap (λ b. start + cond (not b) (1 + position_or_len p rows) 0) here ∙ zero-more start in
-          ap (λ key. put_cell (cell_of key (kind row)) (cells_from kind start (first ∷ rows))) at
+          ap (λ key. put_cell (cell_of format key (kind row)) (cells_from format kind start (first ∷ rows))) at
           ∙ cond-false _ _ _ (not_before-itself (table_of (kind first)) (table_of (kind row)) start (one first row))
           ∙ cond-true _ _ _ (at-itself (table_of (kind first)) (table_of (kind row)) start (one first row))
-          ∙ ap (cells_from kind start) (sym (cond-true _ (row ∷ rows) (first ∷ set_or_push p row rows) here))
+          ∙ ap (cells_from format kind start) (sym (cond-true _ (row ∷ rows) (first ∷ set_or_push p row rows) here))
       | inr other ↦
           let at : start + position_or_len p (first ∷ rows) ≡ start + (1 + position_or_len p rows) = ap (λ b. start + cond (not b) (1 + position_or_len p rows) 0) other in
-          ap (λ key. put_cell (cell_of key (kind row)) (cells_from kind start (first ∷ rows))) at
+          ap (λ key. put_cell (cell_of format key (kind row)) (cells_from format kind start (first ∷ rows))) at
           ∙ cond-true _ _ _ (before-in_table (table_of (kind first)) (table_of (kind row)) start (start + (1 + position_or_len p rows)) (one first row) (omega arith))
-          ∙ ap (λ key. cell_of start (kind first) ∷ put_cell (cell_of key (kind row)) (cells_from kind (start + 1) rows)) (one-more start (position_or_len p rows))
-          ∙ ap (λ l. cell_of start (kind first) ∷ l) (put_cell-among (start + 1) rows)
-          ∙ ap (cells_from kind start) (sym (cond-false _ (row ∷ rows) (first ∷ set_or_push p row rows) other))
+          ∙ ap (λ key. cell_of format start (kind first) ∷ put_cell (cell_of format key (kind row)) (cells_from format kind (start + 1) rows)) (one-more start (position_or_len p rows))
+          ∙ ap (λ l. cell_of format start (kind first) ∷ l) (put_cell-among (start + 1) rows)
+          ∙ ap (cells_from format kind start) (sym (cond-false _ (row ∷ rows) (first ∷ set_or_push p row rows) other))
     ]
 
 -- ---- a test that no row passes

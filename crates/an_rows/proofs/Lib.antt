@@ -2,6 +2,7 @@ pub mod CellLemmas
 pub mod ChangeLemmas
 pub mod WholeLemmas
 pub mod ReadLemmas
+pub mod InnerLemmas
 pub mod ReadTreeLemmas
 pub mod ReadNoteLemmas
 pub mod ReadActivityLemmas
@@ -15,3 +16,6 @@ pub mod FieldLemmas
 pub mod SettledLemmas
 pub mod FormatLemmas
 pub mod PlaceLemmas
+pub mod TurnLemmas
+pub mod MigrationLemmas
+pub mod FormerLemmas

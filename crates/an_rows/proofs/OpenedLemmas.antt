@@ -7,7 +7,7 @@ use Rattle.std.proofs.lemmas.Bool.{cases_Bool, and_from, and_parts, or_from, or_
 use Rattle.std.proofs.lemmas.Int.{ints}
 use Rattle.std.proofs.lemmas.List.Folds.{list_all-append, position_or_len_push}
 use Rattle.std.proofs.lemmas.List.Elements.{filter_map-append}
-use Rattle.std.proofs.lemmas.Option.{slice_get_within}
+use Rattle.std.proofs.lemmas.Option.{same_Some, slice_get_within}
 use Rattle.std.proofs.lemmas.Slice.Eq.{bytes_eq-Decides}
 use Rattle.an_base.specs.Outcome.{passes}
 use Rattle.an_keyed.specs.Key.{Key, same_key}
@@ -24,11 +24,14 @@ use Rattle.an_state.specs.State.{State, ReaderState, ManifestState, NoteState, L
 use Rattle.an_state.specs.declared.activity.Activity.{Activity}
 use Rattle.an_state.specs.declared.entry.Row.{Row}
 use Rattle.an_state.specs.declared.entry.Row.TheVariants as kept
+use Rattle.an_rows.specs.Format.{format_named, format_text}
 use Rattle.an_rows.specs.RowRead.{row_of_text}
 use Rattle.an_rows.specs.Valid.{is_valid, is_valid_row, is_valid_reader_row, is_valid_manifest_row, is_valid_note_row, is_valid_activity}
 use Rattle.an_base.specs.Name.{is_name}
 use Rattle.an_state.specs.Commands.{is_number}
-use Rattle.an_rows.specs.Cells.{Place, place_of, cell_of, row_cells, first_cell, with_first, cells, rows_before, has_key, may_follow, if_next, row_behind, restored, is_first, state_of}
+use Rattle.an_rows.specs.Cells.{Place, place_of, cell_of, row_cells, first_cell, with_first, cells_in, rows_before, has_key, may_follow, if_next, row_behind, restored, format_of, format_in, state_of}
+use Rattle.an_rows.specs.declared.format.Format.{Format}
+use Rattle.an_rows.specs.declared.format.Format.TheVariants.{First, Second}
 use Rattle.an_rows.specs.Changes.{place_in}
 use Rattle.an_rows.proofs.CellLemmas.{put_cell-past, position-new}
 use Rattle.an_rows.proofs.ChangeLemmas.{put_cell-in}
@@ -222,17 +225,17 @@ sound-with s (kept.Activity row) parts follows valid = record {
 
 -- ---- a cell that is read
 
-record Opened (s : State) (cell : Cell) (row : Row) : Type 0 where
-  same : cell ≡ cell_of (rows_before s row) row
+record Opened (format : Format) (s : State) (cell : Cell) (row : Row) : Type 0 where
+  same : cell ≡ cell_of format (rows_before s row) row
   valid : is_valid_row row ≡ true
   follows : may_follow s row ≡ true
 
-opened : (s : State) (cell : Cell) (row : Row) → row_behind s cell ≡ Ok row → Opened s cell row
+opened : (format : Format) (s : State) (cell : Cell) (row : Row) → row_behind format s cell ≡ Ok row → Opened format s cell row
 unfolding row_behind
-opened s cell row is =
-    let found = refused (place_of cell) (result_ok (row_of_text cell.tab cell.val)) (if_next s cell) row is in
+opened format s cell row is =
+    let found = refused (place_of cell) (result_ok (row_of_text format cell.tab cell.val)) (if_next s cell) row is in
     let both = if-ok ((cell.key == rows_before s found.0) && may_follow s found.0) found.0 row (place_of cell) found.2 in
-    let read = row-parts cell.tab cell.val row (ok-found (row_of_text cell.tab cell.val) row (found.1 ∙ ap (λ (r : Row). Some r) both.0)) in
+    let read = row-parts format cell.tab cell.val row (ok-found (row_of_text format cell.tab cell.val) row (found.1 ∙ ap (λ (r : Row). Some r) both.0)) in
     let next = and_parts (cell.key == rows_before s row) _ (subst (λ r. ((cell.key == rows_before s r) && may_follow s r) ≡ true) both.0 both.1) in
     record {
       same = λ i. record { tab = sym read.0.table i; key = eqb-true cell.key (rows_before s row) next.0 i; val = sym read.1 i };
@@ -258,39 +261,40 @@ all-before cell (first ∷ front) more ascend =
     reach (other ∷ front) all = reach front (and_parts (is_behind first.tab first.key other) _ all).1
 
 -- the row's cell stands behind the others
-cells-push : (s : State) (cell : Cell) (row : Row) (more : List Cell) → Opened s cell row → Ascend (row_cells s ++ cell ∷ more) → row_cells (with_row s row) ≡ row_cells s ++ cell ∷ []
-cells-push s cell row more its ascend =
-    let its_cell : cell_of (place_in s row) row ≡ cell = ap (λ place. cell_of place row) (place-new s row its.follows) ∙ sym its.same in
-    sym (put_cell-in s row)
-    ∙ ap (λ c. put_cell c (row_cells s)) its_cell
-    ∙ ap (put_cell cell) (sym (append-nil (row_cells s)))
-    ∙ put_cell-past cell (row_cells s) [] (all-before cell (row_cells s) more ascend)
+cells-push : (format : Format) (s : State) (cell : Cell) (row : Row) (more : List Cell) → Opened format s cell row → Ascend (row_cells format s ++ cell ∷ more)
+    → row_cells format (with_row s row) ≡ row_cells format s ++ cell ∷ []
+cells-push format s cell row more its ascend =
+    let its_cell : cell_of format (place_in s row) row ≡ cell = ap (λ place. cell_of format place row) (place-new s row its.follows) ∙ sym its.same in
+    sym (put_cell-in format s row)
+    ∙ ap (λ c. put_cell c (row_cells format s)) its_cell
+    ∙ ap (put_cell cell) (sym (append-nil (row_cells format s)))
+    ∙ put_cell-past cell (row_cells format s) [] (all-before cell (row_cells format s) more ascend)
 
 -- ---- all
 
-record Leads (s t : State) (others : List Cell) : Type 0 where
+record Leads (format : Format) (s t : State) (others : List Cell) : Type 0 where
   valid : AllValid t
   sound : Parts t
-  same : Ascend (row_cells s ++ others) → row_cells t ≡ row_cells s ++ others
+  same : Ascend (row_cells format s ++ others) → row_cells format t ≡ row_cells format s ++ others
 
-leads : (s t : State) (others : List Cell) → AllValid s → Parts s → restored s others ≡ Ok t → Leads s t others
-leads s t [] valid sound is =
+leads : (format : Format) (s t : State) (others : List Cell) → AllValid s → Parts s → restored format s others ≡ Ok t → Leads format s t others
+leads format s t [] valid sound is =
     let same : s ≡ t = same_Ok {E = Place} s t is in
-    record { valid = subst AllValid same valid; sound = subst Parts same sound; same = λ ascend. ap row_cells (sym same) ∙ sym (append-nil (row_cells s)) }
-leads s t (cell ∷ others) valid sound is = by_row (λ row. leads (with_row s row) t others) (row_behind s cell) refl is
+    record { valid = subst AllValid same valid; sound = subst Parts same sound; same = λ ascend. ap (row_cells format) (sym same) ∙ sym (append-nil (row_cells format s)) }
+leads format s t (cell ∷ others) valid sound is = by_row (λ row. leads format (with_row s row) t others) (row_behind format s cell) refl is
   where
-    by_row : ((row : Row) → AllValid (with_row s row) → Parts (with_row s row) → restored (with_row s row) others ≡ Ok t → Leads (with_row s row) t others)
-        → (found : Result Row Place) → row_behind s cell ≡ found → ◌≡◌ {A = Result State Place} (elim found [ Err place ↦ Err place | Ok row ↦ restored (with_row s row) others ]) (Ok t) → Leads s t (cell ∷ others)
+    by_row : ((row : Row) → AllValid (with_row s row) → Parts (with_row s row) → restored format (with_row s row) others ≡ Ok t → Leads format (with_row s row) t others)
+        → (found : Result Row Place) → row_behind format s cell ≡ found → ◌≡◌ {A = Result State Place} (elim found [ Err place ↦ Err place | Ok row ↦ restored format (with_row s row) others ]) (Ok t) → Leads format s t (cell ∷ others)
     by_row behind (Err place) at h = absurd (cc)
     by_row behind (Ok row) at h =
-        let its = opened s cell row at in
+        let its = opened format s cell row at in
         let rest = behind row (valid-with s row valid its.follows its.valid) (sound-with s row sound its.follows its.valid) h in
         record {
           valid = rest.valid;
           sound = rest.sound;
           same = λ ascend.
-              let push = cells-push s cell row others its ascend in
-              let joined : row_cells (with_row s row) ++ others ≡ row_cells s ++ cell ∷ others = ap (λ l. l ++ others) push ∙ append_assoc (row_cells s) (cell ∷ []) others in
+              let push = cells-push format s cell row others its ascend in
+              let joined : row_cells format (with_row s row) ++ others ≡ row_cells format s ++ cell ∷ others = ap (λ l. l ++ others) push ∙ append_assoc (row_cells format s) (cell ∷ []) others in
               rest.same (subst Ascend (sym joined) ascend) ∙ joined;
         }
 
@@ -300,46 +304,70 @@ empty-valid = record { readers = refl; manifests = refl; notes = refl; activitie
 empty-parts : Parts empty
 empty-parts = record { readers = refl; manifests = refl; notes = refl; agree = refl; tokens = refl; stand = refl; rise = refl }
 
-empty-cells : row_cells empty ≡ []
+empty-cells : (format : Format) → row_cells format empty ≡ []
 unfolding row_cells
-empty-cells = refl
+empty-cells format = refl
 
-is_first-cell : (cell : Cell) → is_first cell ≡ true → cell ≡ first_cell
-unfolding is_first first_cell
-is_first-cell cell is =
-    let parts = and_parts (cell.tab == 0 && cell.key == 0) _ is in
-    let both = and_parts (cell.tab == 0) _ parts.0 in
-    λ i. record { tab = eqb-true cell.tab 0 both.0 i; key = eqb-true cell.key 0 both.1 i; val = (bytes_eq-Decides cell.val (codes "{\"format\":1}")).0 parts.1 i }
+-- the first cell is the one of the format that it names
+named-text : (text : List ℕ) (format : Format) → format_named text ≡ Some format → text ≡ format_text format
+named-text text format is = elim (cases_Bool (bytes_eq text (format_text First))) [
+  | inl one ↦
+      let its : First ≡ format = same_Some First format (sym (cond-true _ _ _ one) ∙ is) in
+      (bytes_eq-Decides text (format_text First)).0 one ∙ ap format_text its
+  | inr not_one ↦
+      let rest = sym (cond-false _ _ _ not_one) ∙ is in
+      elim (cases_Bool (bytes_eq text (format_text Second))) [
+        | inl two ↦
+            let its : Second ≡ format = same_Some Second format (sym (cond-true _ _ _ two) ∙ rest) in
+            (bytes_eq-Decides text (format_text Second)).0 two ∙ ap format_text its
+        | inr not_two ↦ let none : ◌≡◌ {A = Option Format} None (Some format) = sym (cond-false _ _ _ not_two) ∙ rest in absurd (cc)
+      ]
+]
+
+pub named-cell : (cell : Cell) (format : Format) → format_of cell ≡ Some format → cell ≡ first_cell format
+unfolding format_of first_cell
+named-cell cell format is = elim (cases_Bool (cell.tab == 0 && cell.key == 0)) [
+  | inl first ↦
+      let both = and_parts (cell.tab == 0) _ first in
+      let text = named-text cell.val format (sym (cond-true _ _ _ first) ∙ is) in
+      λ i. record { tab = eqb-true cell.tab 0 both.0 i; key = eqb-true cell.key 0 both.1 i; val = text i }
+  | inr isnt ↦ let none : ◌≡◌ {A = Option Format} None (Some format) = sym (cond-false _ _ _ isnt) ∙ is in absurd (cc)
+]
 
 -- the state of cells is valid and sound, and has these cells where they ascend
 record Stands (s : State) (found : List Cell) : Type 0 where
   valid : is_valid s ≡ true
   sound : is_sound s ≡ true
-  same : Ascend found → cells s ≡ found
+  same : Ascend found → cells_in (format_in found) s ≡ found
 
 stands-empty : (s : State) → empty ≡ s → Stands s []
-stands-empty s same = subst (λ t. Stands t []) same (record { valid = valid-from empty empty-valid; sound = sound-from empty empty-parts; same = λ ascend. ap with_first empty-cells })
+stands-empty s same =
+    subst (λ t. Stands t []) same (record { valid = valid-from empty empty-valid; sound = sound-from empty empty-parts; same = λ ascend. ap (with_first Second) (empty-cells Second) })
 
-stands-behind : (s : State) (first cell : Cell) (more : List Cell) → is_first first ≡ true → restored empty (cell ∷ more) ≡ Ok s → Stands s (first ∷ cell ∷ more)
-stands-behind s first cell more is_it is =
-    let lead = leads empty s (cell ∷ more) empty-valid empty-parts is in
+stands-behind : (s : State) (format : Format) (first cell : Cell) (more : List Cell) → format_of first ≡ Some format → restored format empty (cell ∷ more) ≡ Ok s
+    → Stands s (first ∷ cell ∷ more)
+stands-behind s format first cell more names is =
+    let lead = leads format empty s (cell ∷ more) empty-valid empty-parts is in
     record {
       valid = valid-from s lead.valid;
       sound = sound-from s lead.sound;
       same = λ ascend.
           let rest = (and_parts (list_all (is_behind first.tab first.key) (cell ∷ more)) (is_ascending (cell ∷ more)) ascend).1 in
-          let none : row_cells empty ++ cell ∷ more ≡ cell ∷ more = ap (λ l. l ++ cell ∷ more) empty-cells in
-          ap with_first (lead.same (subst Ascend (sym none) rest) ∙ none) ∙ ap (λ c. c ∷ cell ∷ more) (sym (is_first-cell first is_it));
+          let none : row_cells format empty ++ cell ∷ more ≡ cell ∷ more = ap (λ l. l ++ cell ∷ more) (empty-cells format) in
+          ap (λ found. cells_in (unwrap_or found Second) s) names
+          ∙ ap (with_first format) (lead.same (subst Ascend (sym none) rest) ∙ none) ∙ ap (λ c. c ∷ cell ∷ more) (sym (named-cell first format names));
     }
 
 stands : (found : List Cell) (s : State) → state_of found ≡ Ok s → Stands s found
 unfolding state_of
 stands [] s is = stands-empty s (same_Ok {E = Place} empty s is)
 stands (first ∷ []) s is = absurd (cc)
-stands (first ∷ cell ∷ more) s is = elim (cases_Bool (is_first first)) [
-  | inl is_it ↦ stands-behind s first cell more is_it (sym (cond-true _ (restored empty (cell ∷ more)) (Err (place_of first)) is_it) ∙ is)
-  | inr isnt ↦ let none : ◌≡◌ {A = Result State Place} (Err (place_of first)) (Ok s) = sym (cond-false _ (restored empty (cell ∷ more)) (Err (place_of first)) isnt) ∙ is in absurd (cc)
-]
+stands (first ∷ cell ∷ more) s is = by_format (format_of first) refl is
+  where
+    by_format : (named : Option Format) → format_of first ≡ named
+        → ◌≡◌ {A = Result State Place} (elim named [ None ↦ Err (place_of first) | Some format ↦ restored format empty (cell ∷ more) ]) (Ok s) → Stands s (first ∷ cell ∷ more)
+    by_format None names h = absurd (cc)
+    by_format (Some format) names h = stands-behind s format first cell more names h
 
 pub opened-valid : (found : List Cell) (s : State) → state_of found ≡ Ok s → is_valid s ≡ true
 opened-valid found s is = (stands found s is).valid
@@ -347,7 +375,7 @@ opened-valid found s is = (stands found s is).valid
 pub opened-sound : (found : List Cell) (s : State) → state_of found ≡ Ok s → is_sound s ≡ true
 opened-sound found s is = (stands found s is).sound
 
-pub opened-cells : (found : List Cell) (s : State) → state_of found ≡ Ok s → Ascend found → cells s ≡ found
+pub opened-cells : (found : List Cell) (s : State) → state_of found ≡ Ok s → Ascend found → cells_in (format_in found) s ≡ found
 opened-cells found s is ascend = (stands found s is).same ascend
 
 pub ruleset opened_states = (opened-valid, opened-sound, opened-cells)

@@ -31,6 +31,7 @@ use Rattle.an_state.specs.declared.entry.Row.TheVariants as kept
 use Rattle.an_rows.specs.RowTree.{text_items, role_text, live_reader_members, reader_tombstone_members, row_members, row_text, table_of}
 use Rattle.an_rows.specs.Valid.{are_groups, are_groups_behind, is_iri, is_valid_reader, is_valid_reader_row, if_any}
 use Rattle.an_rows.specs.RowRead.{then_read, name_in, version_in, flag_in, reader_named, reader_row_in, row_in, row_of_text}
+use Rattle.an_rows.specs.declared.format.Format.{Format}
 use Rattle.an_rows.specs.declared.refusal.RowError.{RowError}
 use Rattle.an_rows.specs.declared.refusal.RowError.TheVariants.{Bytes}
 use Rattle.an_rows.proofs.WholeLemmas.{Fine, FineMembers, fine-none, fine-member, fine-text, fine-flag, fine-number, name-utf8, token-utf8, role-utf8, value-read}
@@ -79,7 +80,7 @@ groups-whole before (name ∷ names) h =
     let parts = and_parts (is_group_name name && not (is_among before name)) _ h in
     and_from _ _ (name-utf8 name (and_parts _ _ (and_parts _ _ (and_parts _ _ parts.0).0).0).0) (groups-whole (before ++ name ∷ []) names parts.1)
 
-texts-shallow : (names : List (List ℕ)) → items_depth (text_items names) ≡ 0
+pub texts-shallow : (names : List (List ℕ)) → items_depth (text_items names) ≡ 0
 texts-shallow [] = refl
 texts-shallow (name ∷ names) = ap (λ n. max 0 n) (texts-shallow names)
 
@@ -185,35 +186,35 @@ module _ (row : ReaderState) (named : is_name row.name ≡ true) (numbered : is_
 -- ---- any row
 
 -- a row whose members are whole, ascend and are read is read from its text
-pub read-from : (row : Row) (members : Members) → row_members row ≡ members → FineMembers members → ascend (names members) ≡ true
-    → row_in (table_of row) (object members) ≡ Ok row → row_of_text (table_of row) (row_text row) ≡ Ok row
+pub read-from : (format : Format) (row : Row) (members : Members) → row_members format row ≡ members → FineMembers members → ascend (names members) ≡ true
+    → row_in format (table_of row) (object members) ≡ Ok row → row_of_text format (table_of row) (row_text format row) ≡ Ok row
 unfolding row_of_text
-read-from row members same fine order read =
-    let value : value_of (row_text row) ≡ Ok (object members) = unfold row_text in ap (λ m. value_of (compact_text (object m))) same ∙ value-read members fine order in
-    next Bytes (result_ok (value_of (row_text row))) (object members) _ (ap result_ok value)
-    ∙ read_then (row_in (table_of row) (object members)) row _ read
-    ∙ cond-true _ _ _ ((bytes_eq-Decides (row_text row) (row_text row)).1 refl)
+read-from format row members same fine order read =
+    let value : value_of (row_text format row) ≡ Ok (object members) = unfold row_text in ap (λ m. value_of (compact_text (object m))) same ∙ value-read members fine order in
+    next Bytes (result_ok (value_of (row_text format row))) (object members) _ (ap result_ok value)
+    ∙ read_then (row_in format (table_of row) (object members)) row _ read
+    ∙ cond-true _ _ _ ((bytes_eq-Decides (row_text format row) (row_text format row)).1 refl)
 
-abbrev Reads : ReaderState → Type 0
-Reads row = row_of_text 1 (row_text (kept.Reader row)) ≡ Ok (kept.Reader row)
+abbrev Reads : Format → ReaderState → Type 0
+Reads format row = row_of_text format 1 (row_text format (kept.Reader row)) ≡ Ok (kept.Reader row)
 
-reads-reader : (row : ReaderState) (live : Option Reader) → row.live ≡ live → is_valid_reader_row row ≡ true → Reads row
+reads-reader : (format : Format) (row : ReaderState) (live : Option Reader) → row.live ≡ live → is_valid_reader_row row ≡ true → Reads format row
 unfolding is_valid_reader_row
-reads-reader row None is valid =
+reads-reader format row None is valid =
     let parts = and_parts (is_name row.name && is_number row.version && agrees row) _ valid in
     let first = and_parts (is_name row.name && is_number row.version) _ parts.0 in
     let both = and_parts (is_name row.name) _ first.0 in
-    read-from (kept.Reader row) (reader_tombstone_members row) (ap (λ live. elim live [ None ↦ reader_tombstone_members row | Some reader ↦ live_reader_members row reader ]) is)
+    read-from format (kept.Reader row) (reader_tombstone_members row) (ap (λ live. elim live [ None ↦ reader_tombstone_members row | Some reader ↦ live_reader_members row reader ]) is)
     (fine-reader_tombstone row both.0 both.1) (order-reader_tombstone row both.0 both.1)
     (read_then (reader_row_in (object (reader_tombstone_members row))) row _ (row-reader_tombstone row both.0 both.1 is))
-reads-reader row (Some reader) is valid =
+reads-reader format row (Some reader) is valid =
     let parts = and_parts (is_name row.name && is_number row.version && agrees row) _ valid in
     let first = and_parts (is_name row.name && is_number row.version) _ parts.0 in
     let both = and_parts (is_name row.name) _ first.0 in
     let lives = sym (ap (if_any is_valid_reader) is) ∙ parts.1 in
-    read-from (kept.Reader row) (live_reader_members row reader) (ap (λ live. elim live [ None ↦ reader_tombstone_members row | Some reader ↦ live_reader_members row reader ]) is)
+    read-from format (kept.Reader row) (live_reader_members row reader) (ap (λ live. elim live [ None ↦ reader_tombstone_members row | Some reader ↦ live_reader_members row reader ]) is)
     (fine-reader row reader is lives both.0 both.1) (order-reader row reader is lives both.0 both.1)
     (read_then (reader_row_in (object (live_reader_members row reader))) row _ (row-reader row reader is lives both.0 both.1 first.1))
 
-pub reader-reads-back : (row : ReaderState) → is_valid_reader_row row ≡ true → Reads row
-reader-reads-back row valid = reads-reader row row.live refl valid
+pub reader-reads-back : (format : Format) (row : ReaderState) → is_valid_reader_row row ≡ true → Reads format row
+reader-reads-back format row valid = reads-reader format row row.live refl valid

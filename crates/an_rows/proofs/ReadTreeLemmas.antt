@@ -19,6 +19,7 @@ use Rattle.an_state.specs.declared.entry.Row.TheVariants as kept
 use Rattle.an_rows.specs.RowTree.{moment_tree, live_manifest_members, manifest_tombstone_members, row_text}
 use Rattle.an_rows.specs.Valid.{is_manifest_group, is_sheet, if_any, is_valid_live_manifest, is_valid_manifest_row}
 use Rattle.an_rows.specs.RowRead.{then_read, name_in, flag_in, version_in, moment_in, manifest_group_in, tree_in, live_manifest_in, manifest_if_live, manifest_named, manifest_row_in, row_of_text}
+use Rattle.an_rows.specs.declared.format.Format.{Format}
 use Rattle.an_rows.specs.declared.refusal.RowError.TheVariants.{Bytes}
 use Rattle.an_rows.proofs.WholeLemmas.{Fine, FineMembers, fine-none, fine-member, fine-text, fine-flag, fine-number, fine-moment, fine-tree, fine-given, name-utf8, group-utf8}
 use Rattle.an_rows.proofs.ReadLemmas.{next, read_then, passing, number-small, moment-read, read-from}
@@ -120,27 +121,28 @@ module _ (row : ManifestState) (named : is_name row.name ≡ true) (numbered : i
 abbrev by_live_manifest : ManifestState → Option LiveManifest → Members
 by_live_manifest row live = elim live [ None ↦ manifest_tombstone_members row | Some its ↦ live_manifest_members row its ]
 
-reads-manifest : (row : ManifestState) (live : Option LiveManifest) → row.live ≡ live → is_valid_manifest_row row ≡ true
-    → row_of_text 2 (row_text (kept.Manifest row)) ≡ Ok (kept.Manifest row)
+reads-manifest : (format : Format) (row : ManifestState) (live : Option LiveManifest) → row.live ≡ live → is_valid_manifest_row row ≡ true
+    → row_of_text format 2 (row_text format (kept.Manifest row)) ≡ Ok (kept.Manifest row)
 unfolding is_valid_manifest_row
-reads-manifest row None is valid =
+reads-manifest format row None is valid =
     let parts = and_parts (is_name row.name && is_number row.version && is_manifest_group row.group) _ valid in
     let first = and_parts (is_name row.name && is_number row.version) _ parts.0 in
     let both = and_parts (is_name row.name) _ first.0 in
-    read-from (kept.Manifest row) (manifest_tombstone_members row) (ap (by_live_manifest row) is)
+    read-from format (kept.Manifest row) (manifest_tombstone_members row) (ap (by_live_manifest row) is)
     (fine-manifest_tombstone row both.0 both.1 first.1) (order-manifest_tombstone row both.0 both.1 first.1)
     (read_then (manifest_row_in (object (manifest_tombstone_members row))) row _ (row-manifest_tombstone row both.0 both.1 first.1 is))
-reads-manifest row (Some live) is valid =
+reads-manifest format row (Some live) is valid =
     let parts = and_parts (is_name row.name && is_number row.version && is_manifest_group row.group) _ valid in
     let first = and_parts (is_name row.name && is_number row.version) _ parts.0 in
     let both = and_parts (is_name row.name) _ first.0 in
     let lives = and_parts (is_moment live.created && if_any is_moment live.modified) _ (sym (ap (if_any is_valid_live_manifest) is) ∙ parts.1) in
     let moments = and_parts (is_moment live.created) _ lives.0 in
-    read-from (kept.Manifest row) (live_manifest_members row live) (ap (by_live_manifest row) is)
+    read-from format (kept.Manifest row) (live_manifest_members row live) (ap (by_live_manifest row) is)
     (fine-manifest row live.created live.tree both.0 both.1 first.1 moments.0 lives.1 live.modified moments.1)
     (order-manifest row live.created live.tree both.0 both.1 first.1 moments.0 lives.1 live.modified)
     (read_then (manifest_row_in (object (live_manifest_members row live))) row _
     (row-manifest row live.created live.tree both.0 both.1 first.1 moments.0 lives.1 live.modified moments.1 is))
 
-pub manifest-reads-back : (row : ManifestState) → is_valid_manifest_row row ≡ true → row_of_text 2 (row_text (kept.Manifest row)) ≡ Ok (kept.Manifest row)
-manifest-reads-back row valid = reads-manifest row row.live refl valid
+pub manifest-reads-back : (format : Format) (row : ManifestState) → is_valid_manifest_row row ≡ true
+    → row_of_text format 2 (row_text format (kept.Manifest row)) ≡ Ok (kept.Manifest row)
+manifest-reads-back format row valid = reads-manifest format row row.live refl valid

@@ -15,6 +15,7 @@ use Rattle.an_state.specs.declared.entry.Row.TheVariants as kept
 use Rattle.an_rows.specs.Cells.{cell_of, cells_from}
 use Rattle.an_rows.specs.Changes.{put, place_in, stands_in, all_but_first_stand, row_changes}
 use Rattle.an_rows.specs.Lent.{change_in}
+use Rattle.an_rows.specs.declared.format.Format.TheVariants.{Second}
 
 -- ---- a key among rows, behind a row that is put
 
@@ -91,7 +92,7 @@ module _ (s : State) where
       let here = keep other stands in
       let there = keep-with_row t row other here.0 in
       (there.0, there.1 ∙ here.1) in
-      ap₂ (λ place changes. put (cell_of place row) ∷ changes) (keep row parts.0).1 (changes-standing (with_row t row) rows more on parts.1)
+      ap₂ (λ place changes. put (cell_of Second place row) ∷ changes) (keep row parts.0).1 (changes-standing (with_row t row) rows more on parts.1)
 
   changes-settled : (rows more : List Row) → all_but_first_stand s rows ≡ true
       → row_changes s (rows ++ more) ≡ map (change_in s) rows ++ row_changes (with_rows rows s) more
@@ -111,25 +112,25 @@ module _ (s : State) where
   activities-settled row rows settled = activities-standing (with_row s row) rows settled
 
 -- activities are put one behind the other
-changes-activities : (s : State) (activities : List Activity) → row_changes s (map kept.Activity activities) ≡ map put (cells_from kept.Activity (length s.activities) activities)
+changes-activities : (s : State) (activities : List Activity) → row_changes s (map kept.Activity activities) ≡ map put (cells_from Second kept.Activity (length s.activities) activities)
 changes-activities s [] = refl
 changes-activities s (activity ∷ activities) =
-    ap (λ changes. put (cell_of (length s.activities) (kept.Activity activity)) ∷ changes)
+    ap (λ changes. put (cell_of Second (length s.activities) (kept.Activity activity)) ∷ changes)
     (changes-activities (with_row s (kept.Activity activity)) activities
-    ∙ ap (λ key. map put (cells_from kept.Activity key activities)) (length-append s.activities (activity ∷ [])))
+    ∙ ap (λ key. map put (cells_from Second kept.Activity key activities)) (length-append s.activities (activity ∷ [])))
 
 changes-of_rows : (s : State) (rows : List Row) (activities : List Activity) → all_but_first_stand s rows ≡ true
-    → row_changes s (rows ++ map kept.Activity activities) ≡ map (change_in s) rows ++ map put (cells_from kept.Activity (length (with_rows rows s).activities) activities)
+    → row_changes s (rows ++ map kept.Activity activities) ≡ map (change_in s) rows ++ map put (cells_from Second kept.Activity (length (with_rows rows s).activities) activities)
 changes-of_rows s rows activities settled =
     changes-settled s rows (map kept.Activity activities) settled
     ∙ ap (λ changes. map (change_in s) rows ++ changes) (changes-activities (with_rows rows s) activities)
 
 pub written_changes : (s : State) (rows : List Row) (activities : List Activity) (start : ℕ) (front changes : List Change)
     → all_but_first_stand s rows ≡ true → start ≡ length (with_rows rows s).activities → front ≡ map (change_in s) rows
-    → changes ≡ front ++ map put (cells_from kept.Activity start activities) → changes ≡ row_changes s (rows ++ map kept.Activity activities)
+    → changes ≡ front ++ map put (cells_from Second kept.Activity start activities) → changes ≡ row_changes s (rows ++ map kept.Activity activities)
 written_changes s rows activities start front changes settled counted in_front is =
-    is ∙ ap (λ l. l ++ map put (cells_from kept.Activity start activities)) in_front
-    ∙ ap (λ n. map (change_in s) rows ++ map put (cells_from kept.Activity n activities)) counted
+    is ∙ ap (λ l. l ++ map put (cells_from Second kept.Activity start activities)) in_front
+    ∙ ap (λ n. map (change_in s) rows ++ map put (cells_from Second kept.Activity n activities)) counted
     ∙ sym (changes-of_rows s rows activities settled)
 
 pub ruleset write_changes = (written_changes)

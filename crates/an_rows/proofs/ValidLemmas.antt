@@ -18,6 +18,7 @@ use Rattle.an_state.specs.declared.entry.Row.{Row}
 use Rattle.an_rows.specs.RowTree.{row_text}
 use Rattle.an_rows.specs.RowRead.{then_read, if_its_text}
 use Rattle.an_rows.specs.Valid.{if_any}
+use Rattle.an_rows.specs.declared.format.Format.{Format}
 use Rattle.an_rows.specs.declared.refusal.RowError.{RowError}
 use Rattle.an_rows.specs.declared.refusal.RowError.TheVariants.{Bytes}
 
@@ -100,10 +101,10 @@ pub value-whole : (bytes : List ℕ) (tree : Data) → result_ok (value_of bytes
 unfolding value_of
 value-whole bytes tree is = whole-found (json_of bytes) tree is
 
-pub its-text : (bytes : List ℕ) (row r : Row) → if_its_text bytes row ≡ Ok r → (row ≡ r) × (row_text r ≡ bytes)
-its-text bytes row r is = elim (cases_Bool (bytes_eq (row_text row) bytes)) [
+pub its-text : (format : Format) (bytes : List ℕ) (row r : Row) → if_its_text format bytes row ≡ Ok r → (row ≡ r) × (row_text format r ≡ bytes)
+its-text format bytes row r is = elim (cases_Bool (bytes_eq (row_text format row) bytes)) [
   | inl h ↦
       let same : row ≡ r = same_Ok {E = RowError} row r (sym (cond-true _ _ _ h) ∙ is) in
-      (same, ap row_text (sym same) ∙ (bytes_eq-Decides (row_text row) bytes).0 h)
+      (same, ap (row_text format) (sym same) ∙ (bytes_eq-Decides (row_text format row) bytes).0 h)
   | inr h ↦ let none : ◌≡◌ {A = Result Row RowError} (Err Bytes) (Ok r) = sym (cond-false _ _ _ h) ∙ is in absurd (cc)
 ]

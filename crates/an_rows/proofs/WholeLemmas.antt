@@ -31,7 +31,7 @@ use Rattle.an_rows.specs.RowTree.{given, role_text, moment_tree}
 
 -- ---- texts
 
-abbrev is_small : ℕ → Bool
+abbrev pub is_small : ℕ → Bool
 is_small b = nat_lt b 128
 
 small-ascii : (text : List ℕ) → list_all is_small text ≡ true → IsAscii text

@@ -1,6 +1,6 @@
 -- Which cells stand for a state, and the state that cells stand for.
-use Rattle.std.specs.Prelude.{ℕ, ◌+◌, List, [], ◌∷◌, ◌++◌, codes, Bool, ◌&&◌, ◌==◌, not, int_lt}
-use Rattle.std.specs.Prelude.{bytes_eq, if◌then◌else◌, Result, Ok, Err}
+use Rattle.std.specs.Prelude.{ℕ, ◌+◌, List, [], ◌∷◌, ◌++◌, Bool, ◌&&◌, ◌==◌, not, int_lt}
+use Rattle.std.specs.Prelude.{bytes_eq, if◌then◌else◌, unwrap_or, Option, Some, None, Result, Ok, Err}
 use Rattle.std.specs.List.{list_any}
 use Rattle.std.specs.Result.{result_ok}
 use Rattle.an_base.specs.Outcome.{passes, or_refuse}
@@ -16,6 +16,9 @@ use Rattle.an_state.specs.declared.entry.Row.{Row}
 use Rattle.an_state.specs.declared.entry.Row.TheVariants as kept
 use Rattle.an_rows.specs.RowTree.{table_of, row_text}
 use Rattle.an_rows.specs.RowRead.{row_of_text}
+use Rattle.an_rows.specs.Format.{format_named, format_text}
+use Rattle.an_rows.specs.declared.format.Format.{Format}
+use Rattle.an_rows.specs.declared.format.Format.TheVariants.{First, Second}
 
 -- ---- the cells of a state
 
@@ -25,34 +28,39 @@ pub record Place : Type 0 where
   pub key : ℕ
 
 -- the row's text, in the row's table
-abbrev pub cell_of : ℕ → Row → Cell
-cell_of key row = record { tab = table_of row; key = key; val = row_text row }
+abbrev pub cell_of : Format → ℕ → Row → Cell
+cell_of format key row = record { tab = table_of row; key = key; val = row_text format row }
 
 -- the rows of a list, of which the first has this key
-abbrev pub cells_from : {R : Type 0} → (R → Row) → ℕ → List R → List Cell
-cells_from kind key [] = []
-cells_from kind key (row ∷ rows) = cell_of key (kind row) ∷ cells_from kind (key + 1) rows
+abbrev pub cells_from : {R : Type 0} → Format → (R → Row) → ℕ → List R → List Cell
+cells_from format kind key [] = []
+cells_from format kind key (row ∷ rows) =
+    cell_of format key (kind row) ∷ cells_from format kind (key + 1) rows
 
 -- each row has its place in its list for its key
-unfoldable pub row_cells : State → List Cell
-row_cells s =
-    cells_from kept.Reader 0 s.readers
-    ++ (cells_from kept.Manifest 0 s.manifests
-    ++ (cells_from kept.Note 0 s.notes
-    ++ cells_from kept.Activity 0 s.activities))
+unfoldable pub row_cells : Format → State → List Cell
+row_cells format s =
+    cells_from format kept.Reader 0 s.readers
+    ++ (cells_from format kept.Manifest 0 s.manifests
+    ++ (cells_from format kept.Note 0 s.notes
+    ++ cells_from format kept.Activity 0 s.activities))
 
 -- the cell that says how the others are written
-unfoldable pub first_cell : Cell
-first_cell = record { tab = 0; key = 0; val = codes "{\"format\":1}" }
+unfoldable pub first_cell : Format → Cell
+first_cell format = record { tab = 0; key = 0; val = format_text format }
 
 -- it stands before all others, where there are any
-abbrev pub with_first : List Cell → List Cell
-with_first [] = []
-with_first (cell ∷ cells) = first_cell ∷ cell ∷ cells
+abbrev pub with_first : Format → List Cell → List Cell
+with_first format [] = []
+with_first format (cell ∷ cells) = first_cell format ∷ cell ∷ cells
 
--- the empty state has no cell
+-- the cells of a state in a format; the empty state has no cell
+abbrev pub cells_in : Format → State → List Cell
+cells_in format s = with_first format (row_cells format s)
+
+-- its cells as they are written today
 abbrev pub cells : State → List Cell
-cells s = with_first (row_cells s)
+cells s = cells_in Second s
 
 -- ---- the state of cells
 
@@ -89,26 +97,34 @@ if_next s cell row =
     if (cell.key == rows_before s row) && may_follow s row then Ok row else Err (place_of cell)
 
 -- the row of a cell behind those of the state
-unfoldable pub row_behind : State → Cell → Result Row Place
-row_behind s cell =
-    or_refuse (place_of cell) (result_ok (row_of_text cell.tab cell.val)) (if_next s cell)
+unfoldable pub row_behind : Format → State → Cell → Result Row Place
+row_behind format s cell =
+    or_refuse (place_of cell) (result_ok (row_of_text format cell.tab cell.val)) (if_next s cell)
 
 -- the state with the rows of cells behind its own, or the first cell that is damaged
-abbrev pub restored : State → List Cell → Result State Place
-restored s [] = Ok s
-restored s (cell ∷ cells) = elim (row_behind s cell) [
+abbrev pub restored : Format → State → List Cell → Result State Place
+restored format s [] = Ok s
+restored format s (cell ∷ cells) = elim (row_behind format s cell) [
   | Err place ↦ Err place
-  | Ok row ↦ restored (with_row s row) cells
+  | Ok row ↦ restored format (with_row s row) cells
 ]
 
-unfoldable pub is_first : Cell → Bool
-is_first cell =
-    (cell.tab == 0) && (cell.key == 0) && bytes_eq cell.val (codes "{\"format\":1}")
+-- the format that the first cell names
+unfoldable pub format_of : Cell → Option Format
+format_of cell =
+    if (cell.tab == 0) && (cell.key == 0) then format_named cell.val else None
+
+-- the format of cells: the one that the first names, and today's where there is none
+abbrev pub format_in : List Cell → Format
+format_in [] = Second
+format_in (first ∷ others) = unwrap_or (format_of first) Second
 
 -- The state that cells stand for, or the first cell that is damaged. Where there are any, the first
--- says how the others are written, and isn't the only one.
+-- names the format of the others, and isn't the only one.
 unfoldable pub state_of : List Cell → Result State Place
 state_of [] = Ok empty
 state_of (first ∷ []) = Err (place_of first)
-state_of (first ∷ cell ∷ cells) =
-    if is_first first then restored empty (cell ∷ cells) else Err (place_of first)
+state_of (first ∷ cell ∷ cells) = elim (format_of first) [
+  | None ↦ Err (place_of first)
+  | Some format ↦ restored format empty (cell ∷ cells)
+]

@@ -11,6 +11,7 @@ use Rattle.an_state.specs.declared.entry.Entry.TheVariants.{Restored, Done}
 use Rattle.an_state.specs.declared.entry.Row.{Row}
 use Rattle.an_state.specs.declared.entry.Row.TheVariants as kept
 use Rattle.an_rows.specs.Cells.{cell_of, cells, first_cell, has_key, rows_before}
+use Rattle.an_rows.specs.declared.format.Format.TheVariants.{Second}
 
 -- where the row with this key stands, or the next place where there is none
 abbrev pub place_among : {R : Type 0} → (R → Key) → R → List R → ℕ
@@ -35,12 +36,12 @@ rows_of (Done command moment by rows activities) = rows ++ map kept.Activity act
 -- each row is put in its place behind those before it
 abbrev pub row_changes : State → List Row → List Change
 row_changes s [] = []
-row_changes s (row ∷ rows) = put (cell_of (place_in s row) row) ∷ row_changes (with_row s row) rows
+row_changes s (row ∷ rows) = put (cell_of Second (place_in s row) row) ∷ row_changes (with_row s row) rows
 
 -- where there is no cell yet, the first of all is put too
 abbrev pub with_format : List Cell → List Change → List Change
 with_format [] [] = []
-with_format [] (change ∷ changes) = put first_cell ∷ change ∷ changes
+with_format [] (change ∷ changes) = put (first_cell Second) ∷ change ∷ changes
 with_format (cell ∷ others) changes = changes
 
 -- what an entry changes of the cells of a state

@@ -6,6 +6,7 @@ use Rattle.an_state.specs.State as state
 use Rattle.an_state.specs.declared.entry.Row.{Row}
 use Rattle.an_rows.specs.Cells.{cell_of}
 use Rattle.an_rows.specs.Changes.{place_in, put}
+use Rattle.an_rows.specs.declared.format.Format.TheVariants.{Second}
 use Rattle.an_rows.specs.declared.manifests.LiveManifest.{LiveManifest}
 use Rattle.an_rows.specs.declared.manifests.ReadManifest.{ReadManifest}
 use Rattle.an_rows.specs.declared.notes.ReadNote.{ReadNote}
@@ -28,7 +29,7 @@ note_read n = record {
 
 -- the row is put in its place in the state
 abbrev pub change_in : state.State → Row → Change
-change_in s row = put (cell_of (place_in s row) row)
+change_in s row = put (cell_of Second (place_in s row) row)
 
 abbrev pub has_no_row : state.State → Bool
 has_no_row s =

@@ -24,7 +24,10 @@ use Rattle.an_state.specs.State.{ReaderState, ManifestState, LiveManifest, NoteS
 use Rattle.an_state.specs.declared.activity.Activity.{Activity}
 use Rattle.an_state.specs.declared.entry.Row.{Row}
 use Rattle.an_state.specs.declared.entry.Row.TheVariants as kept
+use Rattle.an_rows.specs.Format.{inner_in, inner_name}
 use Rattle.an_rows.specs.RowTree.{row_text}
+use Rattle.an_rows.specs.declared.format.Format.{Format}
+use Rattle.an_policy.specs.declared.inner.Inner.{Inner}
 use Rattle.an_rows.specs.Valid.{is_tombstone_number, is_manifest_group, is_valid_audience}
 use Rattle.an_rows.specs.declared.refusal.RowError.{RowError}
 use Rattle.an_rows.specs.declared.refusal.RowError.TheVariants.{Table, Key, Bytes}
@@ -122,7 +125,7 @@ manifest_row_in tree =
 -- ---- an annotation
 
 -- a live one, whose manifest, group and creator are read
-unfoldable pub live_note_on : List ℕ → Group → List ℕ → Data → Result LiveNote RowError
+unfoldable pub live_note_on : List ℕ → Inner → List ℕ → Data → Result LiveNote RowError
 live_note_on manifest group creator tree =
     or_refuse Bytes (moment_in (codes "created") tree) (λ created.
     or_refuse Bytes (tree_in tree) (λ value.
@@ -136,17 +139,17 @@ live_note_on manifest group creator tree =
       tree = note;
     }))))
 
-unfoldable pub live_note_in : Data → Result LiveNote RowError
-live_note_in tree =
+unfoldable pub live_note_in : Format → Data → Result LiveNote RowError
+live_note_in format tree =
     or_refuse Bytes (name_in (codes "manifest") tree) (λ manifest.
-    or_refuse Bytes (group_in (codes "group") tree) (λ group.
+    or_refuse Bytes (inner_in format (inner_name format) tree) (λ group.
     or_refuse Bytes (creator_in tree) (λ creator.
     live_note_on manifest group creator tree)))
 
-unfoldable pub live_note_named : List ℕ → List ℕ → Data → Result NoteState RowError
-live_note_named owner name tree =
+unfoldable pub live_note_named : Format → List ℕ → List ℕ → Data → Result NoteState RowError
+live_note_named format owner name tree =
     or_refuse Bytes (version_in tree) (λ version.
-    then_read (live_note_in tree) (λ live.
+    then_read (live_note_in format tree) (λ live.
     Ok (record { owner = owner; name = name; version = version; live = Some live })))
 
 unfoldable pub note_tombstone_named : List ℕ → List ℕ → Data → Result NoteState RowError
@@ -154,37 +157,43 @@ note_tombstone_named owner name tree =
     or_refuse Bytes (tombstone_version_in tree) (λ version.
     Ok (record { owner = owner; name = name; version = version; live = None }))
 
-abbrev pub note_named : List ℕ → List ℕ → Bool → Data → Result NoteState RowError
-note_named owner name true tree = live_note_named owner name tree
-note_named owner name false tree = note_tombstone_named owner name tree
+abbrev pub note_named : Format → List ℕ → List ℕ → Bool → Data → Result NoteState RowError
+note_named format owner name true tree = live_note_named format owner name tree
+note_named format owner name false tree = note_tombstone_named owner name tree
 
-unfoldable pub note_row_in : Data → Result NoteState RowError
-note_row_in tree =
+unfoldable pub note_row_in : Format → Data → Result NoteState RowError
+note_row_in format tree =
     or_refuse Bytes (name_in (codes "owner") tree) (λ owner.
     or_refuse Bytes (name_in (codes "name") tree) (λ name.
     or_refuse Bytes (flag_in tree) (λ live.
-    note_named owner name live tree)))
+    note_named format owner name live tree)))
 
 -- ---- an activity
 
 abbrev pub if_audience : Option (List ℕ) → Audience → Result Audience RowError
 if_audience owner audience = if is_valid_audience owner audience then Ok audience else Err Bytes
 
-unfoldable pub audience_of : Option (List ℕ) → Data → Result Audience RowError
-audience_of owner tree =
-    or_refuse Bytes (group_in (codes "inner") tree) (λ inner.
+-- the audience that a value is whose inner groups are read
+unfoldable pub audience_with : Option (List ℕ) → Inner → Data → Result Audience RowError
+audience_with owner inner tree =
     or_refuse Bytes (group_in (codes "outer") tree) (λ outer.
     if_audience owner (record {
       outer = outer;
       inner = inner;
       owner = name_in (codes "owner") tree;
-    })))
+    }))
+
+unfoldable pub audience_of : Format → Option (List ℕ) → Data → Result Audience RowError
+audience_of format owner tree =
+    or_refuse Bytes (inner_in format (codes "inner") tree) (λ inner.
+    audience_with owner inner tree)
 
 -- the audience that a member is, where it stands there
-abbrev pub audience_if : Option (List ℕ) → Option Data → Result (Option Audience) RowError
-audience_if owner None = Ok None
-audience_if owner (Some tree) =
-    then_read (audience_of owner tree) (λ audience. Ok (Some audience))
+abbrev pub audience_if : Format → Option (List ℕ) → Option Data
+    → Result (Option Audience) RowError
+audience_if format owner None = Ok None
+audience_if format owner (Some tree) =
+    then_read (audience_of format owner tree) (λ audience. Ok (Some audience))
 
 -- somebody could read the object before, or can after
 abbrev pub if_seen : Activity → Result Activity RowError
@@ -192,10 +201,11 @@ if_seen activity =
     if is_some activity.before || is_some activity.after then Ok activity else Err Bytes
 
 -- of what has this owner, if any, and this name
-unfoldable pub activity_on : ℤ → Option (List ℕ) → List ℕ → Data → Result Activity RowError
-activity_on at owner name tree =
-    then_read (audience_if owner (get (codes "before") tree)) (λ before.
-    then_read (audience_if owner (get (codes "after") tree)) (λ after.
+unfoldable pub activity_on : Format → ℤ → Option (List ℕ) → List ℕ → Data
+    → Result Activity RowError
+activity_on format at owner name tree =
+    then_read (audience_if format owner (get (codes "before") tree)) (λ before.
+    then_read (audience_if format owner (get (codes "after") tree)) (λ after.
     if_seen (record {
       at = at;
       by = name_in (codes "by") tree;
@@ -205,32 +215,32 @@ activity_on at owner name tree =
       after = after;
     })))
 
-unfoldable pub activity_in : Data → Result Activity RowError
-activity_in tree =
+unfoldable pub activity_in : Format → Data → Result Activity RowError
+activity_in format tree =
     or_refuse Bytes (moment_in (codes "at") tree) (λ at.
     or_refuse Bytes (name_in (codes "name") tree) (λ name.
-    activity_on at (name_in (codes "owner") tree) name tree))
+    activity_on format at (name_in (codes "owner") tree) name tree))
 
 -- ---- a row
 
 -- the row of a table that a value says
-abbrev pub row_in : ℕ → Data → Result Row RowError
-row_in tab tree =
+abbrev pub row_in : Format → ℕ → Data → Result Row RowError
+row_in format tab tree =
     if tab == 1 then then_read (reader_row_in tree) (λ row. Ok (kept.Reader row))
     else (if tab == 2 then then_read (manifest_row_in tree) (λ row. Ok (kept.Manifest row))
-    else (if tab == 3 then then_read (note_row_in tree) (λ row. Ok (kept.Note row))
-    else (if tab == 4 then then_read (activity_in tree) (λ row. Ok (kept.Activity row))
+    else (if tab == 3 then then_read (note_row_in format tree) (λ row. Ok (kept.Note row))
+    else (if tab == 4 then then_read (activity_in format tree) (λ row. Ok (kept.Activity row))
     else Err Table)))
 
-abbrev pub if_its_text : List ℕ → Row → Result Row RowError
-if_its_text bytes row = if bytes_eq (row_text row) bytes then Ok row else Err Bytes
+abbrev pub if_its_text : Format → List ℕ → Row → Result Row RowError
+if_its_text format bytes row = if bytes_eq (row_text format row) bytes then Ok row else Err Bytes
 
 -- the row of a table whose text bytes are
-unfoldable pub row_of_text : ℕ → List ℕ → Result Row RowError
-row_of_text tab bytes =
+unfoldable pub row_of_text : Format → ℕ → List ℕ → Result Row RowError
+row_of_text format tab bytes =
     or_refuse Bytes (result_ok (value_of bytes)) (λ tree.
-    then_read (row_in tab tree) (λ row.
-    if_its_text bytes row))
+    then_read (row_in format tab tree) (λ row.
+    if_its_text format bytes row))
 
 abbrev pub is_table : ℕ → Bool
 is_table tab = nat_le 1 tab && nat_le tab 4
@@ -239,8 +249,8 @@ abbrev pub is_place : ℕ → Bool
 is_place key = nat_lt key (2 ^ 62)
 
 -- the row of a cell, or the first refusal
-unfoldable pub row_of_cell : ℕ → ℕ → List ℕ → Result Row RowError
-row_of_cell tab key bytes =
+unfoldable pub row_of_cell : Format → ℕ → ℕ → List ℕ → Result Row RowError
+row_of_cell format tab key bytes =
     if not (is_table tab) then Err Table
     else (if not (is_place key) then Err Key
-    else row_of_text tab bytes)
+    else row_of_text format tab bytes)

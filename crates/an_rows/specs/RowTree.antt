@@ -6,6 +6,9 @@ use Rattle.serde_json.specs.Data.{no_items, item, Members, no_members, member}
 use Rattle.serde_json.specs.Find.{of_integer}
 use Rattle.serde_json.specs.Written.{compact_text}
 use Rattle.an_policy.specs.Group.{group_text}
+pub use Rattle.an_rows.specs.Format.{text_items}
+use Rattle.an_rows.specs.Format.{inner_name, inner_tree}
+use Rattle.an_rows.specs.declared.format.Format.{Format}
 use Rattle.an_policy.specs.declared.group.Audience.{Audience}
 use Rattle.an_policy.specs.declared.reader.Reader.{Reader}
 use Rattle.an_policy.specs.declared.reader.Role.{Role}
@@ -42,10 +45,6 @@ moment_tree moment = number (of_integer moment)
 abbrev pub given : List ℕ → Option Data → Members → Members
 given name None others = others
 given name (Some value) others = member name value others
-
-abbrev pub text_items : List (List ℕ) → Items
-text_items [] = no_items
-text_items (text ∷ texts) = item (string text) (text_items texts)
 
 -- ---- a reader
 
@@ -108,11 +107,11 @@ live_note_ending row live =
     (member (codes "tree") live.tree
     (version_member row.version))
 
-unfoldable pub live_note_members : NoteState → LiveNote → Members
-live_note_members row live =
+unfoldable pub live_note_members : Format → NoteState → LiveNote → Members
+live_note_members format row live =
     member (codes "created") (moment_tree live.created)
     (text_member (codes "creator") live.creator
-    (text_member (codes "group") (group_text live.group)
+    (member (inner_name format) (inner_tree format live.group)
     (flag_member true
     (text_member (codes "manifest") live.manifest
     (given (codes "modified") (option_map moment_tree live.modified)
@@ -126,17 +125,17 @@ note_tombstone_members row =
     (text_member (codes "owner") row.owner
     (version_member row.version)))
 
-abbrev pub note_members : NoteState → Members
-note_members row = elim row.live [
+abbrev pub note_members : Format → NoteState → Members
+note_members format row = elim row.live [
   | None ↦ note_tombstone_members row
-  | Some live ↦ live_note_members row live
+  | Some live ↦ live_note_members format row live
 ]
 
 -- ---- an activity
 
-unfoldable pub audience_tree : Audience → Data
-audience_tree audience = object
-    (text_member (codes "inner") (group_text audience.inner)
+unfoldable pub audience_tree : Format → Audience → Data
+audience_tree format audience = object
+    (member (codes "inner") (inner_tree format audience.inner)
     (text_member (codes "outer") (group_text audience.outer)
     (given (codes "owner") (option_map string audience.owner) no_members)))
 
@@ -145,25 +144,25 @@ abbrev pub by_text : Option (List ℕ) → List ℕ
 by_text None = codes "-"
 by_text (Some name) = name
 
-unfoldable pub activity_members : Activity → Members
-activity_members activity =
-    given (codes "after") (option_map audience_tree activity.after)
+unfoldable pub activity_members : Format → Activity → Members
+activity_members format activity =
+    given (codes "after") (option_map (audience_tree format) activity.after)
     (member (codes "at") (moment_tree activity.at)
-    (given (codes "before") (option_map audience_tree activity.before)
+    (given (codes "before") (option_map (audience_tree format) activity.before)
     (text_member (codes "by") (by_text activity.by)
     (text_member (codes "name") activity.name
     (given (codes "owner") (option_map string activity.owner) no_members)))))
 
 -- ---- a row
 
-abbrev pub row_members : Row → Members
-row_members (kept.Reader row) = reader_members row
-row_members (kept.Manifest row) = manifest_members row
-row_members (kept.Note row) = note_members row
-row_members (kept.Activity row) = activity_members row
+abbrev pub row_members : Format → Row → Members
+row_members format (kept.Reader row) = reader_members row
+row_members format (kept.Manifest row) = manifest_members row
+row_members format (kept.Note row) = note_members format row
+row_members format (kept.Activity row) = activity_members format row
 
-abbrev pub row_tree : Row → Data
-row_tree row = object (row_members row)
+abbrev pub row_tree : Format → Row → Data
+row_tree format row = object (row_members format row)
 
-unfoldable pub row_text : Row → List ℕ
-row_text row = compact_text (row_tree row)
+unfoldable pub row_text : Format → Row → List ℕ
+row_text format row = compact_text (row_tree format row)

@@ -13,6 +13,11 @@ use Rattle.an_manifest.specs.Manifest.{is_kept}
 use Rattle.an_model.specs.Note.{note_refusal, is_bare}
 use Rattle.an_policy.specs.Audience.{is_among, is_group_name}
 use Rattle.an_policy.specs.Group.{is_valid_group}
+use Rattle.an_policy.specs.Inner.{is_valid_inner}
+use Rattle.an_policy.specs.declared.inner.Inner.{Inner}
+use Rattle.an_policy.specs.declared.inner.Inner.TheVariants as inner
+use Rattle.an_rows.specs.Format.{can_say}
+use Rattle.an_rows.specs.declared.format.Format.{Format}
 use Rattle.an_policy.specs.Reader.{is_user}
 use Rattle.an_policy.specs.declared.group.Audience.{Audience}
 use Rattle.an_policy.specs.declared.group.Group.{Group}
@@ -88,7 +93,7 @@ is_valid_manifest_row row =
 
 abbrev pub is_valid_live_note : LiveNote → Bool
 is_valid_live_note live =
-    is_name live.manifest && is_valid_group live.group && is_iri live.creator
+    is_name live.manifest && is_valid_inner live.group && is_iri live.creator
     && is_moment live.created && if_any is_moment live.modified && is_note live.tree
 
 abbrev pub is_number_of_note : Option LiveNote → ℕ → Bool
@@ -102,16 +107,16 @@ is_valid_note_row row =
 
 -- ---- an activity
 
-abbrev pub is_public : Group → Bool
-is_public Public = true
-is_public Private = false
-is_public (Named name) = false
+abbrev pub is_public : Inner → Bool
+is_public inner.Public = true
+is_public inner.Private = false
+is_public (inner.Names names) = false
 
 -- the inner part of an audience of a manifest, and of an annotation of this owner
 abbrev pub is_inner : Option (List ℕ) → Audience → Bool
 is_inner None audience = is_public audience.inner && is_none audience.owner
 is_inner (Some owner) audience =
-    is_valid_group audience.inner && passes (λ its. bytes_eq its owner) audience.owner
+    is_valid_inner audience.inner && passes (λ its. bytes_eq its owner) audience.owner
 
 -- an audience that a manifest can have, or an annotation of this owner
 unfoldable pub is_valid_audience : Option (List ℕ) → Audience → Bool
@@ -140,3 +145,19 @@ is_valid s =
     && list_all is_valid_manifest_row s.manifests
     && list_all is_valid_note_row s.notes
     && list_all is_valid_activity s.activities
+
+-- ---- which rows and states a format can say
+
+abbrev pub row_can : Format → Row → Bool
+row_can format (kept.Reader row) = true
+row_can format (kept.Manifest row) = true
+row_can format (kept.Note row) = if_any (λ live. can_say format live.group) row.live
+row_can format (kept.Activity row) =
+    if_any (λ audience. can_say format audience.inner) row.before
+    && if_any (λ audience. can_say format audience.inner) row.after
+
+-- the first format: each annotation and each audience has one inner group
+abbrev pub state_can : Format → State → Bool
+state_can format s =
+    list_all (λ row. row_can format (kept.Note row)) s.notes
+    && list_all (λ row. row_can format (kept.Activity row)) s.activities

@@ -7,7 +7,9 @@ ghost use Rattle.an_rows.specs.Changes.{all_but_first_stand, changes_of, is_sett
 ghost use Rattle.an_rows.specs.Changes.{row_changes, rows_of, with_format};
 ghost use Rattle.an_rows.specs.Lent.{change_in, has_no_row};
 ghost use Rattle.an_rows.specs.RowTree.{table_of};
+ghost use Rattle.an_rows.specs.declared.format.Format.{Format};
 
+use crate::format::{Format, format_text};
 use crate::row::{activity_text, row_text};
 use an_base::{Bytes, Shared, TryCopy};
 use an_keep::Change;
@@ -48,7 +50,7 @@ fn has_no_row(book: &Book) -> bool
 }
 
 fn behind_first_cell(alloc: Global, changes: Vec<Change>) -> Result<Vec<Change>, AllocError>
-    ensures changes { IfOk result (λ v. v.items ≡ put first_cell ∷ changes.items) }
+    ensures changes { IfOk result (λ v. v.items ≡ put (first_cell Format.Second) ∷ changes.items) }
 {
     let first = first_change(alloc)?;
     let mut changes = changes;
@@ -58,10 +60,10 @@ fn behind_first_cell(alloc: Global, changes: Vec<Change>) -> Result<Vec<Change>,
 
 /// Puts the cell that says how the others are written.
 #[tactic(auto, unfolding(crate::specs::Cells::first_cell))]
-fn first_change(alloc: Global) -> Result<Change, AllocError>
-    ensures change { IfOk result (λ change. change ≡ put first_cell) }
+pub(crate) fn first_change(alloc: Global) -> Result<Change, AllocError>
+    ensures change { IfOk result (λ change. change ≡ put (first_cell Format.Second)) }
 {
-    let text = Bytes::new(alloc, b"{\"format\":1}")?;
+    let text = Bytes::new(alloc, format_text(Format::Second).as_bytes())?;
     Ok(Change {
         tab: 0,
         key: 0,
@@ -128,7 +130,7 @@ fn change_of(alloc: Global, row: &Row, book: &Book) -> Result<Change, AllocError
     ensures change { IfOk result (λ change. change ≡ change_in book.now.state row.now) }
 {
     let key = place_in(row, book)?;
-    let text = row_text(alloc, row)?;
+    let text = row_text(alloc, Format::Second, row)?;
     Ok(Change {
         tab: table_of(row),
         key,
@@ -220,7 +222,7 @@ fn activities_with(row: &Row, book: &Book) -> u64
 }
 
 /// Puts activities one behind the other, the first in the place `start`.
-fn push_activities(
+pub(crate) fn push_activities(
     alloc: Global,
     changes: Vec<Change>,
     start: u64,
@@ -228,7 +230,7 @@ fn push_activities(
 ) -> Result<Vec<Change>, AllocError>
     requires bound { start ≤ 2 ^ 63 }
     ensures changes { IfOk result (λ v. v.items
-        ≡ changes.items ++ map put (cells_from Row.Activity start activities.now)) }
+        ≡ changes.items ++ map put (cells_from Format.Second Row.Activity start activities.now)) }
 {
     let mut changes = changes;
     let mut key = start;
@@ -242,7 +244,7 @@ fn push_activities(
 
 fn change_of_activity(alloc: Global, key: u64, activity: &Activity) -> Result<Change, AllocError>
     ensures change { IfOk result
-        (λ change. change ≡ put (cell_of key (Row.Activity activity.now))) }
+        (λ change. change ≡ put (cell_of Format.Second key (Row.Activity activity.now))) }
 {
     let text = activity_text(alloc, activity)?;
     Ok(Change {

@@ -9,7 +9,7 @@ ghost use Rattle.an_base.specs.Outcome.{Gives, only_if};
 ghost use Rattle.an_base.specs.Tree.{is_tree};
 ghost use Rattle.an_state.specs.Commands.{is_number};
 ghost use Rattle.an_policy.specs.Audience.{is_group_name};
-ghost use Rattle.an_policy.specs.Group.{group_named, is_valid_group};
+ghost use Rattle.an_policy.specs.Group.{group_named};
 ghost use Rattle.an_policy.specs.Reader.{is_user};
 ghost use Rattle.an_rows.specs.RowRead.{name_in, flag_in, number_in, version_in};
 ghost use Rattle.an_rows.specs.RowRead.{tombstone_version_in, moment_in, group_in};
@@ -201,17 +201,6 @@ pub(crate) fn is_manifest_group(group: &Group) -> bool
     match group {
         Group::Public => true,
         Group::Private => false,
-        Group::Named(name) => is_group_name(name),
-    }
-}
-
-/// Whether an annotation can be in the group. Takes no memory.
-pub(crate) fn is_valid_group(group: &Group) -> bool
-    ensures is { result ≡ is_valid_group group.now }
-{
-    match group {
-        Group::Public => true,
-        Group::Private => true,
         Group::Named(name) => is_group_name(name),
     }
 }

@@ -7,54 +7,75 @@ ghost use Rattle.an_base.specs.Value.{value_of};
 ghost use Rattle.an_base.specs.Write.{commas};
 ghost use Rattle.an_rows.specs.RowRead.{row_in, if_its_text, row_of_text, row_of_cell};
 ghost use Rattle.an_rows.specs.RowTree.{row_members, row_text};
+ghost use Rattle.an_rows.specs.declared.format.Format.{Format};
 
 use crate::activities::{activity_in, push_activity};
+use crate::format::Format;
 use crate::manifests::{manifest_row_in, push_manifest};
 use crate::notes::{note_row_in, push_note};
 use crate::readers::{push_reader, reader_row_in};
 use crate::refusal::RowError;
 use an_base::{Bytes, Shared, TreeError, close_members, read_value};
-use an_state::{Activity, Row};
+use an_state::{Activity, NoteRow, Row};
 use serde_json::Value;
 use std::alloc::{AllocError, Global};
 
-/// The one text of a row. The text of a tree that it keeps goes into it as it is.
+/// The one text of a row in a format. The text of a tree that it keeps goes into it as it is.
+/// Written in the first format a row reads back only where each annotation and audience in it has
+/// one inner group.
 #[tactic(auto, unfolding(crate::specs::RowTree::row_text))]
-pub fn row_text(alloc: Global, row: &Row) -> Result<Bytes, AllocError>
-    ensures text { IfOk result (λ text. text ≡ row_text row.now) }
+pub fn row_text(alloc: Global, format: Format, row: &Row) -> Result<Bytes, AllocError>
+    ensures text { IfOk result (λ text. text ≡ row_text format row.now) }
 {
-    let out = push_row(alloc, Vec::new(alloc), row)?;
+    let out = push_row(alloc, format, Vec::new(alloc), row)?;
     let out = close_members(out, 0)?;
     Ok(Bytes::from_vec(out))
 }
 
-/// The text of an activity's row.
+/// The text of an annotation's row as it is written today.
+#[tactic(auto, unfolding(crate::specs::RowTree::row_text))]
+pub(crate) fn note_text(alloc: Global, row: &NoteRow) -> Result<Bytes, AllocError>
+    ensures text { IfOk result (λ text. text ≡ row_text Format.Second (Row.Note row.now)) }
+{
+    let out = push_note(alloc, Format::Second, Vec::new(alloc), row)?;
+    let out = close_members(out, 0)?;
+    Ok(Bytes::from_vec(out))
+}
+
+/// The text of an activity's row as it is written today.
 #[tactic(auto, unfolding(crate::specs::RowTree::row_text))]
 pub(crate) fn activity_text(alloc: Global, activity: &Activity) -> Result<Bytes, AllocError>
-    ensures text { IfOk result (λ text. text ≡ row_text (Row.Activity activity.now)) }
+    ensures text { IfOk result (λ text. text
+        ≡ row_text Format.Second (Row.Activity activity.now)) }
 {
-    let out = push_activity(Vec::new(alloc), activity)?;
+    let out = push_activity(alloc, Format::Second, Vec::new(alloc), activity)?;
     let out = close_members(out, 0)?;
     Ok(Bytes::from_vec(out))
 }
 
 /// Writes the members of a row, each behind a comma.
-fn push_row(alloc: Global, out: Vec<u8>, row: &Row) -> Result<Vec<u8>, AllocError>
-    ensures text { IfOk result (λ v. v.items ≡ out.items ++ commas (row_members row.now)) }
+fn push_row(alloc: Global, format: Format, out: Vec<u8>, row: &Row) -> Result<Vec<u8>, AllocError>
+    ensures text { IfOk result (λ v. v.items ≡ out.items ++ commas (row_members format row.now)) }
 {
     match row {
         Row::Reader(row) => push_reader(alloc, out, row),
         Row::Manifest(row) => push_manifest(out, row.get()),
-        Row::Note(row) => push_note(out, row.get()),
-        Row::Activity(activity) => push_activity(out, activity.get()),
+        Row::Note(row) => push_note(alloc, format, out, row.get()),
+        Row::Activity(activity) => push_activity(alloc, format, out, activity.get()),
     }
 }
 
-/// The row of a cell, or the first of the refusals in their order. The bytes have to be the row's
-/// one text, to the last byte.
+/// The row of a cell in a format, or the first of the refusals in their order. The bytes have to be
+/// the row's one text in the format, to the last byte.
 #[tactic(auto, unfolding(crate::specs::RowRead::row_of_cell))]
-pub fn read_row(alloc: Global, tab: u8, key: u64, bytes: &[u8]) -> Result<Row, RowError>
-    ensures row { Gives (λ r. r) RowError.Memory result (row_of_cell tab key bytes.now) }
+pub fn read_row(
+    alloc: Global,
+    format: Format,
+    tab: u8,
+    key: u64,
+    bytes: &[u8],
+) -> Result<Row, RowError>
+    ensures row { Gives (λ r. r) RowError.Memory result (row_of_cell format tab key bytes.now) }
 {
     if tab < 1 || tab > 4 {
         return Err(RowError::Table);
@@ -62,16 +83,16 @@ pub fn read_row(alloc: Global, tab: u8, key: u64, bytes: &[u8]) -> Result<Row, R
     if key >= 4_611_686_018_427_387_904 {
         return Err(RowError::Key);
     }
-    row_of_text(alloc, tab, bytes)
+    row_of_text(alloc, format, tab, bytes)
 }
 
 #[tactic(auto, unfolding(crate::specs::RowRead::row_of_text))]
-fn row_of_text(alloc: Global, tab: u8, bytes: &[u8]) -> Result<Row, RowError>
-    ensures row { Gives (λ r. r) RowError.Memory result (row_of_text tab bytes.now) }
+fn row_of_text(alloc: Global, format: Format, tab: u8, bytes: &[u8]) -> Result<Row, RowError>
+    ensures row { Gives (λ r. r) RowError.Memory result (row_of_text format tab bytes.now) }
 {
     let tree = value_in(alloc, bytes)?;
-    let row = row_in(alloc, tab, &tree)?;
-    if_its_text(alloc, bytes, row)
+    let row = row_in(alloc, format, tab, &tree)?;
+    if_its_text(alloc, format, bytes, row)
 }
 
 fn value_in(alloc: Global, bytes: &[u8]) -> Result<Value, RowError>
@@ -86,10 +107,10 @@ fn value_in(alloc: Global, bytes: &[u8]) -> Result<Value, RowError>
 }
 
 /// The row, where these bytes are its text.
-fn if_its_text(alloc: Global, bytes: &[u8], row: Row) -> Result<Row, RowError>
-    ensures { Gives (λ r. r) RowError.Memory result (if_its_text bytes.now row) }
+fn if_its_text(alloc: Global, format: Format, bytes: &[u8], row: Row) -> Result<Row, RowError>
+    ensures { Gives (λ r. r) RowError.Memory result (if_its_text format bytes.now row) }
 {
-    match row_text(alloc, &row) {
+    match row_text(alloc, format, &row) {
         Ok(text) => if text.as_slice() == bytes {
             Ok(row)
         } else {
@@ -100,8 +121,8 @@ fn if_its_text(alloc: Global, bytes: &[u8], row: Row) -> Result<Row, RowError>
 }
 
 /// The row of a table that a value says.
-fn row_in(alloc: Global, tab: u8, tree: &Value) -> Result<Row, RowError>
-    ensures { Gives (λ r. r) RowError.Memory result (row_in tab (view tree.now)) }
+fn row_in(alloc: Global, format: Format, tab: u8, tree: &Value) -> Result<Row, RowError>
+    ensures { Gives (λ r. r) RowError.Memory result (row_in format tab (view tree.now)) }
 {
     match tab {
         1 => {
@@ -113,11 +134,11 @@ fn row_in(alloc: Global, tab: u8, tree: &Value) -> Result<Row, RowError>
             Ok(Row::Manifest(shared(alloc, row)?))
         }
         3 => {
-            let row = note_row_in(alloc, tree)?;
+            let row = note_row_in(alloc, format, tree)?;
             Ok(Row::Note(shared(alloc, row)?))
         }
         4 => {
-            let activity = activity_in(alloc, tree)?;
+            let activity = activity_in(alloc, format, tree)?;
             Ok(Row::Activity(shared(alloc, activity)?))
         }
         _ => Err(RowError::Table),

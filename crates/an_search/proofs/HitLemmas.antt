@@ -1,8 +1,7 @@
 -- Hits are found among the candidates.
-use Rattle.std.proofs.Common.{◌≡◌, ℕ, ◌+◌, ◌-◌, List, [], ◌∷◌, length, drop, min, Bool, true, false, cond, ◌&&◌, not, Some, None, Result, Ok, Err, OnOk, refl, sym, ap, ◌∙◌, ⊎_elim, arith}
+use Rattle.std.proofs.Common.{◌≡◌, ℕ, List, [], ◌∷◌, length, Bool, true, false, ◌&&◌, not, Some, None, refl, sym, ap, ◌∙◌, ⊎_elim, arith}
 use Rattle.std.proofs.lemmas.Bool.{and_from, and_parts, both_ways, cases_Bool, not_from_false, or_cases, or_right}
 use Rattle.std.proofs.lemmas.Bool.Decides.{nat_tests}
-use Rattle.std.proofs.lemmas.List.{length-take, length-drop}
 use Rattle.std.proofs.lemmas.Slice.Eq.{bytes_eq-Decides}
 use Rattle.std.specs.Prelude.{bytes_eq, filter, ◌==◌}
 use Rattle.std.specs.List.{list_all}
@@ -15,20 +14,15 @@ use Rattle.an_state.specs.State.{State, NoteState, LiveNote}
 use Rattle.an_state.specs.Terms.{has_term}
 use Rattle.an_state.specs.Places.{places_from, Rises}
 use Rattle.an_state.specs.View.{view_of, is_on, shows_note, readable_places}
-use Rattle.an_search.specs.Cost.{Takes, candidates, page_cost}
+use Rattle.an_list.proofs.ListedLemmas.{filter_same}
+use Rattle.an_list.proofs.ReadableLemmas.{filter_both, length-places, readable_count}
+use Rattle.an_query.specs.declared.dates.DateRange.{DateRange}
+use Rattle.an_search.specs.Cost.{candidates}
 use Rattle.an_search.specs.Found.{candidate_places, is_first, is_suited_at, is_wanted_at, suits, with_terms}
-use Rattle.an_search.specs.Page.{lacks_page, page_count, page_of, start_of}
 use Rattle.an_search.specs.Wanted.{fits_but_terms, matches, wants_terms_alone}
-use Rattle.an_search.specs.declared.dates.DateRange.{DateRange}
 use Rattle.an_search.specs.declared.wanted.Wanted.{Wanted}
-use Rattle.an_search.proofs.PlaceLemmas.{common_places, length-places, same_places, tested_places}
+use Rattle.an_search.proofs.PlaceLemmas.{common_places, same_places, tested_places}
 use Rattle.an_search.proofs.SetLemmas.{all_from, all_passes, first_text, same_bool}
-use Rattle.an_search.proofs.ViewLemmas.{filter_both, filter_same}
-
--- what holds anyway holds where a call succeeds
-pub on_ok : {A E : Type 0} {Fact : Type 0} (result : Result A E) → Fact → OnOk result Fact
-on_ok (Ok x) fact = fact
-on_ok (Err e) fact = tt
 
 -- ---- where terms alone are wanted
 
@@ -173,49 +167,14 @@ module _ (s : State) (who : Identity) (manifest : List ℕ) where
   none_having [] = refl
   none_having (term ∷ terms) = none_having terms
 
-  -- there are as many as the view tells
-  pub readable_count : length (readable_places s who manifest) ≡ length (filter (is_on manifest) (view_of s who).notes)
-  readable_count = length-places may 0 s.notes ∙ ap length (sym (filter_both (is_on manifest) (shows_note s who) s.notes))
-
   pub candidate_count : (terms : List (List ℕ)) → length (candidate_places s who manifest terms) ≡ length (candidates (view_of s who) manifest terms)
   unfolding candidates
-  candidate_count [] = readable_count
+  candidate_count [] = readable_count s who manifest
   candidate_count (term ∷ terms) =
       length-places (has term) 0 s.notes
       ∙ ap length (filter_same (has term) (λ row. has_term term row && may row) (λ row. either_first (may row) (has_term term row)) s.notes
       ∙ sym (filter_both (has_term term) may s.notes)
       ∙ ap (filter (has_term term)) (sym (filter_both (is_on manifest) (shows_note s who) s.notes)))
-
--- ---- pages
-
--- a page of as many has as many
-pub page_count-same : {A B : Type 0} (page size : ℕ) (first : List A) (second : List B) → length first ≡ length second → length (page_of page size first) ≡ length (page_of page size second)
-page_count-same page size first second same =
-    length-take size (drop (start_of page size) first)
-    ∙ ap (min size) (length-drop (start_of page size) first ∙ ap (λ n. n - start_of page size) same ∙ sym (length-drop (start_of page size) second))
-    ∙ sym (length-take size (drop (start_of page size) second))
-
-pub page_cost-same : {A B : Type 0} (page size : ℕ) (first : List A) (second : List B) → length first ≡ length second → page_cost page size first ≡ page_cost page size second
-page_cost-same page size first second same = rw (same, page_count-same page size first second same) refl
-
-module _ {A : Type 0} (page size : ℕ) (found : List A) (number most : ℕ) (size_is : most ≡ size) (page_is : number ≡ page) where
-  lacks : lacks_page (page_count (length found) size) page ≡ lacks_page (page_count (length found) most) number
-  lacks = ap (λ n. lacks_page (page_count (length found) n) page) (sym size_is) ∙ ap (λ n. lacks_page (page_count (length found) most) n) (sym page_is)
-
-  pub cost_past : lacks_page (page_count (length found) most) number ≡ true → page_cost page size found ≡ 0
-  cost_past past = ap (λ b. cond b 0 (length (page_of page size found))) (lacks ∙ past)
-
-  pub cost_shown : lacks_page (page_count (length found) most) number ≡ false → page_cost page size found ≡ length (page_of number most found)
-  cost_shown there =
-      ap (λ b. cond b 0 (length (page_of page size found))) (lacks ∙ there)
-      ∙ ap (λ n. length (page_of page n found)) (sym size_is)
-      ∙ ap (λ n. length (page_of n most found)) (sym page_is)
-
--- one cost and then another
-pub takes_both : {A E : Type 0} (memory : E) (result : Result A E) (old middle new first more rest : ℕ) → Takes memory result middle new more → middle ≡ old + first → more ≡ rest
-    → Takes memory result old new (first + rest)
-takes_both memory (Ok x) old middle new first more rest second one same = omega (arith, second, one, same)
-takes_both memory (Err e) old middle new first more rest second one same = λ other. let is = second other in omega (arith, is, one, same)
 
 -- ---- places in order
 

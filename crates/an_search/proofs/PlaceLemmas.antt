@@ -1,13 +1,10 @@
 -- The places at which tests pass.
-use Rattle.std.proofs.Common.{◌≡◌, ℕ, suc, ◌+◌, ◌<◌, List, [], ◌∷◌, ◌++◌, length, Bool, true, false, cond, ◌&&◌, ◌==◌, Some, refl, ap, subst, ◌∙◌, arith, append_assoc, length-append}
+use Rattle.std.proofs.Common.{◌≡◌, ℕ, ◌+◌, ◌<◌, List, [], ◌∷◌, ◌++◌, length, Bool, true, false, cond, ◌&&◌, ◌==◌, refl, subst, ◌∙◌, arith, append_assoc, length-append}
 use Rattle.std.proofs.lemmas.Bool.Decides.{nat_tests}
 use Rattle.std.specs.Prelude.{filter, slice_get}
 use Rattle.an_base.specs.Outcome.{passes}
 use Rattle.an_state.specs.Places.{has, places_from}
-
-pub slice_get-append : {A : Type 0} (before : List A) (row : A) (rows : List A) → slice_get (before ++ row ∷ rows) (length before) ≡ Some row
-slice_get-append [] row rows = refl
-slice_get-append (x ∷ before) row rows = slice_get-append before row rows
+use Rattle.an_list.proofs.ReadableLemmas.{slice_get-append}
 
 -- ---- tests
 
@@ -15,16 +12,6 @@ slice_get-append (x ∷ before) row rows = slice_get-append before row rows
 pub same_places : {A : Type 0} (p q : A → Bool) (place : ℕ) (rows : List A) → ((row : A) → p row ≡ q row) → places_from p place rows ≡ places_from q place rows
 same_places p q place [] same = refl
 same_places p q place (row ∷ rows) same = rw (same row, same_places p q (place + 1) rows same) refl
-
--- there are as many places as rows that pass
-pub length-places : {A : Type 0} (test : A → Bool) (place : ℕ) (rows : List A) → length (places_from test place rows) ≡ length (filter test rows)
-length-places test place [] = refl
-length-places test place (row ∷ rows) =
-    let next = length-places test (place + 1) rows in
-    elim (test row) as (λ b. length (cond b (place ∷ places_from test (place + 1) rows) (places_from test (place + 1) rows)) ≡ length (cond b (row ∷ filter test rows) (filter test rows))) [
-      | true ↦ ap suc next
-      | false ↦ next
-    ]
 
 -- of the places behind others, those whose rows pass a test too
 pub tested_places : {A : Type 0} (test kept : A → Bool) (before rows : List A)

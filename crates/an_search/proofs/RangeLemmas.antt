@@ -1,5 +1,5 @@
 -- Ranges of moments in order, and where a moment is looked for among them.
-use Rattle.std.proofs.Common.{◌≡◌, ℕ, zero, suc, ℤ, ◌+◌, ◌<◌, ◌≤◌, List, [], ◌∷◌, length, get_or, Bool, true, false, ◌&&◌, ◌||◌, Some, None, int_le, int_lt, refl, sym, ap, ◌∙◌, arith}
+use Rattle.std.proofs.Common.{◌≡◌, ℕ, zero, suc, ℤ, ◌<◌, ◌≤◌, List, [], ◌∷◌, length, get_or, Bool, true, false, ◌&&◌, ◌||◌, Some, None, int_le, int_lt, refl, sym, ap, ◌∙◌, arith}
 use Rattle.std.proofs.lemmas.Bool.{and_from, and_parts, both_ways}
 use Rattle.std.proofs.lemmas.Cmp.{int_cmp_total}
 use Rattle.std.proofs.lemmas.Int.{clamps, ints}
@@ -11,8 +11,8 @@ use Rattle.std.specs.Ordering.{int_cmp, is_lt}
 use Rattle.std.specs.Prelude.{slice_get}
 use Rattle.an_base.specs.Outcome.{passes}
 use Rattle.an_search.specs.Ordered.{Joins, are_ordered, begin_in_order, follows, joined_from}
-use Rattle.an_search.specs.Dates.{is_in}
-use Rattle.an_search.specs.declared.dates.DateRange.{DateRange}
+use Rattle.an_query.specs.Dates.{is_in}
+use Rattle.an_query.specs.declared.dates.DateRange.{DateRange}
 
 -- ---- moments
 

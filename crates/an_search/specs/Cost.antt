@@ -1,20 +1,14 @@
 -- How many steps a search takes. A step is one fetch of an annotation's row. The caller's view tells
 -- the number, so that nothing hidden does.
-use Rattle.std.specs.Prelude.{◌≡◌, ℕ, ◌+◌, List, [], ◌∷◌, length, filter, is_some}
-use Rattle.std.specs.Prelude.{if◌then◌else◌, Result, MatchResult}
+use Rattle.std.specs.Prelude.{ℕ, ◌+◌, List, [], ◌∷◌, length, filter, is_some, if◌then◌else◌}
 use Rattle.an_state.specs.State.{NoteState}
 use Rattle.an_state.specs.Terms.{has_term}
 use Rattle.an_state.specs.View.{View, is_on, manifest_in}
-use Rattle.an_search.specs.Page.{lacks_page, page_count, page_of}
-use Rattle.an_search.specs.Query.{QueryRecord}
+use Rattle.an_list.specs.Cost.{page_cost}
+use Rattle.an_query.specs.Query.{QueryRecord}
 use Rattle.an_search.specs.Search.{hits}
-use Rattle.an_search.specs.Site.{Site}
+use Rattle.an_list.specs.Site.{Site}
 use Rattle.an_search.specs.Wanted.{wanted_of, wanted_terms}
-
--- the call took so many steps. Where memory ran out it may have taken fewer
-abbrev pub Takes : {A E : Type 0} → E → Result A E → ℕ → ℕ → ℕ → Type 0
-Takes memory result old new cost =
-    MatchResult result (λ _. new ≡ old + cost) (λ e. ¬ (e ≡ memory) → new ≡ old + cost)
 
 -- the annotations of the view on the manifest that have the first of the terms, or all of them
 -- where there is no term
@@ -26,12 +20,6 @@ candidates view manifest (term ∷ terms) =
 -- each of them is fetched, to see whether it is found
 abbrev pub find_cost : View → List ℕ → QueryRecord → ℕ
 find_cost view manifest query = length (candidates view manifest (wanted_terms query.q))
-
--- of a list each item is fetched that stands on the page of this number; past the last page none does
-abbrev pub page_cost : {A : Type 0} → ℕ → ℕ → List A → ℕ
-page_cost page size found =
-    if lacks_page (page_count (length found) size) page then 0
-    else length (page_of page size found)
 
 -- the steps of a search on a manifest that the caller may read
 abbrev pub shown_cost : Site → View → List ℕ → QueryRecord → ℕ

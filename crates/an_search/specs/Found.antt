@@ -1,20 +1,14 @@
--- For private clauses: what was found, and what of it was written so far.
-use Rattle.std.specs.Prelude.{◌≡◌, ℕ, List, [], ◌∷◌, map, length, Bool, true, false, Some}
+-- For private clauses: what was found, and how.
+use Rattle.std.specs.Prelude.{ℕ, List, [], ◌∷◌, Bool, true, false}
 use Rattle.std.specs.Prelude.{bytes_eq, filter, fold, slice_get}
-use Rattle.std.specs.List.{filter_map}
 use Rattle.std.specs.Option.{option_map_or}
-use Rattle.serde_json.specs.View.{items_of}
 use Rattle.an_base.specs.Outcome.{passes}
-use Rattle.an_base.specs.Write.{item_commas}
 use Rattle.an_policy.specs.Audience.{Identity}
 use Rattle.an_slots.specs.Places.{has}
 use Rattle.an_state.specs.State.{State, NoteState}
 use Rattle.an_state.specs.Terms.{places_with_term}
 use Rattle.an_state.specs.View.{readable_places}
-use Rattle.an_search.specs.Listed.{listed_note}
-use Rattle.an_search.specs.Search.{marks_of}
 use Rattle.an_search.specs.Wanted.{fits_but_terms, matches}
-use Rattle.an_search.specs.declared.items.Listed.{Listed}
 use Rattle.an_search.specs.declared.wanted.Wanted.{Wanted}
 
 -- there is an annotation at the place, and it is wanted
@@ -49,17 +43,3 @@ with_term s who manifest places term =
 -- and those where they have each of the terms
 abbrev pub with_terms : State → Identity → List ℕ → List ℕ → List (List ℕ) → List ℕ
 with_terms s who manifest places terms = fold (with_term s who manifest) places terms
-
--- ---- what is written
-
--- these annotations stand at these places
-abbrev pub StandAt : List NoteState → List ℕ → List NoteState → Type 0
-StandAt notes places rows = map (slice_get notes) places ≡ map Some rows
-
--- these annotations were written as items, each behind a comma, and so were their marks for these
--- terms on this page
-pub record HasListed (base : List ℕ) (terms : List (List ℕ)) (page : List ℕ)
-    (rows : List NoteState) (listed : Listed) : Type 0 where
-  pub items : listed.items.items ≡ item_commas (items_of (filter_map (listed_note base) rows))
-  pub marks : listed.marks.text.items ≡ item_commas (items_of (marks_of base terms page 1 rows))
-  pub count : listed.marks.count ≡ length (marks_of base terms page 1 rows)

@@ -2,8 +2,8 @@
 use Rattle.std.specs.Prelude.{◌≡◌, ℤ, List, [], ◌∷◌, Bool, true, ◌&&◌, int_le}
 use Rattle.std.specs.Int.{int_max}
 use Rattle.std.specs.List.{list_all, list_any}
-use Rattle.an_search.specs.Dates.{is_in}
-use Rattle.an_search.specs.declared.dates.DateRange.{DateRange}
+use Rattle.an_query.specs.Dates.{is_in}
+use Rattle.an_query.specs.declared.dates.DateRange.{DateRange}
 
 -- each range begins no earlier than those before it
 abbrev pub begin_in_order : List DateRange → Bool

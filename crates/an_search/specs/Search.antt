@@ -1,25 +1,24 @@
 -- A search in the annotations on a manifest (IIIF Content Search API 2.0).
-use Rattle.std.specs.Prelude.{ℕ, ◌+◌, List, [], ◌∷◌, ◌++◌, length, filter, codes, is_some}
-use Rattle.std.specs.Prelude.{if◌then◌else◌, Some, None, Result, Ok, Err}
+use Rattle.std.specs.Prelude.{ℕ, List, ◌∷◌, length, filter, codes, is_some}
+use Rattle.std.specs.Prelude.{if◌then◌else◌, Result, Ok, Err}
 use Rattle.std.specs.List.{filter_map}
 use Rattle.serde_json.specs.Data.{Data}
 use Rattle.serde_json.specs.View.{items_of}
 use Rattle.serde_json.specs.Written.{compact_text}
 use Rattle.an_code.specs.declared.parameter.Parameter.TheVariants as parameter
-use Rattle.an_highlight.specs.Marks.{highlights_of}
 use Rattle.an_state.specs.State.{NoteState}
 use Rattle.an_state.specs.View.{View, is_on, manifest_in}
-use Rattle.an_search.specs.Filters.{filter_parameters}
-use Rattle.an_search.specs.Form.{form_of}
-use Rattle.an_iri.specs.Iris.{note_iri, search_iri}
-use Rattle.an_search.specs.Listed.{listed_note}
-use Rattle.an_search.specs.Page.{list_page, page_count, lacks_page, page_iri, page_of}
-use Rattle.an_search.specs.Query.{QueryRecord}
-use Rattle.an_search.specs.Site.{Site}
+use Rattle.an_query.specs.Filters.{filter_parameters}
+use Rattle.an_query.specs.Form.{form_of}
+use Rattle.an_iri.specs.Iris.{search_iri}
+use Rattle.an_list.specs.Listed.{listed_note, marks_of}
+use Rattle.an_list.specs.Page.{list_page, page_count, lacks_page, page_iri, page_of}
+use Rattle.an_query.specs.Query.{QueryRecord}
+use Rattle.an_list.specs.Site.{Site}
 use Rattle.an_search.specs.Wanted.{matches, wanted_of, wanted_terms}
 use Rattle.an_search.specs.declared.searching.AskError.{AskError}
 use Rattle.an_search.specs.declared.searching.AskError.TheVariants.{NoManifest, NoPage}
-use Rattle.an_search.specs.declared.page.Whole.{Whole}
+use Rattle.an_list.specs.declared.page.Whole.{Whole}
 use Rattle.an_search.specs.declared.wanted.Wanted.{Wanted}
 
 -- ---- what is found
@@ -27,22 +26,6 @@ use Rattle.an_search.specs.declared.wanted.Wanted.{Wanted}
 -- the annotations of the view on the manifest that are wanted, in their order
 unfoldable pub hits : View → List ℕ → Wanted → List NoteState
 hits view manifest wanted = filter (matches wanted) (filter (is_on manifest) view.notes)
-
--- ---- the marks of a page
-
--- the marks of an annotation of a list on a page; one that was deleted has none
-abbrev pub row_marks : List ℕ → List (List ℕ) → List ℕ → ℕ → NoteState → List Data
-row_marks base terms page number row = elim row.live [
-  | None ↦ []
-  | Some live ↦ highlights_of live.tree (note_iri base row.owner row.name) terms page number
-]
-
--- those of all annotations of the page, numbered on
-abbrev pub marks_of : List ℕ → List (List ℕ) → List ℕ → ℕ → List NoteState → List Data
-marks_of base terms page number [] = []
-marks_of base terms page number (row ∷ rows) =
-    let first = row_marks base terms page number row in
-    first ++ marks_of base terms page (number + length first) rows
 
 -- ---- the answer
 

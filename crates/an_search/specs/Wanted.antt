@@ -9,10 +9,10 @@ use Rattle.an_terms.specs.Terms.{terms_of}
 use Rattle.an_model.specs.Bodies.{iris_of, note_terms}
 use Rattle.an_model.specs.Note.{motivations_of}
 use Rattle.an_state.specs.State.{NoteState, LiveNote}
-use Rattle.an_search.specs.Dates.{is_in, pieces_of, range_of}
-use Rattle.an_search.specs.Filters.{FiltersRecord}
-use Rattle.an_search.specs.Query.{QueryRecord}
-use Rattle.an_search.specs.declared.dates.DateRange.{DateRange}
+use Rattle.an_query.specs.Dates.{is_in, pieces_of, range_of}
+use Rattle.an_query.specs.Filters.{FiltersRecord}
+use Rattle.an_query.specs.Query.{QueryRecord}
+use Rattle.an_query.specs.declared.dates.DateRange.{DateRange}
 use Rattle.an_search.specs.declared.wanted.Wanted.{Wanted}
 
 -- ---- the pieces of a query

@@ -120,7 +120,7 @@ fn suited_among<T: Look, L: Ledger>(
 }
 
 /// The same, where each is judged once it is fetched.
-#[tactic(auto, using(crate::proofs::PieceLemmas::pieces_left))]
+#[tactic(auto, using(an_list::proofs::PieceLemmas::pieces_left))]
 fn one_by_one<T: Look, L: Ledger>(
     alloc: Global,
     look: &T,
@@ -201,7 +201,7 @@ fn held_at<'a, T: Look, L: Ledger>(look: &'a T, place: usize, steps: &mut Steps<
 }
 
 /// The places, and those of these where the annotations have what is wanted but for terms.
-#[tactic(auto, using(crate::proofs::PieceLemmas::pieces_left))]
+#[tactic(auto, using(an_list::proofs::PieceLemmas::pieces_left))]
 fn with_suited<'a>(
     suited: Vec<usize>,
     held: &[Held<'a>],
@@ -323,7 +323,7 @@ fn other_terms<T: Look>(
 }
 
 /// The terms but for the first, each once.
-#[tactic(auto, using(crate::proofs::PieceLemmas::pieces_left))]
+#[tactic(auto, using(an_list::proofs::PieceLemmas::pieces_left))]
 fn weighed_terms<T: Look>(
     alloc: Global,
     look: &T,

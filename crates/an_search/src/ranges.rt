@@ -2,10 +2,10 @@ ghost use Rattle.std.specs.Prelude.{◌≡◌, ℤ, IfOk, int_le, slice_get, tru
 ghost use Rattle.std.specs.List.{list_any};
 ghost use Rattle.an_base.specs.Outcome.{passes};
 ghost use Rattle.an_search.specs.Ordered.{Joins, are_ordered, begin_in_order, joined_from};
-ghost use Rattle.an_search.specs.Dates.{is_in};
+ghost use Rattle.an_query.specs.Dates.{is_in};
 
-use crate::dates::DateRange;
 use an_base::{List, Moment};
+use an_query::DateRange;
 use std::alloc::{AllocError, Global};
 use std::marker::Model;
 
@@ -21,7 +21,7 @@ pub struct Ranges {
 impl Model for Ranges {
     ghost use Rattle.std.specs.Prelude.{List};
     ghost use Rattle.an_search.specs.Ordered.{Joins};
-    ghost use Rattle.an_search.specs.declared.dates.DateRange.{DateRange};
+    ghost use Rattle.an_query.specs.declared.dates.DateRange.{DateRange};
 
     ghost Value = { List DateRange };
 
@@ -77,7 +77,7 @@ fn ordered(alloc: Global, ranges: &[DateRange]) -> Result<Vec<DateRange>, AllocE
 }
 
 /// The ranges, each up to the latest end so far, of which the first is `reach`.
-#[tactic(auto, using(crate::proofs::PieceLemmas::pieces_left))]
+#[tactic(auto, using(an_list::proofs::PieceLemmas::pieces_left))]
 fn joined_from(
     alloc: Global,
     reach: Moment,

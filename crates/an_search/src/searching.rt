@@ -7,27 +7,22 @@ ghost use Rattle.an_base.specs.Outcome.{Gives};
 ghost use Rattle.an_policy.specs.Audience.{identity};
 ghost use Rattle.an_state.specs.State.{NoteState};
 ghost use Rattle.an_state.specs.View.{view_of};
-ghost use Rattle.an_search.specs.Cost.{Takes, find_cost, page_cost, search_cost, shown_cost};
-ghost use Rattle.an_search.specs.Found.{StandAt};
-ghost use Rattle.an_search.specs.Listed.{listed_note};
-ghost use Rattle.an_search.specs.Page.{list_page, page_iri, page_of};
-ghost use Rattle.an_search.specs.Search.{found_text, hits, marks_of, query_form};
-ghost use Rattle.an_search.specs.Search.{search_context, search_of};
+ghost use Rattle.an_list.specs.Cost.{Takes, page_cost};
+ghost use Rattle.an_search.specs.Cost.{find_cost, search_cost, shown_cost};
+ghost use Rattle.an_list.specs.Listed.{StandAt, listed_note, marks_of};
+ghost use Rattle.an_list.specs.Page.{list_page, page_iri, page_of};
+ghost use Rattle.an_search.specs.Search.{found_text, hits, query_form, search_context, search_of};
 ghost use Rattle.an_search.specs.Search.{whole_of};
 ghost use Rattle.an_search.specs.Wanted.{wanted_of, wanted_terms};
 
-use crate::filters::append_filters;
-use crate::form::append_given;
 use crate::hits::hit_places;
-use crate::items::list_items;
-use crate::page::{Paging, Whole, page_iri, page_text};
-use crate::query::Query;
-use crate::settings::Settings;
 use crate::wanted::wanted_of;
 use an_base::{Bytes, Name, Steps, Text};
 use an_code::Parameter;
 use an_iri::search_iri;
+use an_list::{Paging, Site, Whole, list_items, page_iri, page_of, page_text};
 use an_policy::Who;
+use an_query::{Query, append_filters, append_given};
 use an_state::{Look, shown_manifest};
 use form_urlencoded::Serializer;
 use std::alloc::{AllocError, Global};
@@ -65,19 +60,19 @@ pub fn search<T: Look, L: Ledger>(
     who: &Who<'_>,
     manifest: &Name,
     query: &Query,
-    settings: &Settings,
+    site: &Site,
     steps: &mut Steps<L>,
 ) -> Result<Bytes, AskError>
-    ensures answer { Gives (λ page. page) AskError.Memory result (search_of settings.now
+    ensures answer { Gives (λ page. page) AskError.Memory result (search_of site.now
         (view_of (T.state look.now) (identity who.now)) manifest.now query.now) }
-    ensures steps { Takes AskError.Memory result steps.old steps.new (search_cost settings.now
+    ensures steps { Takes AskError.Memory result steps.old steps.new (search_cost site.now
         (view_of (T.state look.now) (identity who.now)) manifest.now query.now) }
-    ensures steps_most { steps.new ≤ steps.old + search_cost settings.now
+    ensures steps_most { steps.new ≤ steps.old + search_cost site.now
         (view_of (T.state look.now) (identity who.now)) manifest.now query.now }
     ensures steps_least { steps.old ≤ steps.new }
 {
     match shown_manifest(look, who, manifest) {
-        Some(_) => search_shown(alloc, look, who, manifest, query, settings, steps),
+        Some(_) => search_shown(alloc, look, who, manifest, query, site, steps),
         None => Err(AskError::NoManifest),
     }
 }
@@ -111,16 +106,16 @@ fn search_shown<T: Look, L: Ledger>(
     who: &Who<'_>,
     manifest: &Name,
     query: &Query,
-    settings: &Settings,
+    site: &Site,
     steps: &mut Steps<L>,
 ) -> Result<Bytes, AskError>
     ensures answer { Gives (λ page. page) AskError.Memory result
-        (found_text settings.now manifest.now query.now
+        (found_text site.now manifest.now query.now
         (hits (view_of (T.state look.now) (identity who.now)) manifest.now
         (wanted_of query.now))) }
-    ensures steps { Takes AskError.Memory result steps.old steps.new (shown_cost settings.now
+    ensures steps { Takes AskError.Memory result steps.old steps.new (shown_cost site.now
         (view_of (T.state look.now) (identity who.now)) manifest.now query.now) }
-    ensures steps_most { steps.new ≤ steps.old + shown_cost settings.now
+    ensures steps_most { steps.new ≤ steps.old + shown_cost site.now
         (view_of (T.state look.now) (identity who.now)) manifest.now query.now }
     ensures steps_least { steps.old ≤ steps.new }
 {
@@ -132,7 +127,7 @@ fn search_shown<T: Look, L: Ledger>(
         look,
         manifest,
         query,
-        settings,
+        site,
         places.as_slice(),
         terms,
         steps,
@@ -145,7 +140,7 @@ fn page_at<T: Look, L: Ledger>(
     look: &T,
     manifest: &Name,
     query: &Query,
-    settings: &Settings,
+    site: &Site,
     places: &[usize],
     terms: &[Text],
     steps: &mut Steps<L>,
@@ -153,23 +148,23 @@ fn page_at<T: Look, L: Ledger>(
     requires terms { terms.now ≡ wanted_terms query.now.q }
     ensures answer { (rows : List NoteState) → StandAt (T.state look.now).notes places.now rows
         → Gives (λ page. page) AskError.Memory result
-        (found_text settings.now manifest.now query.now rows) }
+        (found_text site.now manifest.now query.now rows) }
     ensures steps { Takes AskError.Memory result steps.old steps.new
-        (page_cost query.now.page settings.now.size places.now) }
+        (page_cost query.now.page site.now.size places.now) }
     ensures steps_most { steps.new ≤ steps.old
-        + page_cost query.now.page settings.now.size places.now }
+        + page_cost query.now.page site.now.size places.now }
     ensures steps_least { steps.old ≤ steps.new }
 {
     let paging = Paging {
         page: query.page(),
-        size: settings.size(),
+        size: site.size(),
         total: places.len(),
     };
     if paging.is_past() {
         let pages = paging.pages();
         return Err(AskError::NoPage { pages });
     }
-    let base = settings.base();
+    let base = site.base();
     let whole = whole_of(alloc, base, manifest, query)?;
     let ignored = query.ignored();
     let shown = page_of(places, paging);
@@ -208,16 +203,6 @@ fn write_page<T: Look, L: Ledger>(
     let marks = listed.marks.text.as_slice();
     let text = page_text(alloc, SEARCH_CONTEXT, whole, paging, items, marks, ignored)?;
     Ok(text)
-}
-
-/// Those of a list that stand on the page.
-pub fn page_of<T>(listed: &[T], paging: Paging) -> &[T]
-    requires page { 1 ≤ paging.page }
-    ensures page { result.now ≡ page_of paging.page paging.size listed.now }
-{
-    let start = (paging.start() as usize).min(listed.len());
-    let end = start.saturating_add(paging.size as usize).min(listed.len());
-    &listed[start..end]
 }
 
 /// All that a search finds.

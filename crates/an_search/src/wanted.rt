@@ -6,21 +6,19 @@ ghost use Rattle.an_base.specs.TextSet.{has_text};
 ghost use Rattle.an_state.specs.Live.{lent_note};
 ghost use Rattle.an_model.specs.Bodies.{iris_of, note_terms};
 ghost use Rattle.an_model.specs.Note.{motivations_of};
-ghost use Rattle.an_search.specs.Dates.{pieces_of, range_of};
+ghost use Rattle.an_query.specs.Dates.{pieces_of, range_of};
 ghost use Rattle.an_search.specs.Known.{AreKnown, IsKnown};
 ghost use Rattle.an_search.specs.Wanted.{fits, fits_but_terms, fits_motivations, fits_ranges};
 ghost use Rattle.an_search.specs.Wanted.{fits_users, given_pieces, has_all, is_iri};
 ghost use Rattle.an_search.specs.Wanted.{matches, wanted_by, wanted_iris, wanted_of, wanted_ranges};
 ghost use Rattle.an_search.specs.Wanted.{wanted_terms, wants_nothing, wants_terms_alone, words_of};
 
-use crate::dates::{DateRange, range_of};
-use crate::filters::Filters;
 use crate::known::{Known, Last, is_piece, known_first};
 use crate::pieces::{Pieces, share_one};
-use crate::query::Query;
 use crate::ranges::Ranges;
 use an_base::{List, Moment, Text, TextSet, TryCopy};
 use an_model::KeptNote;
+use an_query::{DateRange, Filters, Query, range_of};
 use an_state::{LiveNote, NoteRow};
 use an_terms::occurrences;
 use std::alloc::{AllocError, Global};
@@ -90,7 +88,7 @@ fn sought(alloc: Global, q: Option<&Text>) -> Result<(Pieces, Pieces), AllocErro
     Ok((iris, terms))
 }
 
-#[tactic(auto, using(crate::proofs::PieceLemmas::pieces_left))]
+#[tactic(auto, using(an_list::proofs::PieceLemmas::pieces_left))]
 fn iris_among(alloc: Global, pieces: &[Text]) -> Result<Pieces, AllocError>
     ensures { IfOk result (λ iris. iris ≡ filter is_iri pieces.now) }
 {
@@ -116,7 +114,7 @@ fn is_iri(bytes: &[u8]) -> bool
 }
 
 /// The terms of the pieces that are words.
-#[tactic(auto, using(crate::proofs::PieceLemmas::pieces_left))]
+#[tactic(auto, using(an_list::proofs::PieceLemmas::pieces_left))]
 fn words_of(alloc: Global, pieces: &[Text]) -> Result<Pieces, AllocError>
     ensures { IfOk result (λ terms. terms ≡ words_of pieces.now) }
 {
@@ -166,7 +164,7 @@ fn given_pieces(alloc: Global, given: Option<&Text>) -> Result<List<Text>, Alloc
     }
 }
 
-#[tactic(auto, using(crate::proofs::PieceLemmas::pieces_left))]
+#[tactic(auto, using(an_list::proofs::PieceLemmas::pieces_left))]
 fn pieces_of(alloc: Global, value: &str) -> Result<List<Text>, AllocError>
     ensures { IfOk result (λ pieces. pieces ≡ pieces_of value.now) }
 {
@@ -197,7 +195,7 @@ fn wanted_ranges(alloc: Global, date: Option<&Text>) -> Result<Ranges, AllocErro
     Ranges::of(alloc, ranges)
 }
 
-#[tactic(auto, using(crate::proofs::PieceLemmas::pieces_left))]
+#[tactic(auto, using(an_list::proofs::PieceLemmas::pieces_left))]
 fn ranges_among(alloc: Global, pieces: &[Text]) -> Result<List<DateRange>, AllocError>
     ensures { IfOk result (λ ranges. ranges ≡ filter_map range_of pieces.now) }
 {

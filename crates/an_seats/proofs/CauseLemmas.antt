@@ -2,7 +2,7 @@
 use Rattle.std.proofs.Common.{◌≡◌, ◌⊎◌, inl, inr, ℕ, ℤ, List, ◌++◌, Bool, Option, Some, None, sym, subst, ◌∙◌, append_assoc}
 use Rattle.an_base.specs.Faults.{Rises}
 use Rattle.an_http.specs.Replies.{memory_reply}
-use Rattle.an_search.specs.Site.{Site}
+use Rattle.an_list.specs.Site.{Site}
 use Rattle.an_session.specs.Session.{Ends, Line, Moves, Stops}
 use Rattle.an_session.specs.Trail.{Item, texts}
 use Rattle.an_session.specs.declared.ended.Ended.{Ended}

@@ -21,7 +21,7 @@ use Rattle.an_routes.specs.declared.kinds.Route.{Route}
 use Rattle.an_routes.specs.declared.kinds.Route.TheVariants as route
 use Rattle.an_routes.specs.declared.kinds.RouteError.{RouteError}
 use Rattle.an_routes.specs.declared.kinds.RouteError.TheVariants as error
-use Rattle.an_search.specs.Site.{Site}
+use Rattle.an_list.specs.Site.{Site}
 use Rattle.an_base.specs.declared.span.Prefer.{Prefer}
 use Rattle.an_answers.specs.Answer.{refusal_reply, write_answer}
 use Rattle.an_serve.specs.AtDesk.{IsAnswer, IsWritten}

@@ -5,7 +5,7 @@ use Rattle.an_http.specs.declared.reply.Reply.{Reply}
 use Rattle.an_keep.specs.Keeper.{Told}
 use Rattle.an_laws.specs.Events.{Event, IsLegal, state_at, wrote}
 use Rattle.an_machine.specs.Legal.{Write}
-use Rattle.an_search.specs.Site.{Site}
+use Rattle.an_list.specs.Site.{Site}
 use Rattle.an_serve.specs.AtDesk.{IsAnswer}
 use Rattle.an_serve.specs.declared.responding.Response.{Response}
 use Rattle.an_session.specs.Trail.{Known}

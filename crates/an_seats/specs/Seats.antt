@@ -3,7 +3,7 @@
 use Rattle.std.specs.Prelude.{ℕ, ℤ, Bool, List, true}
 use mathlib.Core.List.{IsPrefix}
 use Rattle.an_laws.specs.Events.{Event}
-use Rattle.an_search.specs.Site.{Site}
+use Rattle.an_list.specs.Site.{Site}
 use Rattle.an_serve.specs.AtDesk.{Answered}
 use Rattle.an_session.specs.Session.{Line, Session}
 use Rattle.an_session.specs.Trail.{Known, Rules}

@@ -5,7 +5,7 @@ ghost use Rattle.an_serve.specs.Respond.{response_of};
 ghost use Rattle.an_seats.specs.Coming.{Looked};
 
 use an_http::Request;
-use an_search::Settings;
+use an_list::Site;
 use an_serve::{Response, respond};
 use an_store::{Seat, Shown};
 use core::mem::replace_with;
@@ -16,7 +16,7 @@ use std::sync::Wait;
 #[derive(Drop)]
 struct Asking<'a> {
     alloc: Global,
-    settings: &'a Settings,
+    settings: &'a Site,
     request: &'a Request,
 }
 
@@ -26,7 +26,7 @@ pub(crate) fn hear<R: Wait>(
     rt: &R,
     alloc: Global,
     seat: &mut Seat,
-    settings: &Settings,
+    settings: &Site,
     request: &Request,
 ) -> Result<Response, AllocError>
     ensures looked { Looked seat.old seat.new }

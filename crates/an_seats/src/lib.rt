@@ -10,9 +10,9 @@
 pub use server::{AtStores, Server, Since};
 pub use sitting::session;
 
-mod guest;
 mod hearing;
-mod place;
+mod seat_context;
+mod seat_service;
 mod server;
 mod sitting;
 mod writing;

@@ -1,7 +1,7 @@
 use crate::sitting::session;
 use an_door::{Served, SessionKind, Sessions};
 use an_keep::Keeper;
-use an_search::Settings;
+use an_list::Site;
 use an_store::{Naming, Seat, Store};
 use an_world::{Clock, Link};
 use std::alloc::Global;
@@ -38,17 +38,13 @@ impl Since for Brand {
 #[derive(Drop)]
 pub struct Server<'a, K: Keeper, J: Naming, C: Clock, F: Since> {
     store: &'a Store<K, J>,
-    settings: &'a Settings,
+    settings: &'a Site,
     clock: &'a C,
     of: PhantomData<F>,
 }
 
 impl<'a, K: Keeper, J: Naming, C: Clock, F: Since> Server<'a, K, J, C, F> {
-    pub fn new(
-        store: &'a Store<K, J>,
-        settings: &'a Settings,
-        clock: &'a C,
-    ) -> Server<'a, K, J, C, F> {
+    pub fn new(store: &'a Store<K, J>, settings: &'a Site, clock: &'a C) -> Server<'a, K, J, C, F> {
         Server {
             store,
             settings,

@@ -4,11 +4,11 @@ ghost use Rattle.an_session.specs.Session.{ReadsRequests, line};
 ghost use Rattle.an_published.specs.Lists.{Stands};
 ghost use Rattle.an_seats.specs.Seats.{Sitting};
 
-use crate::guest::Guest;
-use crate::place::Place;
+use crate::seat_context::SeatContext;
+use crate::seat_service::SeatService;
 use an_door::Served;
 use an_keep::Keeper;
-use an_search::Settings;
+use an_list::Site;
 use an_session::serve_link;
 use an_store::{Naming, Seat, Store};
 use an_world::{Clock, Link};
@@ -29,7 +29,7 @@ pub fn session<R: Wait, L: Link, K: Keeper, J: Naming, C: Clock>(
     link: &mut L,
     store: &Store<K, J>,
     seat: Seat,
-    settings: &Settings,
+    settings: &Site,
     clock: &C,
 ) -> Served<Seat>
     requires seat { seat.book ≡ J.book }
@@ -47,13 +47,13 @@ pub fn session<R: Wait, L: Link, K: Keeper, J: Naming, C: Clock>(
     ensures legal { IsLegal result.seat.seen }
     ensures own { Stands result.seat.own result.seat.seen }
 {
-    let place = Place::new(rt, store, settings, clock);
-    let mut guest = Guest {
+    let place = SeatContext::new(rt, store, settings, clock);
+    let mut guest = SeatService {
         seat,
         of: PhantomData,
     };
     let ended = serve_link(alloc, link, &mut guest, &place);
-    let Guest { seat, of: _ } = guest;
+    let SeatService { seat, of: _ } = guest;
     seat.stands();
     Served { seat, ended }
 }

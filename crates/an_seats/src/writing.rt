@@ -3,7 +3,7 @@ ghost use Rattle.an_serve.specs.declared.responding.Response.{Response};
 ghost use Rattle.an_state.specs.Commands.{is_sendable};
 ghost use Rattle.an_seats.specs.Coming.{SeatComes, SeatLoses};
 
-use crate::place::Place;
+use crate::seat_context::SeatContext;
 use an_http::{Allow, Reply};
 use an_keep::Keeper;
 use an_policy::Caller;
@@ -19,7 +19,7 @@ use std::sync::Wait;
 pub(crate) fn write<R: Wait, K: Keeper, J: Naming, C: Clock>(
     alloc: Global,
     seat: &mut Seat,
-    place: &Place<'_, R, K, J, C>,
+    place: &SeatContext<'_, R, K, J, C>,
     allow: Allow,
     caller: Caller,
     command: Command,

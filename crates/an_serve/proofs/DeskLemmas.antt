@@ -15,7 +15,7 @@ use Rattle.an_machine.specs.declared.command.Refused.{Refused}
 use Rattle.an_machine.specs.declared.command.WriteReply.{WriteReply}
 use Rattle.an_policy.specs.declared.who.Caller.{Caller}
 use Rattle.an_rows.specs.Cells.{cells}
-use Rattle.an_search.specs.Site.{Site}
+use Rattle.an_list.specs.Site.{Site}
 use Rattle.an_session.specs.Session.{Line, ReadsRequests, Session}
 use Rattle.an_session.specs.Trail.{Answers, Comes, Goes, Known, Rests}
 use Rattle.an_session.specs.declared.ended.Ended.{Ended}

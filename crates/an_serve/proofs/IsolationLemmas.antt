@@ -6,7 +6,7 @@ use Rattle.an_http.specs.declared.reply.Allow.{Allow}
 use Rattle.an_http.specs.declared.request.Request.{Request}
 use Rattle.an_state.specs.State.{State}
 use Rattle.an_policy.specs.declared.who.Caller.{Caller}
-use Rattle.an_search.specs.Site.{Site}
+use Rattle.an_list.specs.Site.{Site}
 use Rattle.an_answers.specs.Answer.{answer_of}
 use Rattle.an_answers.specs.Isolation.{SeesAlike}
 use Rattle.an_serve.specs.Isolation.{SenderSeesAlike}

@@ -2,7 +2,7 @@
 use Rattle.std.proofs.Common.{◌≡◌, Result, Ok, Err, IfOk, sym, ap, ◌∙◌}
 use Rattle.an_http.specs.declared.request.Request.{Request}
 use Rattle.an_state.specs.State.{State}
-use Rattle.an_search.specs.Site.{Site}
+use Rattle.an_list.specs.Site.{Site}
 use Rattle.an_serve.specs.Respond.{response_of, route_response}
 use Rattle.an_routes.specs.Routes.{route_of}
 use Rattle.an_routes.specs.declared.kinds.RouteError.{RouteError}

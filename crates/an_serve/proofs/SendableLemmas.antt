@@ -6,7 +6,7 @@ use Rattle.an_code.specs.declared.code.Code.{Code}
 use Rattle.an_http.specs.declared.reply.Allow.{Allow}
 use Rattle.an_http.specs.declared.request.Request.{Request}
 use Rattle.an_policy.specs.declared.who.Caller.{Caller}
-use Rattle.an_search.specs.Site.{Site}
+use Rattle.an_list.specs.Site.{Site}
 use Rattle.an_state.specs.Commands.{is_sendable}
 use Rattle.an_state.specs.State.{State}
 use Rattle.an_state.specs.declared.command.Command.{Command}

@@ -12,7 +12,7 @@ use Rattle.an_machine.specs.Step.{step}
 use Rattle.an_machine.specs.declared.command.Decided.{Decided}
 use Rattle.an_machine.specs.declared.command.Refused.{Refused}
 use Rattle.an_policy.specs.declared.who.Caller.{Caller}
-use Rattle.an_search.specs.Site.{Site}
+use Rattle.an_list.specs.Site.{Site}
 use Rattle.an_session.specs.Laws.{IsOneList}
 use Rattle.an_session.specs.Session.{Line, Session}
 use Rattle.an_session.specs.Trail.{Known, Rules}

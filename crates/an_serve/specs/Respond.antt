@@ -20,7 +20,7 @@ use Rattle.an_state.specs.View.{View, view_by}
 use Rattle.an_state.specs.declared.command.Command.{Command}
 use Rattle.an_policy.specs.declared.who.Caller.{Caller}
 use Rattle.an_policy.specs.declared.who.Caller.TheVariants as caller
-use Rattle.an_search.specs.Site.{Site}
+use Rattle.an_list.specs.Site.{Site}
 use Rattle.an_base.specs.declared.span.Prefer.{Prefer}
 use Rattle.an_answers.specs.Answer.{answer_of, not_signed, query_answer, refusal_reply}
 use Rattle.an_routes.specs.Commands.{command_of}

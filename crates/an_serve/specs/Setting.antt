@@ -2,7 +2,7 @@
 use Rattle.std.specs.Prelude.{◌≡◌, ◌≤◌, ◌+◌, ℕ, ℤ, List, Bool, IsSome}
 use Rattle.an_http.specs.declared.reply.Reply.{Reply}
 use Rattle.an_machine.specs.Legal.{Write, state_of}
-use Rattle.an_search.specs.Site.{Site}
+use Rattle.an_list.specs.Site.{Site}
 use Rattle.an_shelf.specs.Store.{Store}
 use Rattle.an_serve.specs.AtDesk.{IsAnswer, IsCounted}
 use Rattle.an_laws.specs.Events.{Keeps}

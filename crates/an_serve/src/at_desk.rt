@@ -13,8 +13,8 @@ use crate::told::told_reply;
 use an_base::Moment;
 use an_http::{Allow, Reply, Request};
 use an_keep::Keeper;
+use an_list::Site;
 use an_policy::Caller;
-use an_search::Settings;
 use an_session::{Ended, Service, serve_link};
 use an_shelf::Desk;
 use an_state::Command;
@@ -31,7 +31,7 @@ pub fn session_at_desk<L: Link, K: Keeper, C: Clock>(
     alloc: Global,
     link: &mut L,
     desk: &mut Desk<K>,
-    settings: &Settings,
+    settings: &Site,
     clock: &C,
 ) -> Ended
     ensures session { Goes StandsFor (Connection
@@ -57,7 +57,7 @@ pub fn session_at_desk<L: Link, K: Keeper, C: Clock>(
 /// By what a desk answers. Contracts see the settings and the clock.
 #[derive(Drop)]
 struct Context<'a, C: Clock> {
-    settings: &'a Settings,
+    settings: &'a Site,
     clock: &'a C,
 }
 
@@ -70,7 +70,7 @@ impl<'a, C: Clock> Model for Context<'a, C> {
 }
 
 impl<'a, C: Clock> Context<'a, C> {
-    fn settings(&self) -> &Settings
+    fn settings(&self) -> &Site
         ensures { result.now ≡ self.now.site }
     {
         self.settings

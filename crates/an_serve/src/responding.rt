@@ -1,5 +1,5 @@
 ghost use Rattle.std.specs.Prelude.{◌≡◌, IfOk, Ok, Err};
-ghost use Rattle.an_search.specs.Site.{Site};
+ghost use Rattle.an_list.specs.Site.{Site};
 ghost use Rattle.an_answers.specs.Answer.{refusal_reply};
 ghost use Rattle.an_state.specs.View.{view_by};
 ghost use Rattle.an_serve.specs.Respond.{caller_of, is_read, options_reply};
@@ -10,9 +10,9 @@ use an_answers::{answer_uncounted, query_answer, refusal_reply};
 use an_base::{Bytes, TryCopy};
 use an_code::Code;
 use an_http::{Allow, Auth, Extra, Media, Method, Reply, Request, Status};
+use an_list::Site;
 use an_policy::Caller;
 use an_routes::{Read, Route, RouteError, WriteRoute, command_of, route};
-use an_search::Settings;
 use an_state::{Command, Look};
 use std::alloc::{AllocError, Global};
 
@@ -35,7 +35,7 @@ pub enum Response {
 pub fn respond<T: Look>(
     alloc: Global,
     look: &T,
-    settings: &Settings,
+    settings: &Site,
     request: &Request,
 ) -> Result<Response, AllocError>
     ensures { IfOk result (λ response. response
@@ -51,7 +51,7 @@ pub fn respond<T: Look>(
 fn respond_at<T: Look>(
     alloc: Global,
     look: &T,
-    settings: &Settings,
+    settings: &Site,
     request: &Request,
     route: Route,
 ) -> Result<Response, AllocError>
@@ -176,7 +176,7 @@ fn query_reply<T: Look>(
 fn respond_to_read<T: Look>(
     alloc: Global,
     look: &T,
-    settings: &Settings,
+    settings: &Site,
     caller: Option<Caller>,
     request: &Request,
     read: &Read,

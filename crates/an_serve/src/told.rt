@@ -4,8 +4,8 @@ ghost use Rattle.an_serve.specs.Told.{told_reply};
 use an_answers::{refusal_reply, write_answer};
 use an_code::Code;
 use an_http::{Allow, Reply};
+use an_list::Site;
 use an_machine::WriteReply;
-use an_search::Settings;
 use an_shelf::WriteError;
 use std::alloc::{AllocError, Global};
 
@@ -13,7 +13,7 @@ use std::alloc::{AllocError, Global};
 /// that kept the write from being done, or from being shown.
 pub fn told_reply(
     alloc: Global,
-    settings: &Settings,
+    settings: &Site,
     allow: Allow,
     written: Result<WriteReply, WriteError>,
 ) -> Result<Reply, AllocError>

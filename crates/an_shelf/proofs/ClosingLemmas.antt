@@ -8,10 +8,10 @@ use Rattle.an_machine.specs.Legal.{Legal, Write, state_of}
 use Rattle.an_machine.specs.Step.{step}
 use Rattle.an_policy.specs.declared.who.Caller.{Caller}
 use Rattle.an_rows.specs.Cells as rows
-use Rattle.an_rows.proofs.RestoreLemmas.{cells-read-back}
+use Rattle.an_rows.proofs.RestoreLemmas.{cells-today}
 use Rattle.an_state.specs.Sound.{is_sound}
 use Rattle.an_state.specs.State.{State}
-use Rattle.an_shelf.specs.Opening.{IsDamagedBy, StandFor}
+use Rattle.an_shelf.specs.Opening.{IsDamagedBy, StandFor, WasOpened}
 use Rattle.an_shelf.specs.Store.{Stands, Store}
 use Rattle.an_shelf.specs.declared.error.OpenError.{OpenError}
 use Rattle.an_shelf.specs.declared.error.OpenError.TheVariants.{Damaged}
@@ -22,15 +22,15 @@ same_Ok s t is = cc
 -- the cells of a desk stand for its state
 pub stand-for : (found : Told) (s : State) → Stands found s → StandFor found s
 stand-for None s stands = tt
-stand-for (Some its) s stands = ap rows.state_of stands.cells_are ∙ cells-read-back s stands.valid stands.sound
+stand-for (Some its) s stands = ap rows.state_of stands.cells_are ∙ cells-today s stands.valid stands.sound
 
 pub ruleset closing = (stand-for)
 
--- cells that are told before and behind stand for one state
-same-state : (old new : Told) (s t : State) → StandFor old s → StaysOrBegins old new → StandFor new t → WhileTold old new (t ≡ s)
-same-state old None s t was stays is = tt
-same-state None (Some new) s t was stays is = tt
-same-state (Some old) (Some new) s t was stays is = same_Ok t s (sym is ∙ ap rows.state_of stays ∙ was)
+-- a store that is opened has the state that its cells stand for
+same-state : (old new : Told) (s t : State) → StandFor old s → WasOpened old new t → WhileTold old new (t ≡ s)
+same-state old None s t was opened = tt
+same-state None (Some new) s t was opened = tt
+same-state (Some old) (Some new) s t was opened = same_Ok t s (sym opened ∙ was)
 
 -- what follows from what holds while cells are told does so too
 while-told : (old new : Told) (P Q : Type 0) → (P → Q) → WhileTold old new P → WhileTold old new Q
@@ -41,10 +41,10 @@ while-told (Some old) (Some new) P Q follows holds = follows holds
 -- ---- a desk that was opened with the cells of one that was closed
 
 module _ (desk : Store) (stand : StandFor desk.told desk.state) (kept : Told) (is : kept ≡ desk.told) where
-  pub again-same : {E : Type 0} (result : Result Store E) → IfOk result (λ again. StandFor again.told again.state) → IfOk result (λ again. StaysOrBegins kept again.told)
+  pub again-same : {E : Type 0} (result : Result Store E) → IfOk result (λ again. WasOpened kept again.told again.state)
       → IfOk result (λ again. WhileTold desk.told again.told (again.state ≡ desk.state))
-  again-same (Err error) stands stays = tt
-  again-same (Ok again) stands stays = same-state desk.told again.told desk.state again.state stand (subst (λ told. StaysOrBegins told again.told) is stays) stands
+  again-same (Err error) opened = tt
+  again-same (Ok again) opened = same-state desk.told again.told desk.state again.state stand (subst (λ told. WasOpened told again.told again.state) is opened)
 
   pub again-nothing : {E : Type 0} (result : Result Store E) → IfOk result (λ again. WhileTold desk.told again.told (again.state ≡ desk.state))
       → (s : State) (before behind : List Write) (write : Write) (moment : ℤ) (caller : Caller) → IsTrue (is_sound s) → Legal s (before ++ (write ∷ behind))

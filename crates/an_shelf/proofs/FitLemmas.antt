@@ -34,6 +34,7 @@ use Rattle.an_machine.specs.declared.asked.Asked.TheVariants as put
 use Rattle.an_machine.specs.declared.command.Decided.{Decided}
 use Rattle.an_rows.specs.Cells.{Place, if_next, may_follow, place_of, row_behind, rows_before}
 use Rattle.an_rows.specs.RowRead.{row_of_text}
+use Rattle.an_rows.specs.declared.format.Format.{Format}
 use Rattle.an_laws.proofs.RefusalLemmas.{manifest-fixed}
 use Rattle.an_keyed.proofs.PutLemmas.{row_of-find}
 use Rattle.an_laws.proofs.SoundLemmas.{sound-after}
@@ -124,9 +125,9 @@ unfolding fits
 restored-fits s row follows sound = and_from _ _ (and_from _ _ (follows-keeps s row follows) refl) (sound-parts (with_row s row) sound).stand
 
 -- the row of a cell that stands next may follow
-row-follows : (s : State) (cell : Cell) (row : Row) → row_behind s cell ≡ Ok row → may_follow s row ≡ true
+row-follows : (format : Format) (s : State) (cell : Cell) (row : Row) → row_behind format s cell ≡ Ok row → may_follow s row ≡ true
 unfolding row_behind
-row-follows s cell row is = by_text (result_ok (row_of_text cell.tab cell.val)) is
+row-follows format s cell row is = by_text (result_ok (row_of_text format cell.tab cell.val)) is
   where
     by_test : (other : Row) (test : Bool) → ((cell.key == rows_before s other) && may_follow s other) ≡ test → ◌≡◌ {A = Result Row Place} (cond test (Ok other) (Err (place_of cell))) (Ok row)
         → may_follow s row ≡ true
@@ -137,5 +138,6 @@ row-follows s cell row is = by_text (result_ok (row_of_text cell.tab cell.val)) 
     by_text None h = absurd (cc)
     by_text (Some other) h = by_test other ((cell.key == rows_before s other) && may_follow s other) refl h
 
-pub reading-fits : (told : Told) (s : State) (cell : Cell) → IsReading told s cell → RowFits s cell
-reading-fits told s cell reading row is = restored-fits s row (row-follows s cell row is) (reading-sound told s (with_row s row) cell reading (state-restored s (with_row s row) cell row is refl))
+pub reading-fits : (format : Format) (told : Told) (s : State) (cell : Cell) → IsReading format told s cell → RowFits format s cell
+reading-fits format told s cell reading row is =
+    restored-fits s row (row-follows format s cell row is) (reading-sound format told s (with_row s row) cell reading (state-restored format s (with_row s row) cell row is refl))

@@ -21,6 +21,7 @@ use Rattle.an_rows.specs.Cells as its
 use Rattle.an_rows.specs.Cells.{Place, has_key, rows_before, may_follow, if_next, row_behind}
 use Rattle.an_rows.specs.RowRead.{row_of_text, row_of_cell, is_table, is_place}
 use Rattle.an_rows.specs.RowTree.{table_of}
+use Rattle.an_rows.specs.declared.format.Format.{Format}
 use Rattle.an_rows.specs.declared.refusal.RowError.{RowError}
 use Rattle.an_rows.specs.declared.refusal.RowError.TheVariants as read
 use Rattle.an_rows.proofs.CellLemmas.{position-new}
@@ -180,14 +181,14 @@ key-refused false p text row e is read_as table = absurd (cc)
 key-refused true false text row e is read_as table = refl
 key-refused true true text row e is read_as table = absurd (cc)
 
-row-text : (s : State) (cell : Cell) (row : Row) → row_of_cell cell.tab cell.key cell.val ≡ Ok row → row_behind s cell ≡ if_next s cell row
+row-text : (format : Format) (s : State) (cell : Cell) (row : Row) → row_of_cell format cell.tab cell.key cell.val ≡ Ok row → row_behind format s cell ≡ if_next s cell row
 unfolding row_behind row_of_cell
-row-text s cell row is = ap (λ found. or_refuse (its.place_of cell) (result_ok found) (if_next s cell)) (text-read (is_table cell.tab) (is_place cell.key) (row_of_text cell.tab cell.val) row is)
+row-text format s cell row is = ap (λ found. or_refuse (its.place_of cell) (result_ok found) (if_next s cell)) (text-read (is_table cell.tab) (is_place cell.key) (row_of_text format cell.tab cell.val) row is)
 
 -- a row that is read is the one behind, where it is the next
-pub row-read : (s : State) (cell : Cell) (row : Row) (bytes : List ℕ) (result : Result Row OpenError) → bytes ≡ cell.val → row_of_cell cell.tab cell.key bytes ≡ Ok row
-    → Reads result (if_next s cell row) → Reads result (row_behind s cell)
-row-read s cell row bytes result same is next = subst (Reads result) (sym (row-text s cell row (ap (row_of_cell cell.tab cell.key) (sym same) ∙ is))) next
+pub row-read : (format : Format) (s : State) (cell : Cell) (row : Row) (bytes : List ℕ) (result : Result Row OpenError) → bytes ≡ cell.val → row_of_cell format cell.tab cell.key bytes ≡ Ok row
+    → Reads result (if_next s cell row) → Reads result (row_behind format s cell)
+row-read format s cell row bytes result same is next = subst (Reads result) (sym (row-text format s cell row (ap (row_of_cell format cell.tab cell.key) (sym same) ∙ is))) next
 
 table-is : (row : Row) → is_table (table_of row) ≡ true
 table-is (kept.Reader row) = refl
@@ -201,48 +202,48 @@ not_next key before follows less = grind (arith, nat_tests)
 far : (key : ℕ) → is_place key ≡ false → 2 ^ 62 ≤ key
 far key is = ltb-false key (2 ^ 62) is
 
-row-refused : (s : State) (cell : Cell) (e : RowError) → row_count s < 2 ^ 62 → row_of_cell cell.tab cell.key cell.val ≡ Err e → row_behind s cell ≡ Err (its.place_of cell)
+row-refused : (format : Format) (s : State) (cell : Cell) (e : RowError) → row_count s < 2 ^ 62 → row_of_cell format cell.tab cell.key cell.val ≡ Err e → row_behind format s cell ≡ Err (its.place_of cell)
 unfolding row_behind row_of_cell
-row-refused s cell e few is = by_text (row_of_text cell.tab cell.val) refl
+row-refused format s cell e few is = by_text (row_of_text format cell.tab cell.val) refl
   where
-    by_text : (text : Result Row RowError) → row_of_text cell.tab cell.val ≡ text → or_refuse (its.place_of cell) (result_ok (row_of_text cell.tab cell.val)) (if_next s cell) ≡ Err (its.place_of cell)
+    by_text : (text : Result Row RowError) → row_of_text format cell.tab cell.val ≡ text → or_refuse (its.place_of cell) (result_ok (row_of_text format cell.tab cell.val)) (if_next s cell) ≡ Err (its.place_of cell)
     by_text (Err refused) at = ap (λ found. or_refuse (its.place_of cell) (result_ok found) (if_next s cell)) at
     by_text (Ok row) at =
-        let table : is_table cell.tab ≡ true = ap is_table (sym (read-table cell.tab cell.val row at)) ∙ table-is row in
-        let high = far cell.key (key-refused (is_table cell.tab) (is_place cell.key) (row_of_text cell.tab cell.val) row e is at table) in
+        let table : is_table cell.tab ≡ true = ap is_table (sym (read-table format cell.tab cell.val row at)) ∙ table-is row in
+        let high = far cell.key (key-refused (is_table cell.tab) (is_place cell.key) (row_of_text format cell.tab cell.val) row e is at table) in
         let before = few-before s row in
         ap (λ found. or_refuse (its.place_of cell) (result_ok found) (if_next s cell)) at
         ∙ cond-false _ _ _ (not_next cell.key (rows_before s row) (may_follow s row) (omega arith))
 
-unread : (s : State) (cell : Cell) (e : RowError) → row_count s < 2 ^ 62 → row_of_cell cell.tab cell.key cell.val ≡ Err e → IsDamage (row_behind s cell) (read_error cell e)
-unread s cell read.Table few is = row-refused s cell read.Table few is
-unread s cell read.Key few is = row-refused s cell read.Key few is
-unread s cell read.Bytes few is = row-refused s cell read.Bytes few is
-unread s cell read.Memory few is = tt
+unread : (format : Format) (s : State) (cell : Cell) (e : RowError) → row_count s < 2 ^ 62 → row_of_cell format cell.tab cell.key cell.val ≡ Err e → IsDamage (row_behind format s cell) (read_error cell e)
+unread format s cell read.Table few is = row-refused format s cell read.Table few is
+unread format s cell read.Key few is = row-refused format s cell read.Key few is
+unread format s cell read.Bytes few is = row-refused format s cell read.Bytes few is
+unread format s cell read.Memory few is = tt
 
-error-read : (s : State) (cell : Cell) (e : RowError) → row_count s < 2 ^ 62 → (¬ (e ≡ read.Memory) → row_of_cell cell.tab cell.key cell.val ≡ Err e) → IsDamage (row_behind s cell) (read_error cell e)
-error-read s cell read.Table few is = unread s cell read.Table few (is (λ m. cc))
-error-read s cell read.Key few is = unread s cell read.Key few (is (λ m. cc))
-error-read s cell read.Bytes few is = unread s cell read.Bytes few (is (λ m. cc))
-error-read s cell read.Memory few is = tt
+error-read : (format : Format) (s : State) (cell : Cell) (e : RowError) → row_count s < 2 ^ 62 → (¬ (e ≡ read.Memory) → row_of_cell format cell.tab cell.key cell.val ≡ Err e) → IsDamage (row_behind format s cell) (read_error cell e)
+error-read format s cell read.Table few is = unread format s cell read.Table few (is (λ m. cc))
+error-read format s cell read.Key few is = unread format s cell read.Key few (is (λ m. cc))
+error-read format s cell read.Bytes few is = unread format s cell read.Bytes few (is (λ m. cc))
+error-read format s cell read.Memory few is = tt
 
-pub row-unread : (s : State) (cell : Cell) (e : RowError) (bytes : List ℕ) (error : OpenError) → bytes ≡ cell.val → row_count s < 2 ^ 62 → (¬ (e ≡ read.Memory) → row_of_cell cell.tab cell.key bytes ≡ Err e)
-    → error ≡ read_error cell e → IsDamage (row_behind s cell) error
-row-unread s cell e bytes error same few is so =
-    subst (IsDamage (row_behind s cell)) (sym so) (error-read s cell e few (λ other. ap (row_of_cell cell.tab cell.key) (sym same) ∙ is other))
+pub row-unread : (format : Format) (s : State) (cell : Cell) (e : RowError) (bytes : List ℕ) (error : OpenError) → bytes ≡ cell.val → row_count s < 2 ^ 62 → (¬ (e ≡ read.Memory) → row_of_cell format cell.tab cell.key bytes ≡ Err e)
+    → error ≡ read_error cell e → IsDamage (row_behind format s cell) error
+row-unread format s cell e bytes error same few is so =
+    subst (IsDamage (row_behind format s cell)) (sym so) (error-read format s cell e few (λ other. ap (row_of_cell format cell.tab cell.key) (sym same) ∙ is other))
 
 -- ---- the state behind it
 
-state-read : (s : State) (cell : Cell) (row : Row) → row_behind s cell ≡ Ok row → state_behind s cell ≡ Ok (with_row s row)
-state-read s cell row is = ap (λ found. elim found [ Err place ↦ Err place | Ok r ↦ Ok (with_row s r) ]) is
+state-read : (format : Format) (s : State) (cell : Cell) (row : Row) → row_behind format s cell ≡ Ok row → state_behind format s cell ≡ Ok (with_row s row)
+state-read format s cell row is = ap (λ found. elim found [ Err place ↦ Err place | Ok r ↦ Ok (with_row s r) ]) is
 
-pub state-restored : (s t : State) (cell : Cell) (row : Row) → row_behind s cell ≡ Ok row → t ≡ with_row s row → state_behind s cell ≡ Ok t
-state-restored s t cell row is so = state-read s cell row is ∙ ap (λ u. Ok u) (sym so)
+pub state-restored : (format : Format) (s t : State) (cell : Cell) (row : Row) → row_behind format s cell ≡ Ok row → t ≡ with_row s row → state_behind format s cell ≡ Ok t
+state-restored format s t cell row is so = state-read format s cell row is ∙ ap (λ u. Ok u) (sym so)
 
-state-damaged : (s : State) (cell : Cell) (place : Place) → row_behind s cell ≡ Err place → state_behind s cell ≡ Err place
-state-damaged s cell place is = ap (λ found. elim found [ Err p ↦ Err p | Ok row ↦ Ok (with_row s row) ]) is
+state-damaged : (format : Format) (s : State) (cell : Cell) (place : Place) → row_behind format s cell ≡ Err place → state_behind format s cell ≡ Err place
+state-damaged format s cell place is = ap (λ found. elim found [ Err p ↦ Err p | Ok row ↦ Ok (with_row s row) ]) is
 
-pub damage-told : (s : State) (cell : Cell) (error : OpenError) → IsDamage (row_behind s cell) error → IsDamage (state_behind s cell) error
-damage-told s cell (opening.Damaged tab key) is = state-damaged s cell (record { tab = tab; key = key }) is
-damage-told s cell opening.Keeper is = is
-damage-told s cell opening.Memory is = is
+pub damage-told : (format : Format) (s : State) (cell : Cell) (error : OpenError) → IsDamage (row_behind format s cell) error → IsDamage (state_behind format s cell) error
+damage-told format s cell (opening.Damaged tab key) is = state-damaged format s cell (record { tab = tab; key = key }) is
+damage-told format s cell opening.Keeper is = is
+damage-told format s cell opening.Memory is = is

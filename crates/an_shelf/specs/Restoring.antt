@@ -8,6 +8,7 @@ use Rattle.an_state.specs.declared.entry.Entry.TheVariants.{Restored}
 use Rattle.an_state.specs.declared.entry.Row.{Row}
 use Rattle.an_snapshot.specs.Fits.{fits}
 use Rattle.an_rows.specs.Cells.{Place, row_behind}
+use Rattle.an_rows.specs.declared.format.Format.{Format}
 use Rattle.an_rows.specs.declared.refusal.RowError.{RowError}
 use Rattle.an_rows.specs.declared.refusal.RowError.TheVariants as read
 use Rattle.an_shelf.specs.declared.error.OpenError.{OpenError}
@@ -29,15 +30,16 @@ abbrev pub Reads : {A : Type 0} → Result A OpenError → Result A Place → Ty
 Reads result meant = MatchResult result (λ x. meant ≡ Ok x) (IsDamage meant)
 
 -- the state with the row of a cell behind its own
-abbrev pub state_behind : State → Cell → Result State Place
-state_behind s cell = elim (row_behind s cell) [
+abbrev pub state_behind : Format → State → Cell → Result State Place
+state_behind format s cell = elim (row_behind format s cell) [
   | Err place ↦ Err place
   | Ok row ↦ Ok (with_row s row)
 ]
 
 -- the row of a cell that stands next can be shown
-abbrev pub RowFits : State → Cell → Type 0
-RowFits s cell = (row : Row) → row_behind s cell ≡ Ok row → IsTrue (fits s (Restored row))
+abbrev pub RowFits : Format → State → Cell → Type 0
+RowFits format s cell =
+    (row : Row) → row_behind format s cell ≡ Ok row → IsTrue (fits s (Restored row))
 
 -- how many rows the four lists have
 abbrev pub row_count : State → ℕ

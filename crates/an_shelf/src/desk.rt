@@ -7,12 +7,13 @@ ghost use Rattle.an_state.specs.Sound.{is_sound};
 ghost use Rattle.an_machine.specs.Step.{step};
 ghost use Rattle.an_rows.specs.Cells.{cells};
 ghost use Rattle.an_rows.specs.Valid.{is_valid};
-ghost use Rattle.an_shelf.specs.Opening.{IsDamagedBy, StandFor, WasDamagedBy, WasOpened};
+ghost use Rattle.an_shelf.specs.Opening.{IsDamagedBy, RenewsOrBegins, StandFor, WasDamagedBy};
+ghost use Rattle.an_shelf.specs.Opening.{WasOpened, renewed};
 ghost use Rattle.an_shelf.specs.Store.{Rests, settled};
 ghost use Rattle.an_shelf.specs.Writing.{IsRefused, Leaves, RunsOut, Writes};
 
 use crate::error::{OpenError, WriteError};
-use crate::front::Front;
+use crate::lagging_look::LaggingLook;
 use crate::opening::{Loaded, load};
 use crate::writing::write;
 use an_base::Moment;
@@ -32,7 +33,7 @@ use std::marker::Model;
 pub struct Desk<K: Keeper> {
     keeper: K,
     book: Book,
-    front: Front,
+    front: LaggingLook,
 }
 
 impl<K: Keeper> Model for Desk<K> {
@@ -60,17 +61,20 @@ pub struct NotOpened<K: Keeper> {
 }
 
 impl<K: Keeper> Desk<K> {
-    /// Opens a keeper: the state is the one that its cells stand for. Where it is refused, the
-    /// keeper is given back, and no cell of it was changed.
+    /// Opens a keeper: the state is the one that its cells stand for. Cells of the first format are
+    /// turned into today's by one commit, after which a program of the version before finds them
+    /// damaged; others stay. Where it is refused, the keeper is given back, and no cell of it was
+    /// changed.
     pub fn open(alloc: Global, mut keeper: K) -> Result<Desk<K>, NotOpened<K>>
         ensures state { IfOk result (λ desk. StandFor desk.told desk.state) }
-        ensures stays { IfOk result (λ desk. StaysOrBegins (K.told keeper) desk.told) }
+        ensures renewed { IfOk result
+            (λ desk. RenewsOrBegins desk.state (K.told keeper) desk.told) }
         ensures cells { IfOk result (λ desk. IfSome desk.told (λ found. found
             ≡ cells desk.state)) }
         ensures opened { IfOk result
             (λ desk. WasOpened (K.told keeper) desk.told desk.state) }
         ensures never { IfOk result
-            (λ desk. K.may_begin ≡ false → Stays (K.told keeper) desk.told) }
+            (λ desk. K.may_begin ≡ false → Turns (renewed desk.state) (K.told keeper) desk.told) }
 
         // Where it is refused.
         ensures refused { IfErr result (λ its. IsDamagedBy (K.told its.keeper) its.why) }
@@ -93,7 +97,7 @@ impl<K: Keeper> Desk<K> {
         match load(alloc, &mut keeper) {
             Ok(loaded) => {
                 let Loaded { book, snapshot } = loaded;
-                let front = Front::new(snapshot);
+                let front = LaggingLook::new(snapshot);
                 Ok(Desk {
                     keeper,
                     book,

@@ -1,17 +1,20 @@
-ghost use Rattle.std.specs.Prelude.{◌≡◌, ◌≤◌, IfErr, IfOk, IfSome, IsTrue, OnOk, Some, [], false};
+ghost use Rattle.std.specs.Prelude.{◌≡◌, ◌≤◌, Err, IfErr, IfOk, IfSome, IsTrue, OnErr, OnOk};
+ghost use Rattle.std.specs.Prelude.{Some, [], false};
 ghost use Rattle.an_keep.specs.Cells.{Ascend, first_of};
 ghost use Rattle.an_base.specs.Faults.{Rises};
-ghost use Rattle.an_keep.specs.Keeper.{Stays, StaysOrBegins};
+ghost use Rattle.an_keep.specs.Keeper.{Stays, StaysOrBegins, Turns};
 ghost use Rattle.an_state.specs.Sound.{is_sound};
 ghost use Rattle.an_state.specs.State.{empty};
-ghost use Rattle.an_rows.specs.Cells.{cells, is_first};
+ghost use Rattle.an_rows.specs.Cells.{cells, format_of};
 ghost use Rattle.an_rows.specs.Valid.{is_valid};
-ghost use Rattle.an_shelf.specs.Opening.{IsDamagedBy, StandFor};
-ghost use Rattle.an_shelf.specs.Reading.{ComesNext};
+ghost use Rattle.an_shelf.specs.Opening.{IsDamagedBy, RenewsOrBegins, StandFor, WasOpened};
+ghost use Rattle.an_shelf.specs.Opening.{renewed};
+ghost use Rattle.an_shelf.specs.Reading.{ComesNext, WasRead};
 
 use crate::error::OpenError;
 use crate::restoring::{damage, restore};
-use an_keep::{Cell, Keeper};
+use an_keep::{Cell, KeepError, Keeper};
+use an_rows::{Format, format_of, migration};
 use an_snapshot::Snapshot;
 use an_state::Book;
 use std::alloc::Global;
@@ -39,12 +42,23 @@ impl Loaded {
 }
 
 /// The state that a keeper's cells stand for, or which of them is damaged, the first in their
-/// order. The cells stay, while the keeper tells them.
+/// order. Cells of the first format are turned into today's, by one commit that is made once all
+/// are read: it holds the new texts of all annotations and activities at once. Cells of today's
+/// format stay, and so do all where the answer is an error.
 pub fn load<K: Keeper>(alloc: Global, keeper: &mut K) -> Result<Loaded, OpenError>
     ensures state { IfOk result (λ its. StandFor (K.told keeper.new) its.book.state) }
+    ensures opened { IfOk result
+        (λ its. WasOpened (K.told keeper.old) (K.told keeper.new) its.book.state) }
+    ensures renewed { IfOk result
+        (λ its. RenewsOrBegins its.book.state (K.told keeper.old) (K.told keeper.new)) }
+    ensures never { IfOk result (λ its. K.may_begin ≡ false
+        → Turns (renewed its.book.state) (K.told keeper.old) (K.told keeper.new)) }
+
+    // Where it is refused.
     ensures damaged { IfErr result (IsDamagedBy (K.told keeper.new)) }
-    ensures stays { StaysOrBegins (K.told keeper.old) (K.told keeper.new) }
-    ensures never { K.may_begin ≡ false → Stays (K.told keeper.old) (K.told keeper.new) }
+    ensures kept { IfErr result (λ error. StaysOrBegins (K.told keeper.old) (K.told keeper.new)) }
+    ensures never_refused { IfErr result (λ error. K.may_begin ≡ false
+        → Stays (K.told keeper.old) (K.told keeper.new)) }
     ensures counted { result ≡ Err OpenError.Keeper
         → Rises (K.faults keeper.old) (K.faults keeper.new) }
     ensures faults_kept { K.faults keeper.old ≤ K.faults keeper.new }
@@ -64,13 +78,103 @@ pub fn load<K: Keeper>(alloc: Global, keeper: &mut K) -> Result<Loaded, OpenErro
     }
 }
 
-/// The state that the cells stand for of which this is the first.
+/// The state that the cells stand for of which this is the first, and which are renewed.
 fn load_from<K: Keeper>(alloc: Global, keeper: &mut K, first: &Cell) -> Result<Loaded, OpenError>
     requires first { IfSome (K.told keeper.old) (λ cells. Some first.now ≡ first_of cells) }
     requires ascend { IfSome (K.told keeper.old) Ascend }
     ensures state { IfOk result (λ its. StandFor (K.told keeper.new) its.book.state) }
+    ensures opened { IfOk result
+        (λ its. WasOpened (K.told keeper.old) (K.told keeper.new) its.book.state) }
+    ensures renewed { IfOk result
+        (λ its. Turns (renewed its.book.state) (K.told keeper.old) (K.told keeper.new)) }
     ensures cells { IfOk result (λ its. IfSome (K.told keeper.new)
         (λ found. found ≡ cells its.book.state)) }
+    ensures valid { IfOk result (λ its. IsTrue (is_valid its.book.state)) }
+    ensures sound { IfOk result (λ its. IsTrue (is_sound its.book.state)) }
+    ensures shown { IfOk result (λ its. its.snapshot.state ≡ its.book.state) }
+    ensures damaged { IfErr result (IsDamagedBy (K.told keeper.new)) }
+    ensures stays { IfErr result (λ error. Stays (K.told keeper.old) (K.told keeper.new)) }
+    ensures counted { result ≡ Err OpenError.Keeper
+        → Rises (K.faults keeper.old) (K.faults keeper.new) }
+    ensures faults_kept { K.faults keeper.old ≤ K.faults keeper.new }
+{
+    match format_of(first) {
+        Some(format) => load_in(alloc, keeper, format, first),
+        None => Err(damage(first)),
+    }
+}
+
+/// The same where the first cell names this format.
+#[tactic(auto, using(crate::proofs::OpeningLemmas::reading_renewed))]
+fn load_in<K: Keeper>(
+    alloc: Global,
+    keeper: &mut K,
+    format: Format,
+    first: &Cell,
+) -> Result<Loaded, OpenError>
+    requires format { format_of first.now ≡ Some format }
+    requires first { IfSome (K.told keeper.old) (λ cells. Some first.now ≡ first_of cells) }
+    requires ascend { IfSome (K.told keeper.old) Ascend }
+    ensures state { IfOk result (λ its. StandFor (K.told keeper.new) its.book.state) }
+    ensures opened { IfOk result
+        (λ its. WasOpened (K.told keeper.old) (K.told keeper.new) its.book.state) }
+    ensures renewed { IfOk result
+        (λ its. Turns (renewed its.book.state) (K.told keeper.old) (K.told keeper.new)) }
+    ensures cells { IfOk result (λ its. IfSome (K.told keeper.new)
+        (λ found. found ≡ cells its.book.state)) }
+    ensures valid { IfOk result (λ its. IsTrue (is_valid its.book.state)) }
+    ensures sound { IfOk result (λ its. IsTrue (is_sound its.book.state)) }
+    ensures shown { IfOk result (λ its. its.snapshot.state ≡ its.book.state) }
+    ensures damaged { IfErr result (IsDamagedBy (K.told keeper.new)) }
+    ensures stays { IfErr result (λ error. Stays (K.told keeper.old) (K.told keeper.new)) }
+    ensures counted { result ≡ Err OpenError.Keeper
+        → Rises (K.faults keeper.old) (K.faults keeper.new) }
+    ensures faults_kept { K.faults keeper.old ≤ K.faults keeper.new }
+{
+    let loaded = read_from(alloc, keeper, format, first)?;
+    renew(alloc, keeper, format, &loaded.book)?;
+    Ok(loaded)
+}
+
+/// Turns the cells of the book's state into today's format. It calls the keeper only where they
+/// are of the first.
+#[tactic(auto, using(crate::proofs::OpeningLemmas::renewing))]
+fn renew<K: Keeper>(
+    alloc: Global,
+    keeper: &mut K,
+    format: Format,
+    book: &Book,
+) -> Result<(), KeepError>
+    requires read { IfSome (K.told keeper.old) (WasRead format book.now.state) }
+    ensures renewed { OnOk result
+        (Turns (renewed book.now.state) (K.told keeper.old) (K.told keeper.new)) }
+    ensures stays { OnErr result (Stays (K.told keeper.old) (K.told keeper.new)) }
+    ensures counted { result ≡ Err KeepError.Failed
+        → Rises (K.faults keeper.old) (K.faults keeper.new) }
+    ensures faults_kept { K.faults keeper.old ≤ K.faults keeper.new }
+{
+    match format {
+        Format::First => {
+            let changes = migration(alloc, book)?;
+            keeper.commit(changes.as_slice())
+        }
+        Format::Second => Ok(()),
+    }
+}
+
+/// The state that the cells stand for of which this is the first, in this format.
+fn read_from<K: Keeper>(
+    alloc: Global,
+    keeper: &mut K,
+    format: Format,
+    first: &Cell,
+) -> Result<Loaded, OpenError>
+    requires format { format_of first.now ≡ Some format }
+    requires first { IfSome (K.told keeper.old) (λ cells. Some first.now ≡ first_of cells) }
+    requires ascend { IfSome (K.told keeper.old) Ascend }
+    ensures state { IfOk result (λ its. StandFor (K.told keeper.new) its.book.state) }
+    ensures read { IfOk result (λ its. IfSome (K.told keeper.new)
+        (WasRead format its.book.state)) }
     ensures valid { IfOk result (λ its. IsTrue (is_valid its.book.state)) }
     ensures sound { IfOk result (λ its. IsTrue (is_sound its.book.state)) }
     ensures shown { IfOk result (λ its. its.snapshot.state ≡ its.book.state) }
@@ -80,29 +184,23 @@ fn load_from<K: Keeper>(alloc: Global, keeper: &mut K, first: &Cell) -> Result<L
         → Rises (K.faults keeper.old) (K.faults keeper.new) }
     ensures faults_kept { K.faults keeper.old ≤ K.faults keeper.new }
 {
-    if !is_first(first) {
-        return Err(damage(first));
-    }
     match keeper.next_after(first.tab, first.key)? {
-        Some(cell) => load_rows(alloc, keeper, cell),
+        Some(cell) => read_rows(alloc, keeper, format, cell),
         None => Err(damage(first)),
     }
 }
 
-/// Whether the cell says how the others are written.
-#[tactic(auto, unfolding(an_rows::specs::Cells::is_first))]
-fn is_first(cell: &Cell) -> bool
-    ensures { result ≡ is_first cell.now }
-{
-    cell.tab == 0 && cell.key == 0 && cell.val.as_slice() == "{\"format\":1}".as_bytes()
-}
-
 /// The state of the rows from this cell on, which stands behind the first.
-fn load_rows<K: Keeper>(alloc: Global, keeper: &mut K, cell: Cell) -> Result<Loaded, OpenError>
-    requires next { IfSome (K.told keeper.old) (ComesNext [] cell) }
+fn read_rows<K: Keeper>(
+    alloc: Global,
+    keeper: &mut K,
+    format: Format,
+    cell: Cell,
+) -> Result<Loaded, OpenError>
+    requires next { IfSome (K.told keeper.old) (ComesNext format [] cell) }
     ensures state { IfOk result (λ its. StandFor (K.told keeper.new) its.book.state) }
-    ensures cells { IfOk result (λ its. IfSome (K.told keeper.new)
-        (λ found. found ≡ cells its.book.state)) }
+    ensures read { IfOk result (λ its. IfSome (K.told keeper.new)
+        (WasRead format its.book.state)) }
     ensures valid { IfOk result (λ its. IsTrue (is_valid its.book.state)) }
     ensures sound { IfOk result (λ its. IsTrue (is_sound its.book.state)) }
     ensures shown { IfOk result (λ its. its.snapshot.state ≡ its.book.state) }
@@ -113,7 +211,7 @@ fn load_rows<K: Keeper>(alloc: Global, keeper: &mut K, cell: Cell) -> Result<Loa
     ensures faults_kept { K.faults keeper.old ≤ K.faults keeper.new }
 {
     let mut loaded = Loaded::new(alloc);
-    match restore_rows(alloc, keeper, &mut loaded, cell) {
+    match restore_rows(alloc, keeper, &mut loaded, format, cell) {
         Ok(()) => Ok(loaded),
         Err(error) => Err(error),
     }
@@ -124,14 +222,15 @@ fn restore_rows<K: Keeper>(
     alloc: Global,
     keeper: &mut K,
     loaded: &mut Loaded,
+    format: Format,
     cell: Cell,
 ) -> Result<(), OpenError>
-    requires next { IfSome (K.told keeper.old) (ComesNext [] cell) }
+    requires next { IfSome (K.told keeper.old) (ComesNext format [] cell) }
     requires empty { loaded.old.book.state ≡ empty }
     requires shown { loaded.old.snapshot.state ≡ loaded.old.book.state }
     ensures state { OnOk result (StandFor (K.told keeper.new) loaded.new.book.state) }
-    ensures cells { OnOk result (IfSome (K.told keeper.new)
-        (λ found. found ≡ cells loaded.new.book.state)) }
+    ensures read { OnOk result (IfSome (K.told keeper.new)
+        (WasRead format loaded.new.book.state)) }
     ensures valid { OnOk result (IsTrue (is_valid loaded.new.book.state)) }
     ensures sound { OnOk result (IsTrue (is_sound loaded.new.book.state)) }
     ensures shown { OnOk result (loaded.new.snapshot.state ≡ loaded.new.book.state) }
@@ -143,7 +242,7 @@ fn restore_rows<K: Keeper>(
 {
     let mut cell = cell;
     for _ in 0..MOST_ROWS {
-        restore(alloc, loaded, &cell)?;
+        restore(alloc, loaded, format, &cell)?;
         match keeper.next_after(cell.tab, cell.key)? {
             Some(next) => cell = next,
             None => return Ok(()),

@@ -18,24 +18,29 @@ use an_base::{Name, Text, TryCopy};
 use an_keep::Cell;
 use an_keyed::Keyed;
 use an_policy::Caller;
-use an_rows::{RowError, read_row};
+use an_rows::{Format, RowError, read_row};
 use an_snapshot::Snapshot;
 use an_state::{Activity, Book, Entry, Look, ManifestRow, NoteRow, ReaderRow, Row};
 use std::alloc::{AllocError, Global};
 
 /// Puts the row of a cell behind those of the book, and shows it.
-pub(crate) fn restore(alloc: Global, loaded: &mut Loaded, cell: &Cell) -> Result<(), OpenError>
+pub(crate) fn restore(
+    alloc: Global,
+    loaded: &mut Loaded,
+    format: Format,
+    cell: &Cell,
+) -> Result<(), OpenError>
     requires few { row_count loaded.old.book.state < 2 ^ 62 }
-    requires fits { RowFits loaded.old.book.state cell.now }
+    requires fits { RowFits format loaded.old.book.state cell.now }
     requires shown { loaded.old.snapshot.state ≡ loaded.old.book.state }
     ensures row { OnOk result
-        (state_behind loaded.old.book.state cell.now ≡ Ok loaded.new.book.state) }
-    ensures damaged { IfErr result (IsDamage (state_behind loaded.old.book.state cell.now)) }
+        (state_behind format loaded.old.book.state cell.now ≡ Ok loaded.new.book.state) }
+    ensures damaged { IfErr result (IsDamage (state_behind format loaded.old.book.state cell.now)) }
     ensures one { OnOk result
         (row_count loaded.new.book.state ≤ row_count loaded.old.book.state + 1) }
     ensures shown { OnOk result (loaded.new.snapshot.state ≡ loaded.new.book.state) }
 {
-    let row = row_behind(alloc, &loaded.book, cell)?;
+    let row = row_behind(alloc, &loaded.book, format, cell)?;
     put(&mut loaded.book, &mut loaded.snapshot, Entry::Restored(row))?;
     Ok(())
 }
@@ -65,11 +70,11 @@ fn show(book: &mut Book, snapshot: &mut Snapshot, entry: &Entry) -> Result<(), A
 }
 
 /// The row of a cell, where it may stand behind those of the book.
-fn row_behind(alloc: Global, book: &Book, cell: &Cell) -> Result<Row, OpenError>
+fn row_behind(alloc: Global, book: &Book, format: Format, cell: &Cell) -> Result<Row, OpenError>
     requires few { row_count book.now.state < 2 ^ 62 }
-    ensures row { Reads result (row_behind book.now.state cell.now) }
+    ensures row { Reads result (row_behind format book.now.state cell.now) }
 {
-    match read_row(alloc, cell.tab, cell.key, cell.val.as_slice()) {
+    match read_row(alloc, format, cell.tab, cell.key, cell.val.as_slice()) {
         Ok(row) => if_next(book, cell, row),
         Err(error) => Err(read_error(cell, error)),
     }

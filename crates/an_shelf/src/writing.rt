@@ -13,8 +13,8 @@ ghost use Rattle.an_shelf.specs.Store.{Stands};
 ghost use Rattle.an_shelf.specs.Writing.{IsRefused, RunsOut, Writes};
 
 use crate::error::WriteError;
-use crate::front::Front;
 use crate::keeping::{decide, put};
+use crate::lagging_look::LaggingLook;
 use an_base::Moment;
 use an_keep::Keeper;
 use an_machine::{Decided, Refused, WriteReply};
@@ -28,7 +28,7 @@ pub(crate) fn write<K: Keeper>(
     alloc: Global,
     keeper: &mut K,
     book: &mut Book,
-    front: &mut Front,
+    front: &mut LaggingLook,
     moment: Moment,
     caller: &Caller,
     command: &Command,
@@ -72,7 +72,7 @@ fn write_settled<K: Keeper>(
     alloc: Global,
     keeper: &mut K,
     book: &mut Book,
-    front: &mut Front,
+    front: &mut LaggingLook,
     moment: Moment,
     caller: &Caller,
     command: &Command,
@@ -117,7 +117,7 @@ fn carry_out<K: Keeper>(
     alloc: Global,
     keeper: &mut K,
     book: &mut Book,
-    front: &mut Front,
+    front: &mut LaggingLook,
     decided: Decided,
 ) -> Result<WriteReply, WriteError>
     requires settled { IfSome decided.entry (λ entry. IsTrue (is_settled book.old.state entry)) }

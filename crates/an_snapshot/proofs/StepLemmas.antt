@@ -23,8 +23,8 @@ use Rattle.an_snapshot.specs.Listing.{IsFiled, IsListing}
 use Rattle.an_snapshot.specs.Over.{audience_over, stand_over}
 use Rattle.an_snapshot.specs.Plan.{AreLeft, rows_fit, state_behind}
 use Rattle.an_snapshot.specs.Steps.{HasStepRoom, IsOther, IsStep, IsStepOver, filed_in}
-use Rattle.an_snapshot.specs.declared.steps.Step.{Step}
-use Rattle.an_snapshot.specs.declared.steps.Step.TheVariants.{Other, Note}
+use Rattle.an_snapshot.specs.declared.planned_row.PlannedRow.{PlannedRow}
+use Rattle.an_snapshot.specs.declared.planned_row.PlannedRow.TheVariants.{Other, Note}
 use Rattle.an_snapshot.proofs.AllLemmas.{All-gives, All-nil}
 use Rattle.an_snapshot.proofs.FiledLemmas.{filed-kept}
 use Rattle.an_snapshot.proofs.OverLemmas.{audience-over}
@@ -32,11 +32,11 @@ use Rattle.an_snapshot.proofs.StandOver.{stand-rows}
 
 -- ---- a plan
 
-pub step-grown : (s : State) (manifests : List ManifestState) (old new : List Audience) → Grows old new → (step : Step) → IsStepOver s manifests old step → IsStepOver s manifests new step
+pub step-grown : (s : State) (manifests : List ManifestState) (old new : List Audience) → Grows old new → (step : PlannedRow) → IsStepOver s manifests old step → IsStepOver s manifests new step
 step-grown s manifests old new grows (Other row) is = is
 step-grown s manifests old new grows (Note row filed) is = (is.0, λ audience then. grows audience filed.class (is.1 audience then))
 
-pub step-behind : (rows : List Row) (s : State) (manifests : List ManifestState) → manifests ≡ (with_rows rows empty).manifests → (classes : List Audience) (step : Step)
+pub step-behind : (rows : List Row) (s : State) (manifests : List ManifestState) → manifests ≡ (with_rows rows empty).manifests → (classes : List Audience) (step : PlannedRow)
     → IsStepOver s manifests classes step → IsStep (with_rows rows s) classes step
 step-behind rows s manifests left classes (Other row) is = is
 step-behind rows s manifests left classes (Note row filed) is = (
@@ -83,15 +83,15 @@ notes-other s (kept.Manifest row) is = refl
 notes-other s (kept.Note row) is = absurd is
 notes-other s (kept.Activity activity) is = refl
 
-pub step-room : (step : Step) (rest : List Filed) (lists : Listings) → HasRoom (filed_in step ++ rest) lists → HasStepRoom step lists
+pub step-room : (step : PlannedRow) (rest : List Filed) (lists : Listings) → HasRoom (filed_in step ++ rest) lists → HasStepRoom step lists
 step-room (Other row) rest lists room = tt
 step-room (Note row filed) rest lists room = first-room filed rest lists room
 
-step-filed : (s : State) (classes : List Audience) (step : Step) → IsStep s classes step → All (IsFiled s classes) (filed_in step)
+step-filed : (s : State) (classes : List Audience) (step : PlannedRow) → IsStep s classes step → All (IsFiled s classes) (filed_in step)
 step-filed s classes (Other row) is = All-nil (IsFiled s classes)
 step-filed s classes (Note row filed) is = All-cons (IsFiled s classes) filed [] is.1 (All-nil (IsFiled s classes))
 
-pub steps-filed : (s : State) (classes : List Audience) (steps : List Step) → All (IsStep s classes) steps → All (IsFiled s classes) (flat_map filed_in steps)
+pub steps-filed : (s : State) (classes : List Audience) (steps : List PlannedRow) → All (IsStep s classes) steps → All (IsFiled s classes) (flat_map filed_in steps)
 steps-filed s classes [] all = All-nil (IsFiled s classes)
 steps-filed s classes (step ∷ steps) all =
     All-append (IsFiled s classes) (filed_in step) (flat_map filed_in steps)

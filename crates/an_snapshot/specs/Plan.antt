@@ -11,9 +11,9 @@ use Rattle.an_listed.specs.Room.{HasRoom}
 use Rattle.an_listed.specs.Stands.{Listings}
 use Rattle.an_snapshot.specs.Fits.{activities_of, fits, keep_groups, notes_stand, rows_of}
 use Rattle.an_snapshot.specs.Steps.{IsStep, filed_in, row_of_step}
-use Rattle.an_snapshot.specs.declared.left.Left.{Left}
+use Rattle.an_snapshot.specs.declared.last_rows.LastRows.{LastRows}
 use Rattle.an_snapshot.specs.declared.prepare.Prepared.{Prepared}
-use Rattle.an_snapshot.specs.declared.steps.Step.{Step}
+use Rattle.an_snapshot.specs.declared.planned_row.PlannedRow.{PlannedRow}
 
 -- of these rows' manifests and annotations the last row of each
 pub record AreLeft (rows : List Row) (last_manifests : List ManifestState)
@@ -22,7 +22,7 @@ pub record AreLeft (rows : List Row) (last_manifests : List ManifestState)
   pub notes : last_notes ≡ (with_rows rows empty).notes
 
 -- what is left of the rows, where no manifest's group changes
-abbrev pub Leaves : State → List Row → Option Left → Type 0
+abbrev pub Leaves : State → List Row → Option LastRows → Type 0
 Leaves s rows None = keep_groups s rows ≡ false
 Leaves s rows (Some left) =
     (keep_groups s rows ≡ true) × AreLeft rows left.manifests.rows left.notes.rows
@@ -32,13 +32,13 @@ abbrev pub rows_fit : State → List Row → Bool
 rows_fit s rows = keep_groups s rows && notes_stand (with_rows rows s)
 
 -- what is left of the rows, where they fit
-abbrev pub LeavesFitting : State → List Row → Option Left → Type 0
+abbrev pub LeavesFitting : State → List Row → Option LastRows → Type 0
 LeavesFitting s rows None = rows_fit s rows ≡ false
 LeavesFitting s rows (Some left) =
     (rows_fit s rows ≡ true) × AreLeft rows left.manifests.rows left.notes.rows
 
 -- the steps are those of the rows, where the rows fit
-abbrev pub Plans : State → List Audience → List Row → Option (List Step) → Type 0
+abbrev pub Plans : State → List Audience → List Row → Option (List PlannedRow) → Type 0
 Plans s classes rows None = rows_fit s rows ≡ false
 Plans s classes rows (Some steps) =
     (rows_fit s rows ≡ true) × (map row_of_step steps ≡ rows)

@@ -10,16 +10,16 @@ use Rattle.an_listed.specs.Stands.{Listings}
 use Rattle.an_listed.specs.declared.filed.Filed.{Filed}
 use Rattle.an_snapshot.specs.Listing.{IsFiled}
 use Rattle.an_snapshot.specs.Over.{audience_over}
-use Rattle.an_snapshot.specs.declared.steps.Step.{Step}
-use Rattle.an_snapshot.specs.declared.steps.Step.TheVariants.{Other, Note}
+use Rattle.an_snapshot.specs.declared.planned_row.PlannedRow.{PlannedRow}
+use Rattle.an_snapshot.specs.declared.planned_row.PlannedRow.TheVariants.{Other, Note}
 
 -- the row of a step
-abbrev pub row_of_step : Step → Row
+abbrev pub row_of_step : PlannedRow → Row
 row_of_step (Other row) = row
 row_of_step (Note row filed) = kept.Note row
 
 -- what is filed in a step
-abbrev pub filed_in : Step → List Filed
+abbrev pub filed_in : PlannedRow → List Filed
 filed_in (Other row) = []
 filed_in (Note row filed) = filed ∷ []
 
@@ -31,12 +31,12 @@ IsOther (kept.Note row) = ⊥
 IsOther (kept.Activity activity) = ⊤
 
 -- what is filed is the annotation's own row
-abbrev pub IsSame : Step → Type 0
+abbrev pub IsSame : PlannedRow → Type 0
 IsSame (Other row) = IsOther row
 IsSame (Note row filed) = filed.note ≡ row
 
 -- what is filed is the annotation's row, under its class in this state
-abbrev pub IsStep : State → List Audience → Step → Type 0
+abbrev pub IsStep : State → List Audience → PlannedRow → Type 0
 IsStep s classes (Other row) = IsOther row
 IsStep s classes (Note row filed) = (filed.note ≡ row) × IsFiled s classes filed
 
@@ -47,12 +47,12 @@ IsFiledOver s manifests classes row class =
     → class_of audience classes ≡ Some class
 
 -- the same over these manifests
-abbrev pub IsStepOver : State → List ManifestState → List Audience → Step → Type 0
+abbrev pub IsStepOver : State → List ManifestState → List Audience → PlannedRow → Type 0
 IsStepOver s manifests classes (Other row) = IsOther row
 IsStepOver s manifests classes (Note row filed) =
     (filed.note ≡ row) × IsFiledOver s manifests classes row filed.class
 
 -- there is room for what is filed in a step
-abbrev pub HasStepRoom : Step → Listings → Type 0
+abbrev pub HasStepRoom : PlannedRow → Listings → Type 0
 HasStepRoom (Other row) lists = ⊤
 HasStepRoom (Note row filed) lists = HasRoom (filed ∷ []) lists

@@ -2,7 +2,7 @@ ghost use Rattle.std.specs.Prelude.{◌≡◌, IfOk, map};
 ghost use Rattle.std.specs.List.{list_all};
 ghost use Rattle.an_snapshot.specs.Over.{has_place, is_based, is_cleared, stand_over};
 
-use crate::left::Left;
+use crate::last_rows::LastRows;
 use an_keyed::Keyed;
 use an_listed::{Filed, Listed};
 use an_state::{Book, ManifestRow, NoteRow};
@@ -13,7 +13,7 @@ pub(crate) fn stand(
     alloc: Global,
     book: &Book,
     listed: &Listed,
-    left: &Left,
+    left: &LastRows,
 ) -> Result<bool, AllocError>
     requires notes { map (λ filed. filed.note) listed.now.rows ≡ book.now.state.notes }
     ensures stand { IfOk result (λ stand. stand
@@ -27,7 +27,7 @@ pub(crate) fn stand(
 }
 
 /// Whether the manifest of each annotation that is left is live then.
-fn are_based(book: &Book, left: &Left) -> bool
+fn are_based(book: &Book, left: &LastRows) -> bool
     ensures { result
         ≡ list_all (is_based book.now.state left.now.manifests.rows) left.now.notes.rows }
 {
@@ -39,7 +39,7 @@ fn are_based(book: &Book, left: &Left) -> bool
     true
 }
 
-fn is_based(book: &Book, left: &Left, row: &NoteRow) -> bool
+fn is_based(book: &Book, left: &LastRows, row: &NoteRow) -> bool
     ensures { result ≡ is_based book.now.state left.now.manifests.rows row.now }
 {
     match row.live() {
@@ -52,7 +52,12 @@ fn is_based(book: &Book, left: &Left, row: &NoteRow) -> bool
 }
 
 /// Whether no manifest that is deleted leaves a live annotation.
-fn are_cleared(alloc: Global, book: &Book, listed: &Listed, left: &Left) -> Result<bool, AllocError>
+fn are_cleared(
+    alloc: Global,
+    book: &Book,
+    listed: &Listed,
+    left: &LastRows,
+) -> Result<bool, AllocError>
     requires notes { map (λ filed. filed.note) listed.now.rows ≡ book.now.state.notes }
     ensures { IfOk result (λ cleared. cleared
         ≡ list_all (is_cleared book.now.state left.now.notes.rows) left.now.manifests.rows) }
@@ -69,7 +74,7 @@ fn is_cleared(
     alloc: Global,
     book: &Book,
     listed: &Listed,
-    left: &Left,
+    left: &LastRows,
     row: &ManifestRow,
 ) -> Result<bool, AllocError>
     requires notes { map (λ filed. filed.note) listed.now.rows ≡ book.now.state.notes }
@@ -84,7 +89,7 @@ fn is_cleared(
 }
 
 /// Whether each annotation at these places is left.
-fn have_places(left: &Left, rows: &[Filed], places: &[usize]) -> bool
+fn have_places(left: &LastRows, rows: &[Filed], places: &[usize]) -> bool
     ensures { result ≡ list_all (has_place left.now.notes.rows rows.now) places.now }
 {
     for place in places {
@@ -95,7 +100,7 @@ fn have_places(left: &Left, rows: &[Filed], places: &[usize]) -> bool
     true
 }
 
-fn has_place(left: &Left, rows: &[Filed], place: usize) -> bool
+fn has_place(left: &LastRows, rows: &[Filed], place: usize) -> bool
     ensures { result ≡ has_place left.now.notes.rows rows.now place }
 {
     match rows.get(place) {

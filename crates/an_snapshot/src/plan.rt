@@ -6,14 +6,14 @@ ghost use Rattle.an_snapshot.specs.Listing.{IsListing};
 ghost use Rattle.an_snapshot.specs.Plan.{AreLeft, LeavesFitting, Plans};
 ghost use Rattle.an_snapshot.specs.Steps.{IsFiledOver, IsStepOver};
 ghost use Rattle.an_snapshot.specs.Steps.{row_of_step};
-ghost use Rattle.an_snapshot.specs.declared.steps.Step.TheVariants.{Note};
+ghost use Rattle.an_snapshot.specs.declared.planned_row.PlannedRow.TheVariants.{Note};
 
 use crate::fits::stand;
-use crate::left::{Left, left_of};
-use crate::steps::Step;
+use crate::last_rows::{LastRows, left_of};
+use crate::planned_row::PlannedRow;
 use an_base::{Name, Shared, TryCopy};
 use an_listed::{Filed, Listed};
-use an_policy::{Audience, Classes, Group};
+use an_policy::{Audience, Classes, Group, Inner};
 use an_state::{Book, NoteRow, Row};
 use std::alloc::{AllocError, Global};
 
@@ -24,7 +24,7 @@ pub(crate) fn plan(
     classes: &mut Classes,
     listed: &Listed,
     rows: Vec<Row>,
-) -> Result<Option<Vec<Step>>, AllocError>
+) -> Result<Option<Vec<PlannedRow>>, AllocError>
     requires listing { IsListing book.now.state classes.old listed.now.rows }
     ensures grows { Grows classes.old classes.new }
     ensures plan { IfOk result (λ steps.
@@ -45,7 +45,7 @@ fn left_by(
     book: &Book,
     listed: &Listed,
     rows: &[Row],
-) -> Result<Option<Left>, AllocError>
+) -> Result<Option<LastRows>, AllocError>
     requires notes { map (λ filed. filed.note) listed.now.rows ≡ book.now.state.notes }
     requires distinct { is_distinct book.now.state ≡ true }
     requires stand { notes_stand book.now.state ≡ true }
@@ -66,9 +66,9 @@ fn steps_of(
     alloc: Global,
     book: &Book,
     classes: &mut Classes,
-    left: &Left,
+    left: &LastRows,
     rows: Vec<Row>,
-) -> Result<Vec<Step>, AllocError>
+) -> Result<Vec<PlannedRow>, AllocError>
     ensures grows { Grows classes.old classes.new }
     ensures rows { IfOk result (λ steps. map row_of_step steps.items ≡ rows.items) }
     ensures steps { IfOk result (λ steps. All
@@ -81,7 +81,12 @@ fn steps_of(
     Ok(steps)
 }
 
-fn step_of(book: &Book, classes: &mut Classes, left: &Left, row: Row) -> Result<Step, AllocError>
+fn step_of(
+    book: &Book,
+    classes: &mut Classes,
+    left: &LastRows,
+    row: Row,
+) -> Result<PlannedRow, AllocError>
     ensures grows { Grows classes.old classes.new }
     ensures row { IfOk result (λ step. row_of_step step ≡ row) }
     ensures step { IfOk result
@@ -92,17 +97,17 @@ fn step_of(book: &Book, classes: &mut Classes, left: &Left, row: Row) -> Result<
             let class = class_in(book, classes, left, row.get())?;
             note_step(row, class)
         }
-        Row::Reader(row) => Ok(Step::Other(Row::Reader(row))),
-        Row::Manifest(row) => Ok(Step::Other(Row::Manifest(row))),
-        Row::Activity(activity) => Ok(Step::Other(Row::Activity(activity))),
+        Row::Reader(row) => Ok(PlannedRow::Other(Row::Reader(row))),
+        Row::Manifest(row) => Ok(PlannedRow::Other(Row::Manifest(row))),
+        Row::Activity(activity) => Ok(PlannedRow::Other(Row::Activity(activity))),
     }
 }
 
-fn note_step(row: Shared<NoteRow>, class: usize) -> Result<Step, AllocError>
+fn note_step(row: Shared<NoteRow>, class: usize) -> Result<PlannedRow, AllocError>
     ensures { IfOk result (λ step. step ≡ Note row (record { note = row; class = class })) }
 {
     let note = row.copy()?;
-    Ok(Step::Note(row, Filed { note, class }))
+    Ok(PlannedRow::Note(row, Filed { note, class }))
 }
 
 /// The class of an annotation's audience, which has one then where the annotation is live and its
@@ -110,7 +115,7 @@ fn note_step(row: Shared<NoteRow>, class: usize) -> Result<Step, AllocError>
 fn class_in(
     book: &Book,
     classes: &mut Classes,
-    left: &Left,
+    left: &LastRows,
     row: &NoteRow,
 ) -> Result<usize, AllocError>
     ensures grows { Grows classes.old classes.new }
@@ -130,7 +135,7 @@ fn class_in(
 fn class_of(
     classes: &mut Classes,
     outer: &Group,
-    inner: &Group,
+    inner: &Inner,
     owner: &Name,
 ) -> Result<usize, AllocError>
     ensures grows { Grows classes.old classes.new }
@@ -147,7 +152,7 @@ fn class_of(
 fn add_class(
     classes: &mut Classes,
     outer: &Group,
-    inner: &Group,
+    inner: &Inner,
     owner: &Name,
 ) -> Result<usize, AllocError>
     ensures grows { Grows classes.old classes.new }

@@ -7,7 +7,7 @@ ghost use Rattle.an_snapshot.specs.Plan.{HasAllRoom, IsPlanned};
 ghost use Rattle.an_snapshot.specs.Steps.{filed_in};
 
 use crate::plan::plan;
-use crate::steps::Step;
+use crate::planned_row::PlannedRow;
 use an_base::{Shared, TryCopy};
 use an_listed::{Filed, Listed};
 use an_policy::Classes;
@@ -17,7 +17,7 @@ use std::alloc::{AllocError, Global};
 /// What an entry comes to, for which all memory is taken.
 #[derive(Drop)]
 pub(crate) struct Prepared {
-    pub steps: Vec<Step>,
+    pub steps: Vec<PlannedRow>,
     pub activities: Vec<Shared<Activity>>,
 }
 
@@ -97,7 +97,7 @@ fn activities_of(alloc: Global, entry: &Entry) -> Result<Vec<Shared<Activity>>, 
     }
 }
 
-fn make_room(alloc: Global, listed: &mut Listed, steps: &[Step]) -> Result<(), AllocError>
+fn make_room(alloc: Global, listed: &mut Listed, steps: &[PlannedRow]) -> Result<(), AllocError>
     ensures room { OnOk result (HasRoom (flat_map filed_in steps.now) listed.new) }
     ensures rows { listed.new.rows ≡ listed.old.rows }
 {
@@ -106,14 +106,14 @@ fn make_room(alloc: Global, listed: &mut Listed, steps: &[Step]) -> Result<(), A
 }
 
 /// Copies of what is filed in steps.
-fn filed_in(alloc: Global, steps: &[Step]) -> Result<Vec<Filed>, AllocError>
+fn filed_in(alloc: Global, steps: &[PlannedRow]) -> Result<Vec<Filed>, AllocError>
     ensures { IfOk result (λ filed. filed.items ≡ flat_map filed_in steps.now) }
 {
     let mut filed = Vec::new(alloc);
     for step in steps {
         match step {
-            Step::Other(_) => {}
-            Step::Note(_, row) => filed.push(copy_filed(row)?)?,
+            PlannedRow::Other(_) => {}
+            PlannedRow::Note(_, row) => filed.push(copy_filed(row)?)?,
         }
     }
     Ok(filed)

@@ -10,14 +10,14 @@ ghost use Rattle.an_listed.specs.declared.filed.Filed.{Filed as FiledRow};
 ghost use Rattle.an_snapshot.specs.Listing.{IsFiled};
 ghost use Rattle.an_snapshot.specs.Steps.{HasStepRoom, IsSame, filed_in, row_of_step};
 
-use crate::steps::Step;
+use crate::planned_row::PlannedRow;
 use an_base::Shared;
 use an_keyed::Keyed;
 use an_listed::{Filed, Listed};
 use an_state::{Activity, Book, Entry, NoteRow, Row};
 
 /// Puts the rows of steps in order. It takes no memory.
-pub(crate) fn put_steps(book: &mut Book, listed: &mut Listed, steps: Vec<Step>)
+pub(crate) fn put_steps(book: &mut Book, listed: &mut Listed, steps: Vec<PlannedRow>)
     requires room { length steps.items ≤ book.old.room }
     requires lists { HasRoom (flat_map filed_in steps.items) listed.old }
     requires notes { map (λ filed. filed.note) listed.old.rows ≡ book.old.state.notes }
@@ -34,7 +34,7 @@ pub(crate) fn put_steps(book: &mut Book, listed: &mut Listed, steps: Vec<Step>)
     }
 }
 
-fn put_step(book: &mut Book, listed: &mut Listed, step: Step)
+fn put_step(book: &mut Book, listed: &mut Listed, step: PlannedRow)
     requires room { 0 < book.old.room }
     requires lists { HasStepRoom step listed.old }
     requires notes { map (λ filed. filed.note) listed.old.rows ≡ book.old.state.notes }
@@ -49,8 +49,8 @@ fn put_step(book: &mut Book, listed: &mut Listed, step: Step)
         → HasRoom rest listed.new }
 {
     match step {
-        Step::Other(row) => book.apply(Entry::Restored(row)),
-        Step::Note(row, filed) => put_note(book, listed, row, filed),
+        PlannedRow::Other(row) => book.apply(Entry::Restored(row)),
+        PlannedRow::Note(row, filed) => put_note(book, listed, row, filed),
     }
 }
 

@@ -47,7 +47,7 @@ use Rattle.sqlite_std_file.specs.contracts.record.Record as Record
 use Rattle.sqlite_std_file.specs.contracts.host.Host as Host
 use Rattle.an_sqlite.specs.contracts.ahead.Ahead as Ahead
 use Rattle.an_sqlite.specs.contracts.base.Base as Base
-use Rattle.an_sqlite.specs.contracts.place.Place as Place
+use Rattle.an_sqlite.specs.contracts.connecting.Connecting as Connecting
 use Rattle.an_sqlite.specs.contracts.teller.Teller as Teller
 use Rattle.an_sqlite.specs.contracts.keeper.SqlKeeper as SqlKeeper
 
@@ -180,7 +180,7 @@ module _ (S : RattleType) (g : Store.Ghosts S.Denot) where
   teller_send store = let base = base_send S g store in search (snapshot_send, declared_send, heap.crosses, sendable) depth 60 fits 40000
 
 module _ (S : RattleType) (g : Store.Ghosts S.Denot) where
-  place_send : IsSend S → IsSend (Place.the_row S g)
+  place_send : IsSend S → IsSend (Connecting.the_row S g)
   place_send store = let teller = teller_send S g store in search (variants_send, as_row_send, heap.crosses, sendable) depth 60 fits 40000
 
   pub keeper_send : IsSend S → IsSend (SqlKeeper.the_row S g)

@@ -14,7 +14,7 @@ use Rattle.sqlite.proofs.ListingLemmas.{empty_is_sound}
 use Rattle.an_keep.specs.declared.cell.Cell.{Cell}
 use Rattle.an_sqlite.specs.Cells.{table}
 use Rattle.an_sqlite.specs.Hold.{Hold, HoldTable}
-use Rattle.an_sqlite.specs.Place.{BeginsWith}
+use Rattle.an_sqlite.specs.Connecting.{BeginsWith}
 use Rattle.an_sqlite.specs.Table.{cell_schema, no_schema}
 use Rattle.an_sqlite.specs.Tells.{Rises, Tells, cells_of}
 use Rattle.an_sqlite.proofs.ChangeLemmas.{tells_from}

@@ -6,13 +6,13 @@ use Rattle.sqlite.specs.Held.{Held, state}
 use Rattle.sqlite.specs.State.{State, HasCleanDisk}
 use Rattle.an_keep.specs.Cells.{Ascend}
 use Rattle.an_keep.specs.declared.cell.Cell.{Cell}
-use Rattle.an_sqlite.specs.declared.place.Place.{Place}
-use Rattle.an_sqlite.specs.declared.place.Place.TheVariants.{Open, Refused}
+use Rattle.an_sqlite.specs.declared.connecting.Connecting.{Connecting}
+use Rattle.an_sqlite.specs.declared.connecting.Connecting.TheVariants.{Open, Refused}
 use Rattle.an_sqlite.specs.Base.{HasCells}
 use Rattle.an_sqlite.specs.declared.base.Base.{Base}
 use Rattle.an_sqlite.specs.Found.{may_tell}
 use Rattle.an_keep.specs.Keeper.{Told}
-use Rattle.an_sqlite.specs.Place.{BeginsWith, IsClean, IsSettled, connection_in, told_in}
+use Rattle.an_sqlite.specs.Connecting.{BeginsWith, IsClean, IsSettled, connection_in, told_in}
 use Rattle.an_sqlite.specs.Table.{no_schema}
 use Rattle.an_sqlite.specs.Tells.{Tells, cells_of}
 use Rattle.an_sqlite.specs.Told.{cells_in, is_well, told_by, told_if}
@@ -24,17 +24,17 @@ begins_with s cells (inl h) = inl h
 begins_with s cells (inr h) = inr (refl, h.0, h.1)
 
 module _ {S : Type 0} (g : Ghosts S) where
-  pub told_ascend : (place : Place S g) → IfSome (told_in g place) Ascend
+  pub told_ascend : (place : Connecting S g) → IfSome (told_in g place) Ascend
   told_ascend (Open teller) = told_ascends g teller.came.value teller.base
   told_ascend (Refused error) = tt
 
   -- where the cells are told no transaction is open
-  pub settled_in : (place : Place S g) → IsSome (told_in g place) → IsSettled g place
+  pub settled_in : (place : Connecting S g) → IsSome (told_in g place) → IsSettled g place
   settled_in (Open teller) some = settled_by g teller.came.value teller.base teller.known some
   settled_in (Refused error) some = absurd (untold some)
 
   -- where the cells are told the disk returned what was written
-  pub clean_told : (place : Place S g) → IsSome (told_in g place) → IsClean g place
+  pub clean_told : (place : Connecting S g) → IsSome (told_in g place) → IsClean g place
   clean_told (Open teller) some =
       let came = may_tell (state g teller.came.value) in
       let well = is_well (state g teller.base.conn) in
@@ -42,7 +42,7 @@ module _ {S : Type 0} (g : Ghosts S) where
   clean_told (Refused error) some = absurd (untold some)
 
   -- what holds of the cells that a keeper told holds of those that it tells where the disk is clean
-  pub told_clean : (place : Place S g) (P : Told → Type 0) (cells : List Cell) → P (told_in g place) → IsSome (told_in g place) → (IsClean g place → told_in g place ≡ Some cells) → P (Some cells)
+  pub told_clean : (place : Connecting S g) (P : Told → Type 0) (cells : List Cell) → P (told_in g place) → IsSome (told_in g place) → (IsClean g place → told_in g place ≡ Some cells) → P (Some cells)
   told_clean place P cells holds some tells = subst P (tells (clean_told place some)) holds
 
 -- what the keeper needs of a place whose cells it tells
@@ -74,11 +74,11 @@ module _ {S : Type 0} (g : Ghosts S) where
       → (HasCleanDisk (state g conn) → BeginsWith (state g conn) cells) → IfSome (told_by g came base) (λ told. told ≡ cells)
   first_begins came conn base cells same is begins = subst (λ told. IfSome told (λ found. found ≡ cells)) (sym (told_first g came conn base same is)) (told_begins (state g conn) cells begins)
 
-  pub clean_in : (place : Place S g) (conn : Held S) → connection_in place ≡ Some conn → IsClean g place → HasCleanDisk (state g conn)
+  pub clean_in : (place : Connecting S g) (conn : Held S) → connection_in place ≡ Some conn → IsClean g place → HasCleanDisk (state g conn)
   clean_in (Open teller) conn is clean = let same : teller.base.conn ≡ conn = cc in subst (λ (c : Held S). HasCleanDisk (state g c)) same clean
   clean_in (Refused error) conn is clean = absurd clean
 
-  pub none_clean : (place : Place S g) → connection_in place ≡ None → IsClean g place → ⊥
+  pub none_clean : (place : Connecting S g) → connection_in place ≡ None → IsClean g place → ⊥
   none_clean (Open teller) none clean = absurd cc
   none_clean (Refused error) none clean = clean
 

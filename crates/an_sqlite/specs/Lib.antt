@@ -4,7 +4,7 @@ pub mod Cells
 pub mod Found
 pub mod Hold
 pub mod Later
-pub mod Place
+pub mod Connecting
 pub mod Row
 pub mod Statements
 pub mod Table

@@ -5,15 +5,15 @@ ghost use Rattle.an_base.specs.Faults.{Rises};
 ghost use Rattle.an_keep.specs.Cells.{Ascend, first_of, next_after, put_changes};
 ghost use Rattle.an_keep.specs.Keeper.{Stays, StaysOrBegins, Turns};
 ghost use Rattle.an_keep.specs.declared.cell.Cell.{Cell};
-ghost use Rattle.an_sqlite.specs.Place.{BeginsWith, HoldsCells, IsClean, IsOpen};
-ghost use Rattle.an_sqlite.specs.Place.{IsSettled, came_in, connection_in, told_in};
+ghost use Rattle.an_sqlite.specs.Connecting.{BeginsWith, HoldsCells, IsClean, IsOpen};
+ghost use Rattle.an_sqlite.specs.Connecting.{IsSettled, came_in, connection_in, told_in};
 ghost use Rattle.an_sqlite.specs.Table.{no_schema};
 ghost use Rattle.an_sqlite.specs.Tells.{Tells, cells_of};
 ghost use Rattle.an_sqlite.specs.Told.{is_well};
 ghost use Rattle.sqlite.specs.Held.{state};
 ghost use Rattle.sqlite.specs.State.{HasCleanDisk};
 
-use crate::place::Place;
+use crate::connecting::Connecting;
 use crate::teller::Teller;
 use an_keep::{Cell, Change, KeepError, Keeper};
 use sqlite::{Alter, Connection};
@@ -28,7 +28,7 @@ use sqlite::{Alter, Connection};
 /// foreign table may have one. When it is dropped, its connection is dropped and not closed.
 #[derive(Drop)]
 pub struct SqlKeeper<S: Alter + Drop> {
-    place: Place<S>,
+    place: Connecting<S>,
     faults: u64,
 }
 
@@ -60,7 +60,7 @@ impl<S: Alter + Drop> SqlKeeper<S> {
             → (state S.Store connection).in_transaction ≡ false }
     {
         SqlKeeper {
-            place: Place::Open(Teller::new(connection)),
+            place: Connecting::Open(Teller::new(connection)),
             faults: 0,
         }
     }
@@ -73,7 +73,7 @@ impl<S: Alter + Drop> SqlKeeper<S> {
         ensures untold { told_in S.Store result.place ≡ None }
     {
         SqlKeeper {
-            place: Place::Refused(error),
+            place: Connecting::Refused(error),
             faults: 0,
         }
     }
@@ -127,7 +127,7 @@ fn counted<T>(faults: &mut u64, answer: Result<T, KeepError>) -> Result<T, KeepE
 impl<S: Alter + Drop> Keeper for SqlKeeper<S> {
     ghost use Rattle.std.specs.Prelude.{false};
     ghost use Rattle.std.proofs.Common.{rules};
-    ghost use Rattle.an_sqlite.specs.Place.{told_in};
+    ghost use Rattle.an_sqlite.specs.Connecting.{told_in};
 
     ghost told = { λ keeper. told_in S.Store keeper.place };
 

@@ -14,9 +14,9 @@ pub use opens::{keeper_at, open_file};
 
 mod ahead;
 mod base;
+mod connecting;
 mod keeper;
 mod opens;
-mod place;
 mod row;
 mod statements;
 mod teller;

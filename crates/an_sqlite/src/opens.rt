@@ -1,7 +1,7 @@
 ghost use Rattle.std.specs.Prelude.{◌≡◌, IfOk, IsTrue, List, false};
 ghost use Rattle.an_keep.specs.declared.cell.Cell.{Cell};
 ghost use Rattle.an_sqlite.specs.Hold.{Hold};
-ghost use Rattle.an_sqlite.specs.Place.{BeginsWith, IsClean, told_in};
+ghost use Rattle.an_sqlite.specs.Connecting.{BeginsWith, IsClean, told_in};
 ghost use Rattle.sqlite.specs.Files.{file_state, over_files};
 ghost use Rattle.sqlite.specs.State.{HasCleanDisk};
 ghost use Rattle.sqlite_wal.specs.Files.{image_at};

@@ -5,3 +5,5 @@ pub mod DistinctLemmas
 pub mod OpenLemmas
 pub mod MarkLemmas
 pub mod AmongLemmas
+pub mod FormerLemmas
+pub mod UntoldLemmas

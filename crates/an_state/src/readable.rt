@@ -9,7 +9,7 @@ use crate::book::Book;
 use crate::row::NoteRow;
 use crate::totals::add_row;
 use an_base::{Name, Shared, TermTotal, TermTotals};
-use an_policy::{Group, Who, may_read};
+use an_policy::{Group, Inner, Who, may_read};
 use std::alloc::{AllocError, Global};
 
 /// The places of the live annotations on a manifest that the caller may read.
@@ -70,7 +70,7 @@ pub fn terms_from_in(
 pub(crate) fn opens(book: &Book, who: &Who<'_>, manifest: &Name) -> bool
     ensures { result ≡ opens book.now.state (identity who.now) manifest.now }
 {
-    let everybody = Group::Public;
+    let everybody = Inner::Public;
     match book.manifest_row(manifest) {
         Some(row) => may_read(who, row.group(), &everybody, None),
         None => false,

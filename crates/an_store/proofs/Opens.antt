@@ -1,17 +1,18 @@
 -- A store that is opened.
-use Rattle.std.proofs.Common.{◌≡◌, ℕ, List, [], ◌∷◌, refl, sym, ap, subst, ◌∙◌, inl}
+use Rattle.std.proofs.Common.{◌≡◌, ℕ, List, [], ◌∷◌, Some, None, IsSome, refl, sym, ap, subst, ◌∙◌, inl, inr}
 use Rattle.logbook.specs.Pages.{Book, Named}
-use Rattle.an_keep.specs.Keeper.{StaysOrBegins, Told}
+use Rattle.an_keep.specs.Keeper.{StaysOrBegins, Told, Turns, WhileTold}
 use Rattle.an_state.specs.State.{State}
-use Rattle.an_shelf.specs.Opening.{StandFor, WasOpened}
+use Rattle.an_shelf.specs.Opening.{RenewsOrBegins, StaysOrRenews, WasDamagedBy, WasOpened, renewed}
 use Rattle.an_shelf.specs.Store as shelf
-use Rattle.an_shelf.proofs.OpeningLemmas.{was-opened}
+use Rattle.an_shelf.proofs.OpeningLemmas.{renews-tells}
+use Rattle.an_shelf.specs.declared.error.OpenError.TheVariants as error
 use Rattle.an_laws.specs.Events.{Event, Opened, IsLegal, Keeps, state_at, told_at}
 use Rattle.an_published.specs.History.{head_of}
 use Rattle.an_published.specs.Known.{Known, newcomer}
 use Rattle.an_store.specs.Opening.{Begun}
 use Rattle.an_published.specs.Rule.{IsOneList, Ready, Shows, accepted, notice}
-use Rattle.an_store.specs.Side.{Sided, stock_of}
+use Rattle.an_store.specs.UnderLock.{Sided, stock_of}
 use Rattle.an_published.specs.declared.published.Published.{Published}
 use Rattle.an_published.specs.declared.published.Addition.{Addition}
 use Rattle.an_store.proofs.Sides.{keeps-itself}
@@ -45,10 +46,22 @@ module _ (x : Published) (s : State) (told : Told) (list : x.mark.list ≡ Opene
         state = shows.state ∙ state-opened y.mark.list s told now;
       }
 
--- the state with which it was opened
-pub opened-as : (before opened told : Told) (s t : State) → StaysOrBegins before opened → StandFor opened s → told ≡ opened → t ≡ s → WasOpened before told t
-opened-as before opened told s t stays stands tells is =
-    subst (λ (p : Told × State). WasOpened before p.0 p.1) (λ i. (sym tells i, sym is i)) (was-opened before opened s stays stands)
+-- what holds of the state and of what was told as it was opened
+pub opened-as : (P : Told → State → Type 0) (opened told : Told) (s t : State) → P opened s → told ≡ opened → t ≡ s → P told t
+opened-as P opened told s t holds tells is = subst (λ (p : Told × State). P p.0 p.1) (λ i. (sym tells i, sym is i)) holds
+
+-- memory ran out once it was opened
+module _ (before opened kept : Told) (s : State) (same : kept ≡ opened) where
+  pub left-renewed : WasOpened before opened s → RenewsOrBegins s before opened → StaysOrRenews before kept
+  left-renewed was renews = inr (s, subst (λ told. WasOpened before told s) (sym same) was, subst (λ told. RenewsOrBegins s before told) (sym same) renews)
+
+  pub left-tells : Turns (renewed s) before opened → IsSome kept → IsSome before
+  left-tells renews some = renews-tells s before opened renews (subst IsSome same some)
+
+pub no-damage : (before after : Told) → WasDamagedBy before after error.Memory
+no-damage before None = tt
+no-damage None (Some after) = tt
+no-damage (Some before) (Some after) = tt
 
 -- what was opened, under its name
 pub sided-opened : (v : Known) (head : Named) (pending : List Addition) (x : Published) (s : State) (told : Told) (faults : ℕ) (name : Book) → Begun v head pending x s told → shelf.Stands told s → x.mark.book ≡ name

@@ -29,7 +29,7 @@ use Rattle.an_shelf.proofs.FitLemmas.{decided-fits}
 use Rattle.an_shelf.proofs.WritingLemmas.{stands-behind}
 use Rattle.an_laws.specs.Events.{Event, Opened, Wrote, IsLegal, AreKept, Keeps, added_by, state_behind, state_at, told_behind, told_at, wrote}
 use Rattle.an_published.specs.Rule.{Comes, ComeBehind, accepted, Ready, Shows}
-use Rattle.an_store.specs.Side.{Sided, stock_of}
+use Rattle.an_store.specs.UnderLock.{Sided, stock_of}
 use Rattle.an_store.specs.Stock.{Stock, LacksOne, Settled, Leaves, Fails}
 use Rattle.an_published.specs.declared.published.Published.{Published}
 use Rattle.an_published.specs.declared.published.Addition.{Addition}

@@ -1,4 +1,4 @@
 pub mod Stock
-pub mod Side
+pub mod UnderLock
 pub mod Writing
 pub mod Opening

@@ -10,9 +10,9 @@
 
 pub use an_published::{Naming, Seat, Shown};
 pub use opened::{Opened, open_store};
-pub use side::Side;
 pub use store::Store;
+pub use under_lock::UnderLock;
 
 mod opened;
-mod side;
 mod store;
+mod under_lock;

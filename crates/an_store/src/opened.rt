@@ -1,11 +1,12 @@
 //! Opening a store.
-ghost use Rattle.std.specs.Prelude.{◌≡◌, ◌≤◌, ◌∷◌, [], All, IfErr, IfOk, IfSome, IsTrue};
+ghost use Rattle.std.specs.Prelude.{◌≡◌, ◌≤◌, ◌∷◌, [], All, IfErr, IfOk, IfSome, IsSome, IsTrue};
 ghost use Rattle.std.specs.Prelude.{drop, false, length};
 ghost use Rattle.left_right.specs.Sides.{view};
-ghost use Rattle.an_keep.specs.Keeper.{Stays, StaysOrBegins};
+ghost use Rattle.an_keep.specs.Keeper.{StaysOrBegins, Turns};
 ghost use Rattle.an_rows.specs.Cells.{cells};
 ghost use Rattle.an_rows.specs.Valid.{is_valid};
-ghost use Rattle.an_shelf.specs.Opening.{IsDamagedBy, StandFor, WasDamagedBy, WasOpened};
+ghost use Rattle.an_shelf.specs.Opening.{IsDamagedBy, RenewsOrBegins, StandFor, StaysOrRenews};
+ghost use Rattle.an_shelf.specs.Opening.{WasDamagedBy, WasOpened, renewed};
 ghost use Rattle.an_shelf.specs.Store.{Stands};
 ghost use Rattle.an_state.specs.Sound.{is_sound};
 ghost use Rattle.an_laws.specs.Events.{Opened as Begins, IsLegal};
@@ -13,8 +14,8 @@ ghost use Rattle.an_published.specs.Lists.{newly_seated};
 ghost use Rattle.an_store.specs.Opening.{Begun, IsStart};
 ghost use Rattle.an_published.specs.Rule.{Ready, Shows, notice};
 
-use crate::side::Side;
 use crate::store::Store;
+use crate::under_lock::UnderLock;
 use an_keep::Keeper;
 use an_published::{Head, Naming, Published, Seat, StoreWriter, begin, look_at, publish};
 use an_shelf::{Loaded, NotOpened, OpenError, load};
@@ -66,8 +67,9 @@ impl<K: Keeper> Model for Opened<K> {
         }) };
 }
 
-/// Opens a keeper for so many seats: the state is the one that its cells stand for. Where it is
-/// refused, the keeper is given back, and no cell of it was changed.
+/// Opens a keeper for so many seats: the state is the one that its cells stand for. Cells of the
+/// first format are turned into today's. Where it is refused, the keeper is given back, and no cell
+/// of it was changed, unless memory ran out once they were turned.
 pub fn open_store<K: Keeper, R: Wait>(
     rt: &R,
     alloc: Global,
@@ -77,20 +79,23 @@ pub fn open_store<K: Keeper, R: Wait>(
     requires some { 1 ≤ seats }
     requires few { seats ≤ 64 }
     ensures state { IfOk result (λ store. StandFor store.told store.state) }
-    ensures stays { IfOk result (λ store. StaysOrBegins (K.told keeper) store.told) }
+    ensures renewed { IfOk result
+        (λ store. RenewsOrBegins store.state (K.told keeper) store.told) }
     ensures cells { IfOk result (λ store. IfSome store.told (λ found. found
         ≡ cells store.state)) }
     ensures opened { IfOk result (λ store. WasOpened (K.told keeper) store.told store.state) }
     ensures never { IfOk result
-        (λ store. K.may_begin ≡ false → Stays (K.told keeper) store.told) }
+        (λ store. K.may_begin ≡ false → Turns (renewed store.state) (K.told keeper) store.told) }
 
     // Where it is refused.
     ensures refused { IfErr result (λ its. IsDamagedBy (K.told its.keeper) its.why) }
-    ensures kept { IfErr result (λ its. StaysOrBegins (K.told keeper) (K.told its.keeper)) }
+    ensures kept { IfErr result (λ its. StaysOrRenews (K.told keeper) (K.told its.keeper)) }
+    ensures unchanged { IfErr result (λ its. ¬ (its.why ≡ OpenError.Memory)
+        → StaysOrBegins (K.told keeper) (K.told its.keeper)) }
     ensures damaged { IfErr result
         (λ its. WasDamagedBy (K.told keeper) (K.told its.keeper) its.why) }
     ensures never_refused { IfErr result
-        (λ its. K.may_begin ≡ false → Stays (K.told keeper) (K.told its.keeper)) }
+        (λ its. K.may_begin ≡ false → IsSome (K.told its.keeper) → IsSome (K.told keeper)) }
     ensures sure { IfErr result (λ its. IsTrue K.is_sure → ¬ (its.why ≡ OpenError.Keeper)) }
 
     // Whether the cells are told or not.
@@ -250,6 +255,9 @@ impl<K: Keeper> Opened<K> {
             writer,
             seats,
         } = self;
-        (Store::over(Side::new(book, keeper, head, writer)), seats)
+        (
+            Store::over(UnderLock::new(book, keeper, head, writer)),
+            seats,
+        )
     }
 }

@@ -5,7 +5,7 @@ ghost use Rattle.an_state.specs.Commands.{is_sendable};
 ghost use Rattle.an_store.specs.Opening.{Closes};
 ghost use Rattle.an_store.specs.Writing.{Missed, Wrote};
 
-use crate::side::Side;
+use crate::under_lock::UnderLock;
 use an_base::Moment;
 use an_keep::Keeper;
 use an_machine::{Refused, WriteReply};
@@ -19,11 +19,11 @@ use std::sync::{Mutex, MutexGuard, Wait};
 /// A store of the name J. Its seats read without waiting for anybody; who writes waits for the
 /// others who do. It isn't `Drop`: end it by `close`.
 pub struct Store<K: Keeper, J: Naming> {
-    side: Mutex<Side<K, J>>,
+    side: Mutex<UnderLock<K, J>>,
 }
 
 impl<K: Keeper, J: Naming> Store<K, J> {
-    pub(crate) fn over(side: Side<K, J>) -> Store<K, J> {
+    pub(crate) fn over(side: UnderLock<K, J>) -> Store<K, J> {
         Store {
             side: Mutex::new(side),
         }

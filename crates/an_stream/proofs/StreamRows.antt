@@ -8,7 +8,7 @@ use Rattle.an_policy.specs.declared.kind.Kind.TheVariants.{Create, Update, Delet
 use Rattle.an_state.specs.View.{View}
 use Rattle.an_state.specs.declared.activity.Seen.{Seen}
 use Rattle.an_state.specs.declared.command.Object.TheVariants.{Manifest, Note}
-use Rattle.an_search.specs.Site.{Site}
+use Rattle.an_list.specs.Site.{Site}
 use Rattle.an_stream.specs.Activity.{activity}
 use Rattle.an_stream.specs.Stream.{changes_of, changes_page_of, page_of_stream, stream_page}
 use Rattle.an_stream.specs.declared.stream.StreamError.TheVariants.{NoPage}

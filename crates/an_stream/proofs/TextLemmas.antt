@@ -5,11 +5,11 @@ use Rattle.an_base.specs.Moment.{moment_text}
 use Rattle.an_base.specs.Object.{with_member_if}
 use Rattle.an_base.specs.Write.{member_text, commas}
 use Rattle.an_state.specs.declared.activity.Seen.{Seen}
-use Rattle.an_search.proofs.WrittenLemmas.{commas-member_if, piece_then, last_piece}
-use Rattle.an_search.specs.PageText.{member_if, text_if}
-use Rattle.an_search.specs.Page.{page_iri, thing, link_after, link_before}
-use Rattle.an_search.specs.declared.page.PageForm.TheVariants as form
-use Rattle.an_search.specs.declared.page.Whole.{Whole}
+use Rattle.an_list.proofs.WrittenLemmas.{commas-member_if, piece_then, last_piece}
+use Rattle.an_list.specs.PageText.{member_if, text_if}
+use Rattle.an_list.specs.Page.{page_iri, thing, link_after, link_before}
+use Rattle.an_list.specs.declared.page.PageForm.TheVariants as form
+use Rattle.an_list.specs.declared.page.Whole.{Whole}
 use Rattle.an_stream.specs.Activity.{activity, kind_text, thing_of}
 use Rattle.an_stream.specs.Stream.{changes_context, stream_page}
 use Rattle.an_stream.specs.PageText.{head_text, place_members}

@@ -9,7 +9,7 @@ use Rattle.an_iri.specs.Iris.{manifest_iri, note_iri}
 use Rattle.an_state.specs.declared.activity.Seen.{Seen}
 use Rattle.an_state.specs.declared.command.Object.{Object}
 use Rattle.an_state.specs.declared.command.Object.TheVariants as object
-use Rattle.an_search.specs.Page.{thing}
+use Rattle.an_list.specs.Page.{thing}
 
 -- the type of an activity
 abbrev pub kind_text : Kind → List ℕ

@@ -2,10 +2,10 @@
 use Rattle.std.specs.Prelude.{ℕ, List, ◌++◌, codes}
 use Rattle.serde_json.specs.Data.{number, unsigned, string, Members, member, no_members}
 use Rattle.an_base.specs.Write.{member_text}
-use Rattle.an_search.specs.Page.{page_iri, thing, link_after, link_before}
-use Rattle.an_search.specs.PageText.{member_if, text_if}
-use Rattle.an_search.specs.declared.page.PageForm.TheVariants as form
-use Rattle.an_search.specs.declared.page.Whole.{Whole}
+use Rattle.an_list.specs.Page.{page_iri, thing, link_after, link_before}
+use Rattle.an_list.specs.PageText.{member_if, text_if}
+use Rattle.an_list.specs.declared.page.PageForm.TheVariants as form
+use Rattle.an_list.specs.declared.page.Whole.{Whole}
 use Rattle.an_stream.specs.Stream.{changes_context}
 
 -- the text of the first members of a page, up to the page after it

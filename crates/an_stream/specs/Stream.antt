@@ -10,11 +10,11 @@ use Rattle.an_base.specs.Object.{with_member_if}
 use Rattle.an_iri.specs.Iris.{changes_iri}
 use Rattle.an_state.specs.View.{View}
 use Rattle.an_state.specs.declared.activity.Seen.{Seen}
-use Rattle.an_search.specs.Page.{page_count, page_of, start_of, lacks_page, page_iri, thing}
-use Rattle.an_search.specs.Page.{page_link, link_after, link_before}
-use Rattle.an_search.specs.Site.{Site}
-use Rattle.an_search.specs.declared.page.PageForm.TheVariants as form
-use Rattle.an_search.specs.declared.page.Whole.{Whole}
+use Rattle.an_list.specs.Page.{page_count, page_of, start_of, lacks_page, page_iri, thing}
+use Rattle.an_list.specs.Page.{page_link, link_after, link_before}
+use Rattle.an_list.specs.Site.{Site}
+use Rattle.an_list.specs.declared.page.PageForm.TheVariants as form
+use Rattle.an_list.specs.declared.page.Whole.{Whole}
 use Rattle.an_stream.specs.Activity.{activity}
 use Rattle.an_stream.specs.declared.stream.StreamError.{StreamError}
 use Rattle.an_stream.specs.declared.stream.StreamError.TheVariants.{NoPage}

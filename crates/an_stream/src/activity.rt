@@ -3,14 +3,14 @@ ghost use Rattle.serde_json.specs.View.{items_of};
 ghost use Rattle.serde_json.specs.Written.{compact_text};
 ghost use Rattle.an_base.specs.Write.{item_commas, item_text, member_text};
 ghost use Rattle.an_iri.specs.Iris.{manifest_iri, note_iri};
-ghost use Rattle.an_search.specs.Page.{thing};
-ghost use Rattle.an_search.specs.PageText.{text_if};
+ghost use Rattle.an_list.specs.Page.{thing};
+ghost use Rattle.an_list.specs.PageText.{text_if};
 ghost use Rattle.an_stream.specs.Activity.{activity, kind_text, thing_of};
 
 use an_base::{Name, close_members, moment_text, push_comma, push_text_member};
 use an_iri::{manifest_iri, note_iri};
+use an_list::push_thing_member;
 use an_policy::Kind;
-use an_search::push_thing_member;
 use an_state::{Object, Seen};
 use std::alloc::{AllocError, Global};
 

@@ -1,7 +1,7 @@
 //! The stream of the changes that a caller sees.
 //!
 //! ```text
-//! changes_page(alloc, &look, &who, 3, &settings)   where `who` sees 11 changes, and a page has ten:
+//! changes_page(alloc, &look, &who, 3, &site)   where `who` sees 11 changes, and a page has ten:
 //!     Err(StreamError::NoPage { pages: 2 })
 //! ```
 #![tactic(auto)]

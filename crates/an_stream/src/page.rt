@@ -3,7 +3,7 @@ ghost use Rattle.serde_json.specs.Data.{number, unsigned};
 ghost use Rattle.serde_json.specs.View.{items_of};
 ghost use Rattle.serde_json.specs.Written.{compact_text};
 ghost use Rattle.an_base.specs.Write.{commas, member_text};
-ghost use Rattle.an_search.specs.Page.{page_count, start_of};
+ghost use Rattle.an_list.specs.Page.{page_count, start_of};
 ghost use Rattle.an_stream.specs.Activity.{activity};
 ghost use Rattle.an_stream.specs.Stream.{changes_whole, stream_page, stream_tree};
 ghost use Rattle.an_stream.specs.PageText.{head_text, place_members};
@@ -13,9 +13,7 @@ use an_base::{
     Bytes, Text, close_members, push_array_member, push_number_member, push_text_member,
 };
 use an_iri::changes_iri;
-use an_search::{
-    PageForm, Paging, Whole, push_link_member, push_next, push_prev, push_thing_member,
-};
+use an_list::{PageForm, Paging, Whole, push_link_member, push_next, push_prev, push_thing_member};
 use an_state::Seen;
 use std::alloc::{AllocError, Global};
 

@@ -4,14 +4,14 @@ ghost use Rattle.serde_json.specs.Written.{compact_text};
 ghost use Rattle.an_base.specs.Outcome.{Gives};
 ghost use Rattle.an_policy.specs.Audience.{identity};
 ghost use Rattle.an_state.specs.View.{seen_by, view_of};
-ghost use Rattle.an_search.specs.Page.{page_count, page_of, start_of};
+ghost use Rattle.an_list.specs.Page.{page_count, page_of, start_of};
 ghost use Rattle.an_stream.specs.Activity.{activity};
 ghost use Rattle.an_stream.specs.Stream.{changes_of, changes_page_of, changes_whole, stream_page};
 
 use crate::page::{changes_whole, page_text, stream_text};
 use an_base::Bytes;
+use an_list::{Paging, Site};
 use an_policy::Who;
-use an_search::{Paging, Settings};
 use an_state::Look;
 use std::alloc::{AllocError, Global};
 
@@ -39,13 +39,13 @@ pub fn changes<T: Look>(
     alloc: Global,
     look: &T,
     who: &Who<'_>,
-    settings: &Settings,
+    site: &Site,
 ) -> Result<Bytes, AllocError>
-    ensures answer { IfOk result (λ body. body ≡ changes_of settings.now
+    ensures answer { IfOk result (λ body. body ≡ changes_of site.now
         (view_of (T.state look.now) (identity who.now))) }
 {
-    let paging = paging_of(look, who, 1, settings);
-    let whole = changes_whole(alloc, settings.base())?;
+    let paging = paging_of(look, who, 1, site);
+    let whole = changes_whole(alloc, site.base())?;
     stream_text(alloc, &whole, paging.pages(), paging.total)
 }
 
@@ -57,17 +57,17 @@ pub fn changes_page<T: Look>(
     look: &T,
     who: &Who<'_>,
     page: u32,
-    settings: &Settings,
+    site: &Site,
 ) -> Result<Bytes, StreamError>
-    ensures answer { Gives (λ body. body) StreamError.Memory result (changes_page_of settings.now
+    ensures answer { Gives (λ body. body) StreamError.Memory result (changes_page_of site.now
         (view_of (T.state look.now) (identity who.now)) page) }
 {
-    let paging = paging_of(look, who, page, settings);
+    let paging = paging_of(look, who, page, site);
     if paging.is_past() {
         let pages = paging.pages();
         return Err(StreamError::NoPage { pages });
     }
-    Ok(page_there(alloc, look, who, paging, settings.base())?)
+    Ok(page_there(alloc, look, who, paging, site.base())?)
 }
 
 /// The text of a page that the stream has.
@@ -91,16 +91,16 @@ fn page_there<T: Look>(
 }
 
 /// A page of this number in the stream of the changes that the caller sees.
-fn paging_of<T: Look>(look: &T, who: &Who<'_>, page: u32, settings: &Settings) -> Paging
+fn paging_of<T: Look>(look: &T, who: &Who<'_>, page: u32, site: &Site) -> Paging
     ensures page { result.page ≡ page }
-    ensures size { result.size ≡ settings.now.size }
+    ensures size { result.size ≡ site.now.size }
     ensures total { result.total
         ≡ length (seen_by (identity who.now) (T.state look.now).activities) }
     ensures some { 1 ≤ result.size }
 {
     Paging {
         page,
-        size: settings.size(),
+        size: site.size(),
         total: look.seen_count(who),
     }
 }

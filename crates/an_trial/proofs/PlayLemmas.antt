@@ -10,7 +10,7 @@ use Rattle.an_machine.specs.Step.{step}
 use Rattle.an_machine.specs.declared.command.Refused.{Refused}
 use Rattle.an_machine.specs.declared.command.WriteReply.{WriteReply}
 use Rattle.an_rows.specs.Cells.{cells, state_of}
-use Rattle.an_shelf.specs.Opening.{IsDamagedBy, StandFor}
+use Rattle.an_shelf.specs.Opening.{IsDamagedBy, WasOpened}
 use Rattle.an_shelf.specs.Writing.{Writes}
 use Rattle.an_shelf.specs.declared.error.OpenError.{OpenError}
 use Rattle.an_shelf.specs.declared.error.OpenError.TheVariants.{Damaged}
@@ -62,9 +62,9 @@ module _ (keeper : Sure) (items : List Cell) (is : keeper ≡ record { cells = i
   no_cell = ap (λ (k : Sure). k.cells) is ∙ none
 
   -- its state is empty
-  pub opens_empty : (told : Told) (s : State) → StandFor told s → StaysOrBegins (Some keeper.cells) told → IsSome told → s ≡ empty
-  opens_empty None s stands stays some = absurd (cc)
-  opens_empty (Some found) s stands stays some = let at : state_of [] ≡ Ok s = ap state_of (sym (stays ∙ no_cell)) ∙ stands in cc (at, no_cells)
+  pub opens_empty : (told : Told) (s : State) → WasOpened (Some keeper.cells) told s → IsSome told → s ≡ empty
+  opens_empty None s opened some = absurd (cc)
+  opens_empty (Some found) s opened some = let at : state_of [] ≡ Ok s = ap state_of (sym no_cell) ∙ opened in cc (at, no_cells)
 
   -- and it isn't damaged
   pub never_damaged : (kept : Sure) (error : OpenError) (tab key : ℕ) → StaysOrBegins (Some keeper.cells) (Some kept.cells) → IsDamagedBy (Some kept.cells) error → error ≡ Damaged tab key → ⊥

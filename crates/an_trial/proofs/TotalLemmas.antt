@@ -6,10 +6,10 @@ use Rattle.an_complete.specs.Complete.{asked_terms, filters_of, first_terms}
 use Rattle.an_complete.specs.declared.ask.QueryAskError.{QueryAskError}
 use Rattle.an_state.specs.Terms.{totals_in}
 use Rattle.an_state.specs.View.{View, is_on}
-use Rattle.an_search.specs.Query.{QueryRecord, query_of}
+use Rattle.an_query.specs.Query.{QueryRecord, query_of, search_parameters}
 use Rattle.an_search.specs.Search.{hits}
 use Rattle.an_search.specs.Wanted.{matches, wanted_of}
-use Rattle.an_search.specs.declared.query.QueryError.{QueryError}
+use Rattle.an_query.specs.declared.query.QueryError.{QueryError}
 use Rattle.an_search.specs.declared.wanted.Wanted.{Wanted}
 use Rattle.an_terms.specs.Terms.{term_of}
 use Rattle.an_trial.specs.Trial.{found_if, found_total, listed_if, listed_total, total_in}
@@ -34,7 +34,7 @@ module _ (v w : View) (same : v.notes ≡ w.notes) where
 
   pub found_total-same : (parameters : List ℕ) → found_total v parameters ≡ found_total w parameters
   unfolding found_total
-  found_total-same parameters = found_if-same (query_of parameters)
+  found_total-same parameters = found_if-same (query_of search_parameters parameters)
 
   pub listed_total-same : (parameters word : List ℕ) → listed_total v parameters word ≡ listed_total w parameters word
   unfolding listed_total

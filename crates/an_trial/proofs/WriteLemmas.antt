@@ -1,8 +1,5 @@
 -- The writes of the trial may be sent to the machine.
-use Rattle.std.proofs.Common.{◌≡◌, ℕ, ◌%◌, Bool, true, false, IsTrue, codes, refl, sym, subst}
-use Rattle.std.specs.Prelude.{◌==◌, if◌then◌else◌}
-use Rattle.an_policy.specs.Group.{is_valid_group}
-use Rattle.an_policy.specs.declared.group.Group.TheVariants as group
+use Rattle.std.proofs.Common.{◌≡◌, ℕ, true, IsTrue, refl, sym, subst}
 use Rattle.an_state.specs.Commands.{is_number, is_sendable}
 use Rattle.an_trial.specs.Writes.{manifest_write, note_write, reader_write}
 use Rattle.an_trial.specs.declared.draws.Draws.{Draws}
@@ -15,10 +12,6 @@ one_is_number : is_number 1 ≡ true
 unfolding is_number
 one_is_number = refl
 
-group-valid : (b : Bool) → is_valid_group (if b then group.Named (codes "a") else group.Public) ≡ true
-group-valid true = refl
-group-valid false = refl
-
 pub reader-sendable : (write : Write) → write ≡ reader_write → IsSendable write
 reader-sendable write is = subst IsSendable (sym is) one_is_number
 
@@ -26,6 +19,6 @@ pub manifest-sendable : (write : Write) → write ≡ manifest_write → IsSenda
 manifest-sendable write is = subst IsSendable (sym is) (rw one_is_number refl)
 
 pub note-sendable : (write : Write) (n : ℕ) (draws : Draws) → write ≡ note_write n draws → IsSendable write
-note-sendable write n draws is = subst IsSendable (sym is) (rw one_is_number (group-valid (draws.group % 4 == 0)))
+note-sendable write n draws is = subst IsSendable (sym is) one_is_number
 
 pub ruleset trial_writes = (reader-sendable, manifest-sendable, note-sendable)

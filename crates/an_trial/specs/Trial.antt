@@ -12,10 +12,10 @@ use Rattle.an_machine.specs.Step.{step}
 use Rattle.an_base.specs.TextSet.{ascending}
 use Rattle.an_state.specs.View.{View, view_by}
 use Rattle.an_policy.specs.declared.who.Caller.TheVariants.{Anonymous, Named}
-use Rattle.an_search.specs.Query.{QueryRecord, query_of}
+use Rattle.an_query.specs.Query.{QueryRecord, query_of, search_parameters}
 use Rattle.an_search.specs.Search.{hits}
 use Rattle.an_search.specs.Wanted.{wanted_of}
-use Rattle.an_search.specs.declared.query.QueryError.{QueryError}
+use Rattle.an_query.specs.declared.query.QueryError.{QueryError}
 use Rattle.an_terms.specs.Terms.{term_of}
 use Rattle.an_trial.specs.Writes.{words, writes}
 use Rattle.an_trial.specs.declared.writes.Write.{Write}
@@ -45,7 +45,7 @@ found_if view (Err refusal) = 0
 
 -- the same with these parameters, none where they are refused
 unfoldable pub found_total : View → List ℕ → ℕ
-found_total view parameters = found_if view (query_of parameters)
+found_total view parameters = found_if view (query_of search_parameters parameters)
 
 -- the total of a term, 0 where it isn't listed
 abbrev pub total_in : List ℕ → List TermTotal → ℕ

@@ -4,6 +4,7 @@ use Rattle.std.specs.Prelude.{List, [], ◌∷◌, ◌++◌, slice_index_or, cod
 use Rattle.serde_json.specs.Data.{Data, number, unsigned, string, array, object, no_items, item}
 use Rattle.serde_json.specs.Data.{member, no_members}
 use Rattle.an_state.specs.declared.command.Command.TheVariants.{PutReader, PutManifest, PutNote}
+use Rattle.an_policy.specs.Inner.{one_group}
 use Rattle.an_policy.specs.declared.group.Group.{Group}
 use Rattle.an_policy.specs.declared.group.Group.TheVariants as group
 use Rattle.an_policy.specs.declared.who.Caller.TheVariants.{Operator, Named}
@@ -85,7 +86,7 @@ abbrev pub note_write : ℕ → Draws → Write
 note_write n draws = record {
   moment = pos (start + n);
   caller = Named (codes "t");
-  command = PutNote (codes "t") (note_name n) 1 (codes "m1") (group_of draws.group)
+  command = PutNote (codes "t") (note_name n) 1 (codes "m1") (one_group (group_of draws.group))
       (note_tree (words_text draws.first draws.second draws.third));
 }
 

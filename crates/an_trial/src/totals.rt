@@ -10,7 +10,7 @@ use crate::names::name;
 use an_base::{Steps, TermTotal};
 use an_complete::{QueryAskError, asked_terms, read_ask};
 use an_policy::{Caller, Who};
-use an_search::{QueryError, read_query};
+use an_query::{QueryError, SEARCH_PARAMETERS, read_query};
 use an_snapshot::Snapshot;
 use an_state::Look;
 use an_terms::term_of;
@@ -30,7 +30,7 @@ pub(crate) fn found_total<L: Ledger>(
         ≡ found_total (view_of look.now.state (identity who.now)) parameters.now) }
 {
     let manifest = name(alloc, "m1")?;
-    match read_query(alloc, parameters) {
+    match read_query(alloc, &SEARCH_PARAMETERS, parameters) {
         Ok(query) => an_search::found_total(alloc, look, who, &manifest, &query, steps),
         Err(QueryError::Memory) => Err(AllocError),
         Err(_) => Ok(0),

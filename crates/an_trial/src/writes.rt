@@ -1,5 +1,7 @@
 //! The writes of the trial.
-ghost use Rattle.std.specs.Prelude.{◌≡◌, ◌+◌, pos, codes, IfOk, string_bytes};
+ghost use Rattle.std.specs.Prelude.{◌≡◌, ◌+◌, pos, codes, IfOk, IsTrue, string_bytes};
+ghost use Rattle.an_policy.specs.Group.{is_valid_group};
+ghost use Rattle.an_policy.specs.Inner.{one_group};
 ghost use Rattle.an_trial.specs.Writes.{group_of, manifest_write, note_name, note_write};
 ghost use Rattle.an_trial.specs.Writes.{reader_write, start, word_of, words_text};
 
@@ -7,7 +9,7 @@ use crate::draws::Draws;
 use crate::names::{name, note_name};
 use crate::trees::{manifest_tree, note_tree, reader_tree};
 use an_base::{Moment, Shared, Tree};
-use an_policy::{Caller, Group};
+use an_policy::{Caller, Group, Inner, one_group};
 use an_state::Command;
 use std::alloc::{AllocError, Global};
 
@@ -73,14 +75,14 @@ fn put_note(
     tree: Shared<Tree>,
 ) -> Result<Command, AllocError>
     ensures { IfOk result (λ command. command ≡ Command.PutNote
-        (codes "t") (note_name number) 1 (codes "m1") (group_of drawn) tree) }
+        (codes "t") (note_name number) 1 (codes "m1") (one_group (group_of drawn)) tree) }
 {
     Ok(Command::PutNote {
         owner: name(alloc, "t")?,
         name: note_name(alloc, number)?,
         version: 1,
         manifest: name(alloc, "m1")?,
-        group: group_of(alloc, drawn)?,
+        group: inner_of(alloc, drawn)?,
         tree,
     })
 }
@@ -95,9 +97,18 @@ fn moment_behind(seconds: u32) -> Moment
     }
 }
 
+/// The inner groups that are the one group.
+fn inner_of(alloc: Global, drawn: u32) -> Result<Inner, AllocError>
+    ensures { IfOk result (λ inner. inner ≡ one_group (group_of drawn)) }
+{
+    let group = group_of(alloc, drawn)?;
+    one_group(alloc, group)
+}
+
 /// Every fourth draw gives the reader's group.
 fn group_of(alloc: Global, drawn: u32) -> Result<Group, AllocError>
-    ensures { IfOk result (λ group. group ≡ group_of drawn) }
+    ensures group { IfOk result (λ group. group ≡ group_of drawn) }
+    ensures valid { IfOk result (λ group. IsTrue (is_valid_group group)) }
 {
     if drawn % 4 == 0 {
         Ok(Group::Named(name(alloc, "a")?))

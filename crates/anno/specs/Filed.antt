@@ -1,8 +1,8 @@
 -- Which words ask for a store.
 use Rattle.std.specs.Prelude.{ℕ, Bool, true, false, List, option_map, unwrap_or}
-use Rattle.an_forms.specs.Form.{form_of}
-use Rattle.an_forms.specs.declared.form.Form.{Form}
-use Rattle.an_forms.specs.declared.form.Form.TheVariants as form
+use Rattle.an_app.specs.Form.{form_of}
+use Rattle.an_app.specs.declared.form.Form.{Form}
+use Rattle.an_app.specs.declared.form.Form.TheVariants as form
 
 -- `find` and `trial` have none
 abbrev pub has_store : Form → Bool

@@ -5,7 +5,7 @@ ghost use Rattle.an_base.specs.Faults.{Rises};
 ghost use Rattle.an_keep.specs.Cells.{Ascend, first_of, next_after, put_changes};
 ghost use Rattle.an_keep.specs.Keeper.{Stays, StaysOrBegins, Turns};
 ghost use Rattle.an_keep.specs.declared.cell.Cell.{Cell};
-ghost use Rattle.an_sqlite.specs.Place.{HoldsCells, IsClean, IsOpen, IsSettled, came_in, told_in};
+ghost use Rattle.an_sqlite.specs.Connecting.{HoldsCells, IsClean, IsOpen, IsSettled, came_in, told_in};
 
 use an_keep::{Cell, Change, KeepError, Keeper};
 use an_sqlite::SqlKeeper;
@@ -54,7 +54,7 @@ impl<S: Alter + Drop> ToldKeeper<S> {
 impl<S: Alter + Drop> Keeper for ToldKeeper<S> {
     ghost use Rattle.std.specs.Prelude.{false};
     ghost use Rattle.std.proofs.Common.{rules};
-    ghost use Rattle.an_sqlite.specs.Place.{told_in};
+    ghost use Rattle.an_sqlite.specs.Connecting.{told_in};
 
     // The cells that the keeper inside tells.
     ghost told = { λ k. told_in S.Store k.keeper.place };

@@ -5,7 +5,7 @@ use Rattle.an_base.specs.declared.span.Prefer.{Prefer}
 use Rattle.an_policy.specs.Audience.{identity}
 use Rattle.an_state.specs.View.{view_of}
 use Rattle.an_complete.specs.Complete.{complete_of}
-use Rattle.an_search.specs.Cost.{Takes}
+use Rattle.an_list.specs.Cost.{Takes}
 use Rattle.an_pages.specs.Cost.{container_cost}
 use Rattle.an_complete.specs.declared.completion.CompleteError.TheVariants.{Memory}
 use Rattle.an_http.specs.declared.reply.Extra.TheVariants.{Absent}
@@ -28,7 +28,7 @@ shows memory tell (Err error) body meant is told_of lasted = tt
 
 pub returns-in-Complete-clause-shown : goal.returns-in-Complete-clause-shown
 returns-in-Complete-clause-shown g c =
-    let site = c.args.settings.now in
+    let site = c.args.site.now in
     let view = view_of (g.T.Look.state c.args.look.now) (identity c.args.who.now) in
     rw c.in-Complete.is (shows Memory (shown Search Absent complete_refusal) c.completion_shown.result c.complete-body.result
     (complete_of site view c.in-Complete.manifest c.in-Complete.ask) c.complete-body.ensures.answer c.completion_shown.ensures.shown c.completion_shown.ensures.memory)
@@ -52,7 +52,7 @@ pub returns-in-Container-clause-steps : goal.returns-in-Container-clause-steps
 returns-in-Container-clause-steps g c =
     let view = view_of (g.T.Look.state c.args.look.now) (identity c.args.who.now) in
     let takes = λ (prefer : Prefer). Takes page.Memory c.container-body.result c.args.steps.now c.container-body.new.steps
-    (container_cost c.args.settings.now view c.in-Container.manifest prefer) in
+    (container_cost c.args.site.now view c.in-Container.manifest prefer) in
     rw c.in-Container.is (counted page.Memory c.page_shown-in-Container.result c.container-body.result _ _ _
     (subst takes c.with_iris-prefer.ensures c.container-body.ensures.steps) c.page_shown-in-Container.ensures.memory)
 

@@ -1,6 +1,6 @@
 use Rattle.std.proofs.Common.{refl, string_bytes}
 use Rattle.std.specs.Prelude.{map}
-use Rattle.an_forms.specs.Form.{form_of}
+use Rattle.an_app.specs.Form.{form_of}
 use Rattle.an_app.proofs.Exact.{run-damaged, run-stands}
 use Rattle.an_app.proofs.memory.run_in_memory.Goals as goal
 

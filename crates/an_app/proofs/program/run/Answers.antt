@@ -1,6 +1,6 @@
 use Rattle.std.proofs.Common.{string_bytes}
 use Rattle.std.specs.Prelude.{map}
-use Rattle.an_forms.specs.Form.{form_of}
+use Rattle.an_app.specs.Form.{form_of}
 use Rattle.an_app.proofs.RunLemmas.{ends_kept, ends_shut, ends_unfailing, never_rises}
 use Rattle.an_app.proofs.program.run.Goals as goal
 

@@ -1,7 +1,7 @@
 use Rattle.std.proofs.Common.{refl, string_bytes}
 use Rattle.std.specs.Prelude.{map}
 use Rattle.an_session.specs.Session.{line}
-use Rattle.an_forms.specs.Form.{form_of}
+use Rattle.an_app.specs.Form.{form_of}
 use Rattle.an_app.proofs.RunLemmas.{Misunderstands-nothing_read, ReadsInput-nothing_read, Runs-nothing_read, none-holds}
 use Rattle.an_app.proofs.program.run_words.Goals as goal
 

@@ -1,6 +1,6 @@
 use Rattle.std.proofs.Common.{IsSome, inl, inr, subst}
-use Rattle.an_keep.proofs.ToldLemmas.{stays-tells, told-before}
-use Rattle.an_shelf.specs.Opening.{StandFor}
+use Rattle.an_keep.proofs.ToldLemmas.{stays-tells}
+use Rattle.an_shelf.proofs.OpeningLemmas.{opened-on, renews-tells}
 use Rattle.an_app.proofs.RunLemmas.{little_requests, unopened-at}
 use Rattle.an_app.proofs.stored.session_at.Goals as goal
 
@@ -10,7 +10,7 @@ returns-in-Ok-clause-session g c =
     let (behind, legal, left, connection) = its.ensures.connection in
     inl (record {
       state = c.in-Ok.desk.state;
-      opens = told-before (λ told. StandFor told c.in-Ok.desk.state) _ _ _ c.in-Ok.ensures.stays its.ensures.told c.in-Ok.ensures.state;
+      opens = opened-on _ _ _ _ c.in-Ok.ensures.opened its.ensures.told;
       told = c.in-Ok.desk.told;
       ended = its.result.0;
       is = c.ended_status.ensures;
@@ -29,7 +29,7 @@ pub returns-in-Err-clause-bounded : goal.returns-in-Err-clause-bounded
 returns-in-Err-clause-bounded g c = little_requests _ _ c.not_opened.ensures.bounded
 
 pub returns-in-Ok-clause-never : goal.returns-in-Ok-clause-never
-returns-in-Ok-clause-never g c = λ kind some. stays-tells _ _ (c.in-Ok.ensures.never kind) (c.session_into-ended.ensures.told some)
+returns-in-Ok-clause-never g c = λ kind some. renews-tells _ _ _ (c.in-Ok.ensures.never kind) (c.session_into-ended.ensures.told some)
 
 pub returns-in-Err-clause-never : goal.returns-in-Err-clause-never
 returns-in-Err-clause-never g c = λ kind some. stays-tells _ _ (c.in-Err.ensures.never_refused kind) (subst IsSome c.not_opened.ensures.keeper some)

@@ -5,7 +5,7 @@ use Rattle.an_policy.specs.Audience.{identity}
 use Rattle.an_state.specs.Terms.{totals_in}
 use Rattle.an_state.specs.View.{is_on, view_of}
 use Rattle.an_complete.proofs.NoteLemmas.{all_asked, asked_at_places}
-use Rattle.an_search.proofs.HitLemmas.{readable_count}
+use Rattle.an_list.proofs.ReadableLemmas.{readable_count}
 use Rattle.an_complete.proofs.totals.asked_totals.Goals as goal
 
 pub returns-then-wants_nothing-clause-totals : goal.returns-then-wants_nothing-clause-totals

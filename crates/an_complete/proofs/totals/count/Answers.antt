@@ -2,7 +2,7 @@ use Rattle.std.proofs.Common.{[], ◌∷◌, take, arith, ap, ◌∙◌}
 use Rattle.std.proofs.lemmas.List.Elements.{filter-append}
 use Rattle.std.specs.Prelude.{filter, slice_get}
 use Rattle.std.specs.List.{filter_map}
-use Rattle.an_search.proofs.FoundLemmas.{place_with_row, place_without}
+use Rattle.an_list.proofs.ListedLemmas.{place_with_row, place_without}
 use Rattle.an_search.specs.Wanted.{matches}
 use Rattle.an_complete.proofs.totals.count.Goals as goal
 use Rattle.an_complete.proofs.totals.count.Goals.{in-Some+in_ok-try_row-in-Some, in-None}

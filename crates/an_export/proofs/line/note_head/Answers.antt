@@ -1,7 +1,7 @@
 use Rattle.std.proofs.Common.{rules, ◌≡◌}
 use Rattle.std.proofs.lemmas.Result.{IfOk-weaker}
 use Rattle.an_base.specs.Moment.{moment_text}
-use Rattle.an_policy.specs.Group.{group_text}
+use Rattle.an_policy.specs.Inner.{inner_text}
 use Rattle.an_export.proofs.line.note_head.Goals as goal
 
 pub returns : goal.returns
@@ -12,5 +12,5 @@ returns c =
     let owner : c.as_str-owner.result.now ≡ row.owner = search rules in
     let name : c.as_str-name.result.now ≡ row.name = search rules in
     let manifest : c.as_str-manifest.result.now ≡ live.manifest.now = search rules in
-    let group : c.group_text-group.result.now ≡ group_text live.group.now = search rules in
+    let group : c.as_str-group.result.now ≡ inner_text live.group.now = search rules in
     record { text = IfOk-weaker c.format.result _ _ (λ head is. cc) c.format.ensures.ok }

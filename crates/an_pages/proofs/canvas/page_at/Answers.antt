@@ -1,6 +1,6 @@
 use Rattle.std.proofs.Common.{◌+◌, ◌≤◌, length, arith, ap, subst, refl, sym, ◌∙◌}
-use Rattle.an_search.proofs.FoundLemmas.{stand-count, stand-page}
-use Rattle.an_search.proofs.HitLemmas.{cost_past, cost_shown}
+use Rattle.an_list.proofs.ListedLemmas.{stand-count, stand-page}
+use Rattle.an_list.proofs.PageLemmas.{cost_past, cost_shown}
 use Rattle.an_pages.proofs.NoteLemmas.{found_page, no_page}
 use Rattle.an_pages.proofs.canvas.page_at.Goals as goal
 

@@ -2,7 +2,7 @@ use Rattle.std.proofs.Common.{refl, ◌∙◌}
 use Rattle.std.specs.List.{filter_map}
 use Rattle.serde_json.specs.Data.{no_items}
 use Rattle.serde_json.specs.View.{items_of}
-use Rattle.an_search.specs.Listed.{listed_note}
+use Rattle.an_list.specs.Listed.{listed_note}
 use Rattle.an_pages.proofs.canvas.write_page.Goals as goal
 
 pub returns-clause-text : goal.returns-clause-text

@@ -1,7 +1,7 @@
 use Rattle.std.proofs.Common.{◌+◌, ◌≤◌, length, subst, ap, sym, ◌∙◌}
-use Rattle.an_search.proofs.FoundLemmas.{stand-count, stand-page}
+use Rattle.an_list.proofs.ListedLemmas.{stand-count, stand-page}
 use Rattle.std.specs.Prelude.{if◌then◌else◌}
-use Rattle.an_search.specs.Page.{page_of}
+use Rattle.an_list.specs.Page.{page_of}
 use Rattle.an_pages.proofs.ContainerLemmas.{container_found}
 use Rattle.an_pages.proofs.containers.container_at.Goals as goal
 

@@ -1,6 +1,6 @@
 use Rattle.std.proofs.Common.{◌+◌, ◌≤◌, length, arith, ap, subst, refl, sym, ◌∙◌}
-use Rattle.an_search.proofs.FoundLemmas.{stand-count, stand-page}
-use Rattle.an_search.proofs.HitLemmas.{cost_past, cost_shown}
+use Rattle.an_list.proofs.ListedLemmas.{stand-count, stand-page}
+use Rattle.an_list.proofs.PageLemmas.{cost_past, cost_shown}
 use Rattle.an_pages.proofs.ContainerLemmas.{found_own_page, no_own_page}
 use Rattle.an_pages.proofs.containers.page_at.Goals as goal
 

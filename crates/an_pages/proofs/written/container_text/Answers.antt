@@ -1,7 +1,7 @@
 use Rattle.std.proofs.Common.{[], ◌++◌, codes, refl, ap, ◌∙◌}
 use Rattle.serde_json.specs.Written.{compact_text}
 use Rattle.an_base.specs.Write.{member_text}
-use Rattle.an_search.proofs.WrittenLemmas.{piece_then}
+use Rattle.an_list.proofs.WrittenLemmas.{piece_then}
 use Rattle.an_pages.proofs.ContainerLemmas.{container_is, container_members, container_pieces}
 use Rattle.an_pages.specs.Container.{container_contexts}
 use Rattle.an_pages.proofs.written.container_text.Goals as goal

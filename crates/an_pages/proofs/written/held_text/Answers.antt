@@ -1,6 +1,6 @@
 use Rattle.std.proofs.Common.{[], ◌++◌, refl, ap, ◌∙◌}
 use Rattle.serde_json.specs.Written.{compact_text}
-use Rattle.an_search.proofs.WrittenLemmas.{piece_then}
+use Rattle.an_list.proofs.WrittenLemmas.{piece_then}
 use Rattle.an_pages.proofs.ContainerLemmas.{held_is, held_members, held_pieces}
 use Rattle.an_pages.specs.ContainerText.{content_text}
 use Rattle.an_pages.proofs.written.held_text.Goals as goal

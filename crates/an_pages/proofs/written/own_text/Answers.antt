@@ -2,7 +2,7 @@ use Rattle.std.proofs.Common.{[], ◌++◌, codes, refl, ap, ◌∙◌}
 use Rattle.serde_json.specs.Data.{string}
 use Rattle.serde_json.specs.Written.{compact_text}
 use Rattle.an_base.specs.Write.{member_text}
-use Rattle.an_search.proofs.WrittenLemmas.{piece_then}
+use Rattle.an_list.proofs.WrittenLemmas.{piece_then}
 use Rattle.an_pages.proofs.ContainerLemmas.{own_is, own_members, own_pieces}
 use Rattle.an_pages.specs.Bodies.{note_context}
 use Rattle.an_pages.proofs.written.own_text.Goals as goal

@@ -1,4 +1,4 @@
-use Rattle.an_search.proofs.WrittenLemmas.{piece_then}
+use Rattle.an_list.proofs.WrittenLemmas.{piece_then}
 use Rattle.an_pages.proofs.written.push_content.Goals as goal
 
 pub returns : goal.returns

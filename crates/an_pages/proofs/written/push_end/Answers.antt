@@ -1,7 +1,7 @@
 use Rattle.std.proofs.Common.{◌++◌, codes, ap, ◌∙◌}
 use Rattle.serde_json.specs.Data.{number, unsigned}
 use Rattle.an_base.specs.Write.{member_text}
-use Rattle.an_search.proofs.WrittenLemmas.{piece_then}
+use Rattle.an_list.proofs.WrittenLemmas.{piece_then}
 use Rattle.an_pages.proofs.written.push_end.Goals as goal
 
 pub returns : goal.returns

@@ -1,6 +1,6 @@
 use Rattle.std.proofs.Common.{codes}
 use Rattle.an_base.proofs.WriteLemmas.{member_joined}
-use Rattle.an_search.proofs.WrittenLemmas.{piece_then}
+use Rattle.an_list.proofs.WrittenLemmas.{piece_then}
 use Rattle.an_pages.specs.Container.{container_link}
 use Rattle.an_pages.proofs.written.push_part.Goals as goal
 

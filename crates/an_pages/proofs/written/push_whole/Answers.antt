@@ -1,8 +1,8 @@
 use Rattle.std.proofs.Common.{rules, ◌≡◌, ◌++◌, codes, ap, ◌∙◌}
 use Rattle.serde_json.specs.Data.{string}
 use Rattle.an_base.specs.Write.{member_text}
-use Rattle.an_search.specs.Page.{page_iri}
-use Rattle.an_search.proofs.WrittenLemmas.{piece_then}
+use Rattle.an_list.specs.Page.{page_iri}
+use Rattle.an_list.proofs.WrittenLemmas.{piece_then}
 use Rattle.an_pages.proofs.written.push_whole.Goals as goal
 
 pub returns : goal.returns

@@ -1,6 +1,6 @@
 use Rattle.std.proofs.Common.{◌≡◌, ◌++◌, drop, map}
 use Rattle.std.specs.Prelude.{option_map}
-use Rattle.an_search.specs.Pairs.{all_there, escaped_text}
+use Rattle.an_query.specs.Pairs.{all_there, escaped_text}
 use Rattle.an_routes.specs.Target.{segments_of}
 use Rattle.an_routes.proofs.target.segments_of.Given as goal
 

@@ -2,7 +2,8 @@ use Rattle.std.proofs.Common.{map, subst, sym, ap, ◌∙◌}
 use Rattle.std.proofs.lemmas.Result.{IfOk-weaker}
 use Rattle.an_policy.specs.Audience.{identity}
 use Rattle.an_search.specs.Found.{with_terms}
-use Rattle.an_search.proofs.HitLemmas.{found_places, on_ok, suited_rise}
+use Rattle.an_search.proofs.HitLemmas.{found_places, suited_rise}
+use Rattle.an_list.proofs.PageLemmas.{on_ok}
 use Rattle.an_state.specs.Places.{Rises}
 use Rattle.an_search.proofs.hits.hit_places.Goals as goal
 

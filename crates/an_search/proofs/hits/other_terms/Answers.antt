@@ -1,4 +1,4 @@
-use Rattle.std.proofs.Common.{ℕ, List, Bool, ◌&&◌, map, not, sym, ap, ◌∙◌}
+use Rattle.std.proofs.Common.{ℕ, List, Bool, ◌&&◌, not, sym, ap, ◌∙◌}
 use Rattle.std.proofs.lemmas.List.Sorted.{IsPermutation-map, list_any-IsPermutation}
 use Rattle.std.specs.Prelude.{bytes_eq}
 use Rattle.an_base.specs.TextSet.{ascending, has_text}

@@ -1,4 +1,4 @@
-use Rattle.std.proofs.Common.{◌≡◌, ◌+◌, ◌∷◌, ◌++◌, ◌∙◌, [], add-one, ap, append_assoc, arith, drop, drop-cons, get_or, sym}
+use Rattle.std.proofs.Common.{◌≡◌, ◌+◌, ◌∷◌, ◌++◌, ◌∙◌, add-one, ap, append_assoc, arith, drop, drop-cons, get_or, sym}
 use Rattle.std.specs.Option.{option_copied}
 use Rattle.std.specs.Prelude.{filter, slice_get}
 use Rattle.an_search.specs.Found.{is_suited_at}

@@ -4,7 +4,7 @@ use Rattle.an_policy.specs.Audience.{identity}
 use Rattle.an_search.specs.Found.{with_term, with_terms}
 use Rattle.an_slots.proofs.GatheredLemmas.{Rises-kept}
 use Rattle.an_state.specs.Places.{Rises}
-use Rattle.an_search.proofs.FoundLemmas.{empty_of}
+use Rattle.an_list.proofs.ListedLemmas.{empty_of}
 use Rattle.an_search.proofs.HitLemmas.{none_having}
 use Rattle.an_search.proofs.hits.with_terms.Goals as goal
 

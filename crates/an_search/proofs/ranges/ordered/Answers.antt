@@ -1,8 +1,8 @@
 use Rattle.std.proofs.Common.{rules, sym, ap, ◌∙◌}
 use Rattle.std.proofs.lemmas.List.Sorted.{answers_always, list_any-IsPermutation}
 use Rattle.std.specs.List.{list_any}
-use Rattle.an_search.specs.Dates.{is_in}
-use Rattle.an_search.specs.declared.dates.DateRange.{DateRange}
+use Rattle.an_query.specs.Dates.{is_in}
+use Rattle.an_query.specs.declared.dates.DateRange.{DateRange}
 use Rattle.an_search.proofs.RangeLemmas.{sorted_in_order}
 use Rattle.an_search.proofs.ranges.ordered.Goals as goal
 

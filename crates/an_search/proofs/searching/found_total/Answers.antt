@@ -3,10 +3,10 @@ use Rattle.an_policy.specs.Audience.{identity}
 use Rattle.an_state.specs.State.{NoteState}
 use Rattle.an_state.specs.View.{view_of}
 use Rattle.an_search.specs.Cost.{candidates}
-use Rattle.an_search.specs.Found.{StandAt}
+use Rattle.an_list.specs.Listed.{StandAt}
 use Rattle.an_search.specs.Search.{hits}
 use Rattle.an_search.specs.declared.wanted.Wanted.{Wanted}
-use Rattle.an_search.proofs.FoundLemmas.{stand-count}
+use Rattle.an_list.proofs.ListedLemmas.{stand-count}
 use Rattle.an_search.proofs.ViewLemmas.{hits-stand}
 use Rattle.an_search.proofs.searching.found_total.Goals as goal
 

@@ -1,6 +1,7 @@
 use Rattle.std.proofs.Common.{◌+◌, ◌≤◌, length, arith, ap, subst, sym, ◌∙◌}
-use Rattle.an_search.proofs.FoundLemmas.{found-page, past-pages, stand-count, stand-page}
-use Rattle.an_search.proofs.HitLemmas.{cost_past, cost_shown}
+use Rattle.an_search.proofs.FoundLemmas.{found-page, past-pages}
+use Rattle.an_list.proofs.ListedLemmas.{stand-count, stand-page}
+use Rattle.an_list.proofs.PageLemmas.{cost_past, cost_shown}
 use Rattle.an_search.proofs.searching.page_at.Goals as goal
 
 pub returns-then-is_past-clause-answer : goal.returns-then-is_past-clause-answer

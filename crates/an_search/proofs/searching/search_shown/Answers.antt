@@ -4,13 +4,13 @@ use Rattle.an_base.specs.Outcome.{Gives}
 use Rattle.an_state.specs.View.{view_of}
 use Rattle.an_state.specs.State.{NoteState}
 use Rattle.an_search.specs.Cost.{candidates}
-use Rattle.an_search.specs.Found.{StandAt}
+use Rattle.an_list.specs.Listed.{StandAt}
 use Rattle.an_search.specs.Search.{found_text, hits}
 use Rattle.an_search.specs.Wanted.{wanted_of}
 use Rattle.an_search.specs.declared.searching.AskError.TheVariants.{Memory}
 use Rattle.an_search.specs.declared.wanted.Wanted.{Wanted}
-use Rattle.an_search.proofs.FoundLemmas.{stand-count}
-use Rattle.an_search.proofs.HitLemmas.{page_cost-same, takes_both}
+use Rattle.an_list.proofs.ListedLemmas.{stand-count}
+use Rattle.an_list.proofs.PageLemmas.{page_cost-same, takes_both}
 use Rattle.an_search.proofs.ViewLemmas.{hits-stand}
 use Rattle.an_search.proofs.searching.search_shown.Goals as goal
 
@@ -20,7 +20,7 @@ returns-clause-answer g c =
     let stand = hits-stand s (identity c.args.who.now) c.args.manifest.now c.in_ok-wanted.wanted in
     let places = c.as_slice.ensures.value ∙ c.in_ok-places.ensures.places in
     let shown = subst (λ places. StandAt s.notes places (hits (view_of s (identity c.args.who.now)) c.args.manifest.now c.in_ok-wanted.wanted)) (sym places) stand in
-    subst (λ wanted. Gives (λ page. page) Memory c.page_at.result (found_text c.args.settings.now c.args.manifest.now c.args.query.now (hits (view_of s (identity c.args.who.now)) c.args.manifest.now wanted)))
+    subst (λ wanted. Gives (λ page. page) Memory c.page_at.result (found_text c.args.site.now c.args.manifest.now c.args.query.now (hits (view_of s (identity c.args.who.now)) c.args.manifest.now wanted)))
     c.in_ok-wanted.ensures (c.page_at.ensures.answer _ shown)
 
 pub returns-clause-steps : goal.returns-clause-steps
@@ -33,7 +33,7 @@ returns-clause-steps g c =
     let looked = c.in_ok-places.ensures.steps ∙ ap (λ (wanted : Wanted). c.args.steps.now + length (candidates (view_of s who) manifest wanted.terms)) c.in_ok-wanted.ensures in
     let stand = subst (λ places. StandAt s.notes places (found c.in_ok-wanted.wanted)) (sym (c.as_slice.ensures.value ∙ c.in_ok-places.ensures.places)) (hits-stand s who manifest c.in_ok-wanted.wanted) in
     let many = stand-count s.notes c.as_slice.result.now (found c.in_ok-wanted.wanted) stand ∙ ap (λ wanted. length (found wanted)) c.in_ok-wanted.ensures in
-    takes_both Memory c.page_at.result _ _ _ _ _ _ c.page_at.ensures.steps looked (page_cost-same query.page c.args.settings.now.size c.as_slice.result.now (found (wanted_of query)) many)
+    takes_both Memory c.page_at.result _ _ _ _ _ _ c.page_at.ensures.steps looked (page_cost-same query.page c.args.site.now.size c.as_slice.result.now (found (wanted_of query)) many)
 
 pub returns-clause-steps_most : goal.returns-clause-steps_most
 returns-clause-steps_most g c =
@@ -45,7 +45,7 @@ returns-clause-steps_most g c =
     let looked = c.in_ok-places.ensures.steps ∙ ap (λ (wanted : Wanted). c.args.steps.now + length (candidates (view_of s who) manifest wanted.terms)) c.in_ok-wanted.ensures in
     let stand = subst (λ places. StandAt s.notes places (found c.in_ok-wanted.wanted)) (sym (c.as_slice.ensures.value ∙ c.in_ok-places.ensures.places)) (hits-stand s who manifest c.in_ok-wanted.wanted) in
     let many = stand-count s.notes c.as_slice.result.now (found c.in_ok-wanted.wanted) stand ∙ ap (λ wanted. length (found wanted)) c.in_ok-wanted.ensures in
-    let page = page_cost-same query.page c.args.settings.now.size c.as_slice.result.now (found (wanted_of query)) many in
+    let page = page_cost-same query.page c.args.site.now.size c.as_slice.result.now (found (wanted_of query)) many in
     omega (arith, c.page_at.ensures.steps_most, looked, page)
 
 pub returns-in_err-places-clause-steps_most : goal.returns-in_err-places-clause-steps_most

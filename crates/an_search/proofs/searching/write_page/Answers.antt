@@ -2,9 +2,9 @@ use Rattle.std.proofs.Common.{◌≡◌, ap, ◌∙◌}
 use Rattle.std.specs.List.{filter_map}
 use Rattle.serde_json.specs.View.{items_of}
 use Rattle.serde_json.specs.Written.{compact_text}
-use Rattle.an_search.specs.Listed.{listed_note}
-use Rattle.an_search.specs.Page.{list_page, page_iri}
-use Rattle.an_search.specs.Search.{marks_of, search_context}
+use Rattle.an_list.specs.Listed.{listed_note, marks_of}
+use Rattle.an_list.specs.Page.{list_page, page_iri}
+use Rattle.an_search.specs.Search.{search_context}
 use Rattle.an_search.proofs.searching.write_page.Goals as goal
 
 pub returns-clause-page : goal.returns-clause-page

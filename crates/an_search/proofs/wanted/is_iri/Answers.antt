@@ -1,5 +1,5 @@
 use Rattle.std.proofs.Common.{sym, ◌∙◌, arith}
-use Rattle.an_search.proofs.PieceLemmas.{is_iri_here, is_iri_next}
+use Rattle.an_search.proofs.IriLemmas.{is_iri_here, is_iri_next}
 use Rattle.an_search.proofs.wanted.is_iri.Goals as goal
 
 pub loop-at-preserved : goal.loop-at-preserved

@@ -1,5 +1,5 @@
 use Rattle.std.proofs.Common.{◌≡◌, ◌++◌, drop, filter, length, map, nat_lt}
-use Rattle.an_search.specs.Dates.{pieces_of}
+use Rattle.an_query.specs.Dates.{pieces_of}
 use Rattle.an_search.proofs.wanted.pieces_of.Given as goal
 
 -- the pieces that are left stand behind those so far

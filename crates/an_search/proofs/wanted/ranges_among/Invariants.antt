@@ -1,6 +1,6 @@
 use Rattle.std.proofs.Common.{◌≡◌, ◌++◌, drop}
 use Rattle.std.specs.List.{filter_map}
-use Rattle.an_search.specs.Dates.{range_of}
+use Rattle.an_query.specs.Dates.{range_of}
 use Rattle.an_search.proofs.wanted.ranges_among.Given as goal
 
 -- the ranges that are left stand behind those so far

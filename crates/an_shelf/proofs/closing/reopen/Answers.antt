@@ -3,7 +3,7 @@ use Rattle.an_shelf.proofs.closing.reopen.Goals as goal
 
 pub returns-clause-same : goal.returns-clause-same
 returns-clause-same g c =
-    again-same c.args.desk c.into_keeper.ensures.stand (g.K.Keeper.told c.into_keeper.result) c.into_keeper.ensures.told c.open.result c.open.ensures.state c.open.ensures.stays
+    again-same c.args.desk c.into_keeper.ensures.stand (g.K.Keeper.told c.into_keeper.result) c.into_keeper.ensures.told c.open.result c.open.ensures.opened
 
 pub returns-clause-undamaged : goal.returns-clause-undamaged
 returns-clause-undamaged g c =
@@ -14,4 +14,4 @@ returns-clause-undamaged g c =
 pub returns-clause-sent_again : goal.returns-clause-sent_again
 returns-clause-sent_again g c =
     again-nothing c.args.desk c.into_keeper.ensures.stand (g.K.Keeper.told c.into_keeper.result) c.into_keeper.ensures.told c.open.result
-    (again-same c.args.desk c.into_keeper.ensures.stand (g.K.Keeper.told c.into_keeper.result) c.into_keeper.ensures.told c.open.result c.open.ensures.state c.open.ensures.stays)
+    (again-same c.args.desk c.into_keeper.ensures.stand (g.K.Keeper.told c.into_keeper.result) c.into_keeper.ensures.told c.open.result c.open.ensures.opened)

@@ -9,7 +9,7 @@ use Rattle.an_shelf.proofs.opening.restore_rows.Goals as goal
 pub restore-requires : goal.restore-requires
 restore-requires g c = record {
   few = omega (arith, c.loop.invariant.few);
-  fits = reading-fits (g.K.Keeper.told c.loop.keeper) c.loop.loaded.book.state c.loop.cell c.loop.invariant.reading;
+  fits = reading-fits c.args.format (g.K.Keeper.told c.loop.keeper) c.loop.loaded.book.state c.loop.cell c.loop.invariant.reading;
   shown = c.loop.invariant.shown;
 }
 
@@ -17,7 +17,7 @@ pub loop-init : goal.loop-init
 loop-init g c =
     let none = ap row_count c.requires.empty in
     record {
-      reading = subst (λ s. IsReading (g.K.Keeper.told c.args.keeper.now) s c.args.cell) (sym c.requires.empty) (reading-begins (g.K.Keeper.told c.args.keeper.now) c.args.cell c.requires.next);
+      reading = subst (λ s. IsReading c.args.format (g.K.Keeper.told c.args.keeper.now) s c.args.cell) (sym c.requires.empty) (reading-begins c.args.format (g.K.Keeper.told c.args.keeper.now) c.args.cell c.requires.next);
       few = omega (arith, none);
       shown = c.requires.shown;
       stays = stays-same (g.K.Keeper.told c.args.keeper.now);
@@ -27,7 +27,7 @@ loop-init g c =
 pub loop-preserved : goal.loop-preserved
 loop-preserved g c = record {
   reading =
-      reading-on (g.K.Keeper.told c.loop.keeper) (g.K.Keeper.told c.next_after.new.self) c.loop.loaded.book.state c.restore.new.loaded.book.state c.loop.cell c.in-Some.next _
+      reading-on c.args.format (g.K.Keeper.told c.loop.keeper) (g.K.Keeper.told c.next_after.new.self) c.loop.loaded.book.state c.restore.new.loaded.book.state c.loop.cell c.in-Some.next _
       c.loop.invariant.reading c.in_ok-restore.ensures.row c.next_after.ensures.still c.in-Some.is c.in_ok-next.ensures.cell;
   few = omega (arith, c.loop.invariant.few, c.in_ok-restore.ensures.one);
   shown = c.in_ok-restore.ensures.shown;
@@ -38,12 +38,12 @@ loop-preserved g c = record {
 pub returns-in_err-restore-clause-damaged : goal.returns-in_err-restore-clause-damaged
 returns-in_err-restore-clause-damaged g c =
     let exit = err_from_is_err_and c.from_residual.result c.from_residual.ensures.1 in
-    exit-damaged (g.K.Keeper.told c.loop.keeper) c.loop.loaded.book.state c.loop.cell _ _ exit.0 exit.1 exit.2 c.loop.invariant.reading c.in_err-restore.ensures.damaged
+    exit-damaged c.args.format (g.K.Keeper.told c.loop.keeper) c.loop.loaded.book.state c.loop.cell _ _ exit.0 exit.1 exit.2 c.loop.invariant.reading c.in_err-restore.ensures.damaged
 
 pub returns-in_err-restore-clause-counted : goal.returns-in_err-restore-clause-counted
 returns-in_err-restore-clause-counted g c =
     let exit = err_from_is_err_and c.from_residual.result c.from_residual.ensures.1 in
-    exit-uncounted c.loop.loaded.book.state c.loop.cell _ _ exit.0 exit.1 exit.2 c.in_err-restore.ensures.damaged
+    exit-uncounted c.args.format c.loop.loaded.book.state c.loop.cell _ _ exit.0 exit.1 exit.2 c.in_err-restore.ensures.damaged
 
 pub returns-in_err-next-clause-counted : goal.returns-in_err-next-clause-counted
 returns-in_err-next-clause-counted g c =
@@ -53,18 +53,18 @@ returns-in_err-next-clause-counted g c =
 
 pub returns-in-None-clause-state : goal.returns-in-None-clause-state
 returns-in-None-clause-state g c =
-    reading-ends c.loop.loaded.book.state c.restore.new.loaded.book.state c.loop.cell _ c.in_ok-restore.ensures.row c.in-None.is (g.K.Keeper.told c.loop.keeper) (g.K.Keeper.told c.next_after.new.self)
+    reading-ends c.args.format c.loop.loaded.book.state c.restore.new.loaded.book.state c.loop.cell _ c.in_ok-restore.ensures.row c.in-None.is (g.K.Keeper.told c.loop.keeper) (g.K.Keeper.told c.next_after.new.self)
     c.loop.invariant.reading c.next_after.ensures.still c.in_ok-next.ensures.cell
 
-pub returns-in-None-clause-cells : goal.returns-in-None-clause-cells
-returns-in-None-clause-cells g c =
-    reading-cells c.loop.loaded.book.state c.restore.new.loaded.book.state c.loop.cell _ c.in_ok-restore.ensures.row c.in-None.is (g.K.Keeper.told c.loop.keeper) (g.K.Keeper.told c.next_after.new.self)
+pub returns-in-None-clause-read : goal.returns-in-None-clause-read
+returns-in-None-clause-read g c =
+    reading-cells c.args.format c.loop.loaded.book.state c.restore.new.loaded.book.state c.loop.cell _ c.in_ok-restore.ensures.row c.in-None.is (g.K.Keeper.told c.loop.keeper) (g.K.Keeper.told c.next_after.new.self)
     c.loop.invariant.reading c.next_after.ensures.still c.in_ok-next.ensures.cell
 
 pub returns-in-None-clause-valid : goal.returns-in-None-clause-valid
 returns-in-None-clause-valid g c =
-    reading-valid (g.K.Keeper.told c.loop.keeper) c.loop.loaded.book.state c.restore.new.loaded.book.state c.loop.cell c.loop.invariant.reading c.in_ok-restore.ensures.row
+    reading-valid c.args.format (g.K.Keeper.told c.loop.keeper) c.loop.loaded.book.state c.restore.new.loaded.book.state c.loop.cell c.loop.invariant.reading c.in_ok-restore.ensures.row
 
 pub returns-in-None-clause-sound : goal.returns-in-None-clause-sound
 returns-in-None-clause-sound g c =
-    reading-sound (g.K.Keeper.told c.loop.keeper) c.loop.loaded.book.state c.restore.new.loaded.book.state c.loop.cell c.loop.invariant.reading c.in_ok-restore.ensures.row
+    reading-sound c.args.format (g.K.Keeper.told c.loop.keeper) c.loop.loaded.book.state c.restore.new.loaded.book.state c.loop.cell c.loop.invariant.reading c.in_ok-restore.ensures.row

@@ -7,7 +7,7 @@ use Rattle.an_shelf.proofs.opening.restore_rows.Given as goal
 -- the rows are those of the cells before this one, and are shown, and no cell was changed
 abbrev pub invariant-loop : goal.invariant-loop
 invariant-loop g l = record {
-  reading : IsReading (g.K.Keeper.told l.keeper) l.loaded.book.state l.cell;
+  reading : IsReading l.format (g.K.Keeper.told l.keeper) l.loaded.book.state l.cell;
   few : row_count l.loaded.book.state ≤ l.counter;
   shown : l.loaded.snapshot.state ≡ l.loaded.book.state;
   stays : Stays (g.K.Keeper.told l.fn.keeper) (g.K.Keeper.told l.keeper);

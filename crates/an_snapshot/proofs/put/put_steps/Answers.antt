@@ -5,26 +5,26 @@ use Rattle.std.proofs.lemmas.List.Elements.{All-head, All-tail}
 use Rattle.an_state.specs.Entries.{with_row}
 use Rattle.an_snapshot.specs.Listing.{IsFiled}
 use Rattle.an_snapshot.specs.Steps.{IsSame, filed_in, row_of_step}
-use Rattle.an_snapshot.specs.declared.steps.Step.{Step}
+use Rattle.an_snapshot.specs.declared.planned_row.PlannedRow.{PlannedRow}
 use Rattle.an_snapshot.proofs.AllLemmas.{All-front, All-back}
 use Rattle.an_snapshot.proofs.StepLemmas.{step-room}
 use Rattle.an_snapshot.proofs.put.put_steps.Goals as goal
 
 pub put_step-requires-clause-lists : goal.put_step-requires-clause-lists
 put_step-requires-clause-lists c =
-    let left : List Step = into_iter_items c.next.new.self in
+    let left : List PlannedRow = into_iter_items c.next.new.self in
     let next : into_iter_items c.loop-step.step-iterator ≡ c.in-Some.step ∷ left = c.in-Some.ensures.steps.0 in
     step-room c.in-Some.step (flat_map filed_in left) c.loop-step.listed (rw next at c.loop-step.invariant.lists)
 
 pub put_step-requires-clause-same : goal.put_step-requires-clause-same
 put_step-requires-clause-same c =
-    let left : List Step = into_iter_items c.next.new.self in
+    let left : List PlannedRow = into_iter_items c.next.new.self in
     let next : into_iter_items c.loop-step.step-iterator ≡ c.in-Some.step ∷ left = c.in-Some.ensures.steps.0 in
     All-head IsSame c.in-Some.step left (rw next at c.loop-step.invariant.same)
 
 pub loop-step-preserved : goal.loop-step-preserved
 loop-step-preserved c =
-    let left : List Step = into_iter_items c.next.new.self in
+    let left : List PlannedRow = into_iter_items c.next.new.self in
     let next : into_iter_items c.loop-step.step-iterator ≡ c.in-Some.step ∷ left = c.in-Some.ensures.steps.0 in
     let room = rw next at c.loop-step.invariant.room in
     let spent = rw next at c.loop-step.invariant.spent in

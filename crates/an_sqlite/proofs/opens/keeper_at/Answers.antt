@@ -1,5 +1,5 @@
 use Rattle.sqlite.specs.Files.{file_state, over_files}
-use Rattle.an_sqlite.specs.Place.{told_in}
+use Rattle.an_sqlite.specs.Connecting.{told_in}
 use Rattle.an_sqlite.proofs.PlaceLemmas.{clean_in, none_clean, tells_begins}
 use Rattle.an_sqlite.proofs.opens.keeper_at.Goals as goal
 

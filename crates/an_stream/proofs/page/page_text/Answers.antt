@@ -2,7 +2,7 @@ use Rattle.std.proofs.Common.{[], ◌++◌, map, refl, ap, ◌∙◌}
 use Rattle.serde_json.specs.View.{items_of}
 use Rattle.serde_json.specs.Written.{compact_text}
 use Rattle.an_base.specs.Write.{item_commas}
-use Rattle.an_search.specs.Page.{page_count, start_of}
+use Rattle.an_list.specs.Page.{page_count, start_of}
 use Rattle.an_stream.specs.Activity.{activity}
 use Rattle.an_stream.specs.PageText.{head_text}
 use Rattle.an_stream.proofs.TextLemmas.{page_members, page_pieces, written_page}

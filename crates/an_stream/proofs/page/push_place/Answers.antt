@@ -1,7 +1,7 @@
 use Rattle.std.proofs.Common.{rules, ◌≡◌, ◌++◌, codes, ap, ◌∙◌}
 use Rattle.an_base.specs.Write.{member_text}
-use Rattle.an_search.proofs.WrittenLemmas.{piece_then, last_piece}
-use Rattle.an_search.specs.Page.{start_of, thing}
+use Rattle.an_list.proofs.WrittenLemmas.{piece_then, last_piece}
+use Rattle.an_list.specs.Page.{start_of, thing}
 use Rattle.an_stream.proofs.TextLemmas.{place_text}
 use Rattle.an_stream.proofs.page.push_place.Goals as goal
 

@@ -2,7 +2,7 @@ use Rattle.std.proofs.Common.{rules, ◌≡◌, [], ◌++◌, codes, refl, ap, �
 use Rattle.serde_json.specs.Data.{string}
 use Rattle.an_base.specs.Cut.{members_in}
 use Rattle.an_base.specs.Write.{member_text}
-use Rattle.an_search.proofs.WrittenLemmas.{piece_then, last_piece}
+use Rattle.an_list.proofs.WrittenLemmas.{piece_then, last_piece}
 use Rattle.an_stream.specs.Stream.{changes_context, stream_tree}
 use Rattle.an_stream.proofs.page.stream_text.Goals as goal
 

@@ -2,10 +2,10 @@ use Rattle.std.proofs.Common.{IfSome, IsTrue, false, map, string_bytes}
 use Rattle.an_app.specs.Outside.{outside_of}
 use Rattle.an_app.specs.Runs.{Runs}
 use Rattle.an_base.specs.Faults.{Rises}
-use Rattle.an_forms.specs.Form.{form_of}
+use Rattle.an_app.specs.Form.{form_of}
 use Rattle.an_keep.specs.Keeper.{Told}
 use Rattle.an_session.specs.Session.{line}
-use Rattle.an_sqlite.specs.Place.{told_in}
+use Rattle.an_sqlite.specs.Connecting.{told_in}
 use Rattle.an_sqlite.proofs.PlaceLemmas.{told_clean}
 use Rattle.sqlite.specs.Files.{over_files}
 use Rattle.anno.proofs.filed.run_at.Goals as goal

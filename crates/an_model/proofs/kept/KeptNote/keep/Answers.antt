@@ -9,7 +9,7 @@ use Rattle.an_model.specs.Bodies.{iris_of, note_terms}
 use Rattle.an_model.specs.Note.{note_refusal, is_bare, motivations_of}
 use Rattle.an_model.specs.Targets.{kept_target, targets_of}
 use Rattle.an_model.proofs.KeptNoteLemmas.{same_cuts}
-use Rattle.an_model.proofs.ServedLemmas.{note_is_object}
+use Rattle.an_model.proofs.KeptNoteLemmas.{note_is_object}
 use Rattle.an_model.proofs.kept.KeptNote.keep.Goals as goal
 
 pub cut_text-requires-clause-object : goal.cut_text-requires-clause-object

@@ -1,4 +1,0 @@
-pub mod MarkLemmas
-pub mod PlacedLemmas
-mod MarkRows
-pub mod LentLemmas

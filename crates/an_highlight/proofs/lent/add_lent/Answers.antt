@@ -1,5 +1,0 @@
-use Rattle.an_highlight.proofs.LentLemmas.{lent-added}
-use Rattle.an_highlight.proofs.lent.add_lent.Goals as goal
-
-pub returns-clause-added : goal.returns-clause-added
-returns-clause-added c = λ other. lent-added _ _ _ c.in_ok-new.ensures.updates other

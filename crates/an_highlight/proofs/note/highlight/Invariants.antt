@@ -1,6 +1,0 @@
-use Rattle.std.proofs.Common.{drop}
-use Rattle.an_highlight.proofs.MarkLemmas.{HasMarked}
-use Rattle.an_highlight.proofs.note.highlight.Given as goal
-
-abbrev pub invariant-loop-word : goal.invariant-loop-word
-invariant-loop-word l = HasMarked l.note l.source l.terms l.page l.number l.marks.items (drop l.word-index l.word-items)

@@ -1,0 +1,9 @@
+pub mod PieceLemmas
+pub mod ListedLemmas
+pub mod ReadableLemmas
+pub mod PageLemmas
+pub mod WrittenLemmas
+pub mod MarkLemmas
+pub mod PlacedLemmas
+mod PageRows
+mod MarkRows

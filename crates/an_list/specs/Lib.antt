@@ -1,0 +1,7 @@
+pub mod Site
+pub mod Page
+pub mod PageText
+pub mod Marks
+pub mod Placed
+pub mod Listed
+pub mod Cost

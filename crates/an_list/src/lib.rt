@@ -1,0 +1,25 @@
+//! Lists that are served in pages: where the server stands, what a page has, and the annotations on
+//! it with the words that are marked in them.
+//!
+//! ```text
+//! read_site(alloc, "http://a.example", "10")   Ok(site): a page has at most ten items
+//! Paging { page: 2, size: 10, total: 11 }      pages() is 2, start() is 10, and after() is None
+//! highlight(alloc, &note, source, &terms, page, 5)   where the note's text is "A heron." and the
+//!     terms are "heron": Ok of one mark, which has the id page + "#match-5" and quotes "heron"
+//! ```
+#![tactic(auto)]
+
+pub use items::{Listed, Marks, list_items};
+pub use marked::highlight;
+pub use page::{
+    PageForm, Paging, Whole, page_iri, page_of, page_text, push_ignored, push_link_member,
+    push_next, push_prev, push_text_item, push_thing_member,
+};
+pub use site::{Site, SiteError, read_site};
+
+mod items;
+mod listed;
+mod mark;
+mod marked;
+mod page;
+mod site;

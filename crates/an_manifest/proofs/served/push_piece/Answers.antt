@@ -1,6 +1,0 @@
-use Rattle.std.proofs.Common.{rules}
-use Rattle.an_manifest.proofs.PushLemmas.{piece_written, piece-end, piece-past}
-use Rattle.an_manifest.proofs.served.push_piece.Goals as goal
-
-pub returns : goal.returns
-returns c = search (rules, piece_written, piece-end, piece-past)

@@ -1,0 +1,5 @@
+pub mod DateLemmas
+pub mod PairLemmas
+pub mod OtherLemmas
+pub mod LentLemmas
+mod QueryRows

@@ -1,6 +1,0 @@
-use Rattle.std.proofs.Common.{sym, append-nil}
-use Rattle.an_search.proofs.WrittenLemmas.{is_empty-text}
-use Rattle.an_search.proofs.page.push_marks.Goals as goal
-
-pub returns-then-is_empty : goal.returns-then-is_empty
-returns-then-is_empty c = record { text = λ marked marks. rw (is_empty-text marked _ marks, sym c.if-is_empty.ensures) (sym (append-nil c.args.out.items)) }

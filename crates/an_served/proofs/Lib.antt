@@ -1,0 +1,11 @@
+pub mod ManifestTreeLemmas
+pub mod ManifestLaws
+pub mod PieceLemmas
+pub mod SplitLemmas
+pub mod CutLemmas
+pub mod ManifestLemmas
+pub mod SheetLemmas
+pub mod PushLemmas
+pub mod WrittenLemmas
+pub mod NoteLemmas
+pub mod NoteTreeLemmas

@@ -1,0 +1,4 @@
+pub mod Manifest
+pub mod ManifestParts
+pub mod Note
+pub mod NoteParts
