@@ -4,7 +4,7 @@ against those of a served reading room.
 Words: the top of the repository, and the address of the served room, where there is one.
 
 First a library says whether the document is an OpenAPI description. Then its paths, methods,
-parameters, codes and statuses are compared with the tables in crates/an_routes, an_search,
+parameters, codes and statuses are compared with the tables in crates/an_routes, an_query,
 an_complete, an_code and an_http. Then each reply of the cases of `find` and `session` is held
 against what the document says of its method, path and status, and at last the room's replies.
 """
@@ -161,7 +161,7 @@ def constants(text):
 
 def check_tables(document):
     paths = source("an_routes/src/paths.rt")
-    lists = {**constants(paths), **constants(source("an_search/src/query.rt")),
+    lists = {**constants(paths), **constants(source("an_query/src/query.rt")),
              **constants(source("an_complete/src/ask.rt"))}
     kinds = dict(re.findall(r"Kind::(\w+) => Allow::(\w+)", paths))
     due("the kinds of paths", set(kinds), {kind for kind, _, _ in KINDS.values()})

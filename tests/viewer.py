@@ -55,8 +55,8 @@ def fitting(word, manifest, reader=None):
     groups = ["public"] + (readers[(reader,)][1].get("groups", []) if reader else [])
     count = 0
     for (owner, _), (query, tree) in notes.items():
-        group = query.get("group", "public")
-        is_shown = group in groups or (group == "private" and owner == reader)
+        shown_to = query.get("group", "public").split(",")
+        is_shown = owner == reader or any(group in groups for group in shown_to)
         bodies = tree.get("body", [])
         texts = [body["value"] for body in (bodies if isinstance(bodies, list) else [bodies])
                  if isinstance(body, dict) and "value" in body]
@@ -184,7 +184,7 @@ def note(browser, other):
     drawn = browser.run("return document.querySelector('#editor [name=region]').value")
     due("a region was drawn", len([int(part) for part in drawn.split(",")]), 4)
     browser.type("#editor [name=text]", "An osprey over the mole.")
-    browser.type("#editor [name=group]", "viewer-desk")
+    browser.type("#editor [name=group]", "viewer-desk, viewer-hall")
     browser.type("#editor [name=name]", "osprey")
     browser.press("#editor button")
     told(browser, "The note is kept as number 1.")
@@ -218,7 +218,7 @@ def refusals(browser):
     browser.type("#editor [name=version]", "3")
     browser.type("#editor [name=group]", "strangers")
     browser.press("#editor button")
-    told(browser, "You are no member of this group. (403 not_member)")
+    told(browser, "You are no member of this group, or of one of these. (403 not_member)")
 
 
 def refused_readers(browser):

@@ -14,9 +14,9 @@ What it writes
     A line for each manifest, by the operator, and behind them one for each annotation, by its
     owner, in the order of their moments. The moment of an annotation is its `created`, or that of
     --at; that of a manifest is the earliest of all. The owner has to be there when the lines are
-    imported, as a writer or curator, and a member of --group: a line for that is the operator's to
-    write. Each write is the first one of its object; where files have changed, --since takes the
-    lines that were written before, and numbers the writes behind them.
+    imported, as a writer or curator, and a member of each group of --group: a line for that is
+    the operator's to write. Each write is the first one of its object; where files have changed,
+    --since takes the lines that were written before, and numbers the writes behind them.
 
 Names
     An id that is a name of the server (1 to 64 of a-z, 0-9, - and _) is its own name. Any other has
@@ -60,7 +60,7 @@ sys.dont_write_bytecode = True
 
 from to_lines import moments, sources
 from to_lines.converter import Converter
-from to_lines.names import is_name
+from to_lines.names import in_order, is_groups, is_name
 from to_lines.report import Report
 
 BASE = re.compile(r"https?://[A-Za-z0-9._~:/-]*[A-Za-z0-9._~:-]\Z")
@@ -99,8 +99,9 @@ def parser():
     add("files", nargs="+", metavar="FILE", help="a file or a folder")
     add("--owner", type=checked(is_name, "name"), metavar="NAME",
         help="the reader whose annotations they are")
-    add("--group", type=checked(is_name, "group"), default="public",
-        help="whom the annotations are shown to: public, private or a group of the owner's")
+    add("--group", type=checked(is_groups, "list of groups"), default="public", metavar="GROUPS",
+        help="whom the annotations are shown to: public, private, or one to eight groups of the "
+             "owner's with commas between them")
     add("--manifest", metavar="M",
         help="what annotations are put on whose canvas no manifest among the files has, up to the "
              "first of these, and after one that is left out: the name of a manifest that the "
@@ -139,6 +140,7 @@ def main(words):
     """Converts the files that the words name, and gives the status."""
     options = parser().parse_args(words)
     options.at = options.at or moments.now()
+    options.group = in_order(options.group)
     report = Report(options.verbose)
     converter = Converter(options, report)
     number_behind(options.since, converter)

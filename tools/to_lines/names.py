@@ -22,6 +22,19 @@ def is_name(text):
     return bool(NAME.match(text)) and text != "-"
 
 
+def is_groups(text):
+    """The server shows an annotation to these groups: one to eight names with commas between them,
+    where repeats count once, and `public` and `private` stand alone."""
+    groups = set(text.split(","))
+    alone = len(groups) == 1 or not groups & {"public", "private"}
+    return len(groups) <= 8 and alone and all(map(is_name, groups))
+
+
+def in_order(groups):
+    """Groups as an export writes them: each once, ascending."""
+    return ",".join(sorted(set(groups.split(","))))
+
+
 def readable_part(identifier):
     """The last signs of an id as signs of a name, without the scheme of an IRI."""
     lower = identifier.lower()
