@@ -112,7 +112,8 @@ def found_rows(cells):
             owner, key = key_of(row)
             told = (row["version"], row["live"])
             if row["live"]:
-                told = (*told, row["group"], row["tree"].get("bodyValue"))
+                group = row["groups"][0] if tab == 3 else row["group"]
+                told = (*told, group, row["tree"].get("bodyValue"))
             found.setdefault(owner, {})[key] = told
     return found
 
