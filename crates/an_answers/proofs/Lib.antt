@@ -1,1 +1,3 @@
 pub mod UntoldLemmas
+pub mod TargetLemmas
+pub mod FetchLemmas

@@ -1,26 +1,31 @@
 -- No answer depends on to whom else annotations are shown: each is made of annotations without their
 -- inner groups as it is of those with them.
-use Rattle.std.proofs.Common.{◌≡◌, ℕ, ◌+◌, Bool, true, false, List, [], ◌∷◌, ◌++◌, length, map, filter, take, drop, refl, sym, ap, ap₂, ◌∙◌}
-use Rattle.std.specs.Prelude.{flat_map, if◌then◌else◌, Option, Some, None, option_and_then, option_map, ok_or}
+use Rattle.std.proofs.Common.{◌≡◌, ℕ, ◌+◌, Bool, true, false, List, [], ◌∷◌, ◌++◌, length, map, filter, refl, sym, ap, ap₂, ◌∙◌}
+use Rattle.std.specs.Prelude.{flat_map, Option, Some, None, option_and_then, option_map, ok_or}
 use Rattle.std.specs.List.{filter_map}
 use Rattle.std.proofs.lemmas.List.{drop-map, length-map, take-map}
-use Rattle.serde_json.specs.Data.{Data, Items}
+use Rattle.serde_json.specs.Data.{Data}
 use Rattle.serde_json.specs.View.{items_of}
 use Rattle.an_base.specs.declared.span.Prefer.{Prefer}
-use Rattle.an_base.specs.Outcome.{or_refuse}
+use Rattle.an_base.specs.Outcome.{or_refuse, passes}
 use Rattle.an_complete.specs.Ask.{AskRecord}
 use Rattle.an_complete.specs.Complete.{asked_notes, asked_terms, complete_of, filters_of}
 use Rattle.an_pages.specs.Bodies.{annotation_of_view, manifest_of_view, missing_note, note_body}
-use Rattle.an_pages.specs.Canvas.{canvas_in, canvas_page_of, canvas_whole, is_row_about, notes_about, notes_text}
+use Rattle.an_pages.specs.Canvas.{canvas_in, canvas_page_of, canvas_whole, is_row_about, notes_about, presentation_context}
 use Rattle.an_pages.specs.Container.{container_body, container_of, container_page_of, container_whole, iri_item, items_on, notes_on, own_text}
-use Rattle.an_pages.specs.declared.error.PageError.TheVariants.{Absent}
+use Rattle.an_anchor.specs.Comments.{anchors_of, is_lost_in, is_orphaned, live_anchors, live_in, orphans, orphans_of, row_targets, targets_on, texts_in}
 use Rattle.an_routes.specs.Routes.{read_methods}
 use Rattle.an_routes.specs.declared.kinds.Read.{Read}
 use Rattle.an_routes.specs.declared.kinds.Read.TheVariants as read
+use Rattle.an_list.proofs.ListedLemmas.{filter_same}
 use Rattle.an_list.specs.Listed.{listed_note, marks_of, row_marks}
-use Rattle.an_list.specs.Page.{page_of}
+use Rattle.an_list.specs.Notes.{notes_text}
+use Rattle.an_list.specs.Page.{page_iri, page_of}
+use Rattle.an_list.specs.declared.error.ReadError.TheVariants.{Absent}
+use Rattle.an_model.specs.Bodies.{texts_of}
 use Rattle.an_query.specs.Query.{QueryRecord}
-use Rattle.an_search.specs.Search.{found_text, hits, search_of}
+use Rattle.an_iri.specs.Names.{names_in}
+use Rattle.an_search.specs.Search.{found_text, hits, search_of, whole_of}
 use Rattle.an_list.specs.Site.{Site}
 use Rattle.an_search.specs.Wanted.{matches, wanted_of}
 use Rattle.an_list.specs.declared.page.Whole.{Whole}
@@ -28,11 +33,11 @@ use Rattle.an_search.specs.declared.wanted.Wanted.{Wanted}
 use Rattle.an_selectors.specs.declared.region.Xywh.{Xywh}
 use Rattle.an_state.proofs.FormerLemmas.{filter_map-map, viewed-alike}
 use Rattle.an_state.proofs.UntoldLemmas.{blotted-alike, chosen-alike, found-alike, on-alike}
-use Rattle.an_state.specs.Former.{FormerState, former_view_by, widened_state}
+use Rattle.an_state.specs.Former.{former_view_by, widened_state}
 use Rattle.an_state.specs.State.{LiveNote, NoteState}
 use Rattle.an_state.specs.Terms.{terms_of_row}
 use Rattle.an_state.specs.Untold.{blotted, blotted_live, blotted_view}
-use Rattle.an_state.specs.View.{View, is_on, manifest_in, note_in, view_by}
+use Rattle.an_state.specs.View.{View, is_on, note_in, view_by}
 use Rattle.an_answers.specs.Answer.{answer_of, shown_of, shown_reply, unless_nobody, with_iris}
 use Rattle.an_answers.specs.Untold.{AnsweredAlike, GroupsUntold}
 
@@ -88,9 +93,18 @@ all-marks-same base terms page number (row ∷ rows) =
     rw (marks-same base terms page number row)
     (ap (λ marks. row_marks base terms page number row ++ marks) (all-marks-same base terms page (number + length (row_marks base terms page number row)) rows))
 
-all-terms-same : (rows : List NoteState) → flat_map terms_of_row (map blotted rows) ≡ flat_map terms_of_row rows
-all-terms-same [] = refl
-all-terms-same (row ∷ rows) = ap₂ (λ (terms others : List (List ℕ)). terms ++ others) (terms-same row) (all-terms-same rows)
+-- what is made of each of them
+flat-same : {A : Type 0} (made : NoteState → List A) → ((row : NoteState) → made (blotted row) ≡ made row) → (rows : List NoteState) → flat_map made (map blotted rows) ≡ flat_map made rows
+flat-same made same [] = refl
+flat-same {A} made same (row ∷ rows) = ap₂ (λ (one others : List A). one ++ others) (same row) (flat-same made same rows)
+
+-- the page of them that is asked for
+text-same : (site : Site) (context : List ℕ) (whole : Whole) (page : ℕ) (terms ignored : List (List ℕ)) (notes : List NoteState)
+    → notes_text site context whole page terms ignored (map blotted notes) ≡ notes_text site context whole page terms ignored notes
+unfolding notes_text
+text-same site context whole page terms ignored notes =
+    rw (length-map notes blotted, items-same site.base page site.size notes, page-same page site.size notes)
+    (rw (all-marks-same site.base terms (page_iri whole page) 1 (page_of page site.size notes)) refl)
 
 -- those that pass a test, of the annotations on a manifest
 chosen-same : (test : NoteState → Bool) → ((row : NoteState) → test (blotted row) ≡ test row) → (view : View) (manifest : List ℕ)
@@ -104,20 +118,18 @@ hits-same : (view : View) (manifest : List ℕ) (wanted : Wanted) → hits (blot
 unfolding hits
 hits-same view manifest wanted = chosen-same (matches wanted) (matches-same wanted) view manifest
 
-found-same : (site : Site) (manifest : List ℕ) (query : QueryRecord) (found : List NoteState) → found_text site manifest query (map blotted found) ≡ found_text site manifest query found
+found-same : (site : Site) (whole : Whole) (query : QueryRecord) (found : List NoteState) → found_text site whole query (map blotted found) ≡ found_text site whole query found
 unfolding found_text
-found-same site manifest query found =
-    rw (length-map found blotted, items-same site.base query.page site.size found, page-same query.page site.size found)
-    (rw (all-marks-same site.base _ _ 1 (page_of query.page site.size found)) refl)
+found-same site whole query found = text-same site _ whole query.page _ _ found
 
 search-same : (site : Site) (view : View) (manifest : List ℕ) (query : QueryRecord) → search_of site (blotted_view view) manifest query ≡ search_of site view manifest query
 search-same site view manifest query =
-    rw (hits-same view manifest (wanted_of query), found-same site manifest query (hits view manifest (wanted_of query))) refl
+    rw (hits-same view manifest (wanted_of query), found-same site (whole_of site.base manifest query) query (hits view manifest (wanted_of query))) refl
 
 asked-same : (view : View) (manifest : List ℕ) (ask : AskRecord) → asked_terms (blotted_view view) manifest ask ≡ asked_terms view manifest ask
 unfolding asked_terms
 asked-same view manifest ask =
-    rw (chosen-same (matches (filters_of ask)) (matches-same (filters_of ask)) view manifest, all-terms-same (asked_notes view manifest (filters_of ask))) refl
+    rw (chosen-same (matches (filters_of ask)) (matches-same (filters_of ask)) view manifest, flat-same terms_of_row terms-same (asked_notes view manifest (filters_of ask))) refl
 
 complete-same : (site : Site) (view : View) (manifest : List ℕ) (ask : AskRecord) → complete_of site (blotted_view view) manifest ask ≡ complete_of site view manifest ask
 complete-same site view manifest ask = rw (asked-same view manifest ask) refl
@@ -140,19 +152,15 @@ about-all-same : (view : View) (manifest canvas : List ℕ) (region : Option Xyw
 unfolding notes_about
 about-all-same view manifest canvas region = chosen-same (is_row_about canvas region) (about-same canvas region) view manifest
 
-text-same : (site : Site) (whole : Whole) (page : ℕ) (notes : List NoteState) → notes_text site whole page (map blotted notes) ≡ notes_text site whole page notes
-unfolding notes_text
-text-same site whole page notes = rw (length-map notes blotted, items-same site.base page site.size notes) refl
-
 canvas-same : (site : Site) (view : View) (name : List ℕ) (canvas : ℕ) (region : Option Xywh) (page : ℕ) → canvas_page_of site (blotted_view view) name canvas region page ≡ canvas_page_of site view name canvas region page
 unfolding canvas_page_of
 canvas-same site view name canvas region page = by (canvas_in view name canvas)
   where
     by : (found : Option (List ℕ))
-        → or_refuse Absent found (λ id. notes_text site (canvas_whole site.base name canvas region) page (notes_about (blotted_view view) name id region))
-        ≡ or_refuse Absent found (λ id. notes_text site (canvas_whole site.base name canvas region) page (notes_about view name id region))
+        → or_refuse Absent found (λ id. notes_text site presentation_context (canvas_whole site.base name canvas region) page [] [] (notes_about (blotted_view view) name id region))
+        ≡ or_refuse Absent found (λ id. notes_text site presentation_context (canvas_whole site.base name canvas region) page [] [] (notes_about view name id region))
     by None = refl
-    by (Some id) = rw (about-all-same view name id region) (text-same site (canvas_whole site.base name canvas region) page (notes_about view name id region))
+    by (Some id) = rw (about-all-same view name id region) (text-same site presentation_context (canvas_whole site.base name canvas region) page [] [] (notes_about view name id region))
 
 on-all-same : (view : View) (manifest : List ℕ) → notes_on (blotted_view view) manifest ≡ map blotted (notes_on view manifest)
 unfolding notes_on
@@ -179,6 +187,56 @@ unfolding container_page_of
 container-page-same site view name page iris =
     rw (on-all-same view name, own-same site (container_whole site.base name iris) iris page (notes_on view name)) refl
 
+-- ---- comments
+
+targets-same : (row : NoteState) → row_targets (blotted row) ≡ row_targets row
+targets-same row = same-row row_targets row (λ live. refl) refl
+
+targets-on-same : (view : View) (manifest : List ℕ) → targets_on (blotted_view view) manifest ≡ targets_on view manifest
+unfolding targets_on
+targets-on-same view manifest = ap (flat_map row_targets) (on-all-same view manifest) ∙ flat-same row_targets targets-same (notes_on view manifest)
+
+live-in-same : (view : View) (owner name : List ℕ) → live_in (blotted_view view) owner name ≡ option_map blotted_live (live_in view owner name)
+live-in-same view owner name = rw (found-alike view owner name) (by (note_in view owner name))
+  where
+    by : (found : Option NoteState) → option_and_then (λ (row : NoteState). row.live) (option_map blotted found) ≡ option_map blotted_live (option_and_then (λ (row : NoteState). row.live) found)
+    by None = refl
+    by (Some row) = refl
+
+anchors-same : (site : Site) (view : View) (owner name : List ℕ) (page : ℕ) → anchors_of site (blotted_view view) owner name page ≡ anchors_of site view owner name page
+unfolding anchors_of
+anchors-same site view owner name page = rw (live-in-same view owner name) (by (live_in view owner name))
+  where
+    by : (found : Option LiveNote)
+        → or_refuse (missing_note view owner name) (option_map blotted_live found) (live_anchors site (blotted_view view) owner name page)
+        ≡ or_refuse (missing_note view owner name) found (live_anchors site view owner name page)
+    by None = refl
+    by (Some live) = rw (targets-on-same view live.manifest) refl
+
+texts-in-same : (view : View) (names : List ℕ × List ℕ) → texts_in (blotted_view view) names ≡ texts_in view names
+texts-in-same view names = rw (live-in-same view names.0 names.1) (by (live_in view names.0 names.1))
+  where
+    by : (found : Option LiveNote) → option_map (λ (live : LiveNote). texts_of live.tree) (option_map blotted_live found) ≡ option_map (λ (live : LiveNote). texts_of live.tree) found
+    by None = refl
+    by (Some live) = refl
+
+orphaned-same : (site : Site) (view : View) (comment : _) → is_orphaned site (blotted_view view) comment ≡ is_orphaned site view comment
+orphaned-same site view comment = by (names_in site.base comment.target.source)
+  where
+    by : (names : Option (List ℕ × List ℕ))
+        → passes (λ names. is_lost_in (texts_in (blotted_view view) names) comment) names ≡ passes (λ names. is_lost_in (texts_in view names) comment) names
+    by None = refl
+    by (Some names) = ap (λ texts. is_lost_in texts comment) (texts-in-same view names)
+
+orphans-all-same : (site : Site) (view : View) (manifest : List ℕ) → orphans site (blotted_view view) manifest ≡ orphans site view manifest
+orphans-all-same site view manifest =
+    ap (filter (is_orphaned site (blotted_view view))) (targets-on-same view manifest)
+    ∙ filter_same (is_orphaned site (blotted_view view)) (is_orphaned site view) (orphaned-same site view) (targets_on view manifest)
+
+orphans-same : (site : Site) (view : View) (manifest : List ℕ) (page : ℕ) → orphans_of site (blotted_view view) manifest page ≡ orphans_of site view manifest page
+unfolding orphans_of
+orphans-same site view manifest page = rw (orphans-all-same site view manifest) refl
+
 -- ---- the answers
 
 shown-same : (site : Site) (view : View) (prefer : Prefer) (what : Read) → shown_of site (blotted_view view) prefer what ≡ shown_of site view prefer what
@@ -191,6 +249,8 @@ shown-same site view prefer (read.Container manifest iris) = rw (container-same 
 shown-same site view prefer (read.ContainerPage manifest page iris) = rw (container-page-same site view manifest page iris) refl
 shown-same site view prefer read.Changes = refl
 shown-same site view prefer (read.ChangesPage page) = refl
+shown-same site view prefer (read.Anchors owner name page) = rw (anchors-same site view owner name page) refl
+shown-same site view prefer (read.Orphans manifest page) = rw (orphans-same site view manifest page) refl
 
 pub untold : GroupsUntold
 untold site view prefer what =

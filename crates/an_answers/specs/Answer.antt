@@ -21,21 +21,20 @@ use Rattle.an_machine.specs.declared.command.Refused.{Refused}
 use Rattle.an_answers.specs.Refused.{write_refusal}
 use Rattle.an_machine.specs.declared.command.WriteReply.{WriteReply}
 use Rattle.an_base.specs.declared.span.Prefer.{Prefer}
+use Rattle.an_anchor.specs.Comments.{anchors_of, orphans_of}
+use Rattle.an_anchor.specs.Cost.{anchors_cost, orphans_cost}
 use Rattle.an_pages.specs.Bodies.{manifest_of_view, annotation_of_view}
 use Rattle.an_pages.specs.Canvas.{canvas_page_of}
 use Rattle.an_pages.specs.Container.{container_of, container_page_of}
+use Rattle.an_pages.specs.Cost.{canvas_page_cost, container_cost, container_page_cost}
 use Rattle.an_stream.specs.Stream.{changes_of, changes_page_of}
-use Rattle.an_stream.specs.declared.stream.StreamError.{StreamError}
-use Rattle.an_stream.specs.declared.stream.StreamError.TheVariants as stream
-use Rattle.an_pages.specs.declared.error.PageError.{PageError}
-use Rattle.an_pages.specs.declared.error.PageError.TheVariants as page
+use Rattle.an_search.specs.Cost.{search_cost}
 use Rattle.an_search.specs.Search.{search_of}
 use Rattle.an_list.specs.Site.{Site}
-use Rattle.an_search.specs.declared.searching.AskError.{AskError}
-use Rattle.an_search.specs.declared.searching.AskError.TheVariants as ask
+use Rattle.an_list.specs.declared.error.ReadError.{ReadError}
+use Rattle.an_list.specs.declared.error.ReadError.TheVariants as error
 use Rattle.an_complete.specs.Complete.{complete_of}
-use Rattle.an_complete.specs.declared.completion.CompleteError.{CompleteError}
-use Rattle.an_complete.specs.declared.completion.CompleteError.TheVariants as complete
+use Rattle.an_complete.specs.Cost.{complete_cost}
 use Rattle.an_routes.specs.Routes.{read_methods}
 use Rattle.an_answers.specs.declared.answers.Shown.{Shown}
 use Rattle.an_routes.specs.declared.kinds.Read.{Read}
@@ -51,63 +50,68 @@ absent = code.Absent
 
 -- ---- reads
 
--- what is shown, or why it isn't, which a refusal of the crate below tells
-abbrev pub shown : {E : Type 0} → Media → Extra → (E → Code) → Result (List ℕ) E
-    → Result Shown Code
-shown media extra told =
-    result_map_both (λ body. record { media = media; extra = extra; body = body }) told
+-- why nothing is shown; want of memory is told otherwise
+abbrev pub read_refusal : ReadError → Code
+read_refusal error.Absent = absent
+read_refusal error.Gone = code.Gone
+read_refusal (error.NoPage pages) = code.NoPage pages
+read_refusal error.Memory = absent
 
--- why one thing isn't shown; want of memory is told otherwise
-abbrev pub page_refusal : PageError → Code
-page_refusal page.Absent = absent
-page_refusal page.Gone = code.Gone
-page_refusal (page.NoPage pages) = code.NoPage pages
-page_refusal page.Memory = absent
-
--- why a search isn't answered; want of memory is told otherwise
-abbrev pub search_refusal : AskError → Code
-search_refusal ask.NoManifest = absent
-search_refusal (ask.NoPage pages) = code.NoPage pages
-search_refusal ask.Memory = absent
-
--- why a completion isn't answered; want of memory is told otherwise
-abbrev pub complete_refusal : CompleteError → Code
-complete_refusal complete.NoManifest = absent
-complete_refusal complete.Memory = absent
-
--- why a page of the changes isn't shown; want of memory is told otherwise
-abbrev pub stream_refusal : StreamError → Code
-stream_refusal (stream.NoPage pages) = code.NoPage pages
-stream_refusal stream.Memory = absent
+-- what is shown, or why it isn't
+abbrev pub shown_with : Media → Extra → Result (List ℕ) ReadError → Result Shown Code
+shown_with media extra =
+    result_map_both (λ body. record { media = media; extra = extra; body = body }) read_refusal
 
 -- what is asked for in the query counts as if it were preferred
 abbrev pub with_iris : Prefer → Bool → Prefer
 with_iris prefer iris = record { minimal = prefer.minimal; iris = prefer.iris || iris }
 
--- What a view shows of what is read. An annotation is an LDP resource (Web Annotation Protocol,
--- section 3.1), and a container an LDP container (section 4).
-abbrev pub shown_of : Site → View → Prefer → Read → Result Shown Code
-shown_of site view prefer (read.Manifest name) =
-    shown media.Manifest extra.Absent page_refusal (manifest_of_view site view name)
-shown_of site view prefer (read.Note owner name) =
-    shown media.Annotation extra.Resource page_refusal (annotation_of_view site view owner name)
-shown_of site view prefer (read.Search manifest query) =
-    shown media.Search extra.Absent search_refusal (search_of site view manifest query)
-shown_of site view prefer (read.Complete manifest ask) =
-    shown media.Search extra.Absent complete_refusal (complete_of site view manifest ask)
-shown_of site view prefer (read.Canvas manifest canvas region page) =
-    shown media.Manifest extra.Absent page_refusal
+-- what is shown of what is read, or why it isn't, and how many steps that takes
+pub record Reading : Type 0 where
+  pub shown : Result Shown Code
+  pub steps : ℕ
+
+abbrev pub reading : Media → Extra → Result (List ℕ) ReadError → ℕ → Reading
+reading media extra body steps = record { shown = shown_with media extra body; steps = steps }
+
+-- What a view shows of what is read, and in how many steps. An annotation is an LDP resource (Web
+-- Annotation Protocol, section 3.1), and a container an LDP container (section 4). A manifest and
+-- an annotation are found by name, and changes among the activities, at no step.
+abbrev pub reading_of : Site → View → Prefer → Read → Reading
+reading_of site view prefer (read.Manifest name) =
+    reading media.Manifest extra.Absent (manifest_of_view site view name) 0
+reading_of site view prefer (read.Note owner name) =
+    reading media.Annotation extra.Resource (annotation_of_view site view owner name) 0
+reading_of site view prefer (read.Search manifest query) =
+    reading media.Search extra.Absent
+    (search_of site view manifest query) (search_cost site view manifest query)
+reading_of site view prefer (read.Complete manifest ask) =
+    reading media.Search extra.Absent
+    (complete_of site view manifest ask) (complete_cost view manifest ask)
+reading_of site view prefer (read.Canvas manifest canvas region page) =
+    reading media.Manifest extra.Absent
     (canvas_page_of site view manifest canvas region page)
-shown_of site view prefer (read.Container manifest iris) =
-    shown media.Annotation extra.Container page_refusal
+    (canvas_page_cost site view manifest canvas region page)
+reading_of site view prefer (read.Container manifest iris) =
+    reading media.Annotation extra.Container
     (container_of site view manifest (with_iris prefer iris))
-shown_of site view prefer (read.ContainerPage manifest page iris) =
-    shown media.Annotation extra.Absent page_refusal
-    (container_page_of site view manifest page iris)
-shown_of site view prefer read.Changes =
-    Ok (record { media = media.Changes; extra = extra.Absent; body = changes_of site view })
-shown_of site view prefer (read.ChangesPage page) =
-    shown media.Changes extra.Absent stream_refusal (changes_page_of site view page)
+    (container_cost site view manifest (with_iris prefer iris))
+reading_of site view prefer (read.ContainerPage manifest page iris) =
+    reading media.Annotation extra.Absent
+    (container_page_of site view manifest page iris) (container_page_cost site view manifest page)
+reading_of site view prefer read.Changes =
+    reading media.Changes extra.Absent (Ok (changes_of site view)) 0
+reading_of site view prefer (read.ChangesPage page) =
+    reading media.Changes extra.Absent (changes_page_of site view page) 0
+reading_of site view prefer (read.Anchors owner name page) =
+    reading media.Json extra.Absent
+    (anchors_of site view owner name page) (anchors_cost site view owner name page)
+reading_of site view prefer (read.Orphans manifest page) =
+    reading media.Json extra.Absent
+    (orphans_of site view manifest page) (orphans_cost site view manifest page)
+
+abbrev pub shown_of : Site → View → Prefer → Read → Result Shown Code
+shown_of site view prefer read = (reading_of site view prefer read).shown
 
 -- the reply with what is shown, or with why it isn't, at a path with these methods
 abbrev pub shown_reply : Allow → Result Shown Code → Reply

@@ -3,3 +3,4 @@ pub mod Answer
 pub mod Isolation
 pub mod Cost
 pub mod Untold
+pub mod Fetch

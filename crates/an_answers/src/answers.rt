@@ -1,31 +1,31 @@
-ghost use Rattle.std.specs.Prelude.{◌≡◌, ◌+◌, ◌≤◌, ◌<◌, Ok, Err, IfOk, OnOk};
+ghost use Rattle.std.specs.Prelude.{◌≡◌, ◌+◌, ◌≤◌, ℕ, List, Result, IfOk, OnOk};
 ghost use Rattle.std.specs.Prelude.{string_bytes};
-ghost use Rattle.an_stream.specs.Stream.{changes_of};
+ghost use Rattle.an_base.specs.Outcome.{Gives};
+ghost use Rattle.an_list.specs.Cost.{Takes};
 ghost use Rattle.an_policy.specs.Audience.{identity};
 ghost use Rattle.an_state.specs.View.{view_of, view_by};
 ghost use Rattle.an_http.specs.Errors.{refusal_reply};
-ghost use Rattle.an_answers.specs.Answer.{page_refusal, search_refusal, complete_refusal};
-ghost use Rattle.an_answers.specs.Answer.{stream_refusal, with_iris, shown, shown_of, shown_reply};
+ghost use Rattle.an_answers.specs.Answer.{with_iris, shown_of, shown_reply, shown_with};
 ghost use Rattle.an_answers.specs.Answer.{answer_of, query_answer, object_iri, bool_text};
 ghost use Rattle.an_answers.specs.Answer.{write_text, write_body, write_status};
 ghost use Rattle.an_answers.specs.Answer.{write_answer};
 ghost use Rattle.an_answers.specs.Cost.{cost_of, shown_cost};
 
 use crate::refused::write_refusal;
+use an_anchor::{anchors, orphans};
 use an_base::{Bytes, Name, Prefer, Steps};
 use an_code::Code;
-use an_complete::{Ask, CompleteError, complete};
+use an_complete::complete;
 use an_http::{Allow, Extra, Media, Reply, Status, refusal_reply};
 use an_iri::{manifest_iri, note_iri, reader_iri};
-use an_list::Site;
+use an_list::{ReadError, Site};
 use an_machine::{Refused, WriteReply};
-use an_pages::{PageError, annotation, canvas_page, container, container_page, manifest_answer};
+use an_pages::{annotation, canvas_page, container, container_page, manifest_answer};
 use an_policy::{Caller, Who};
-use an_query::Query;
 use an_routes::Read;
-use an_search::{AskError, search};
+use an_search::search;
 use an_state::{Look, Object};
-use an_stream::{StreamError, changes, changes_page};
+use an_stream::{changes, changes_page};
 use std::alloc::{AllocError, Global};
 use std::sync::ledger::Ledger;
 
@@ -138,19 +138,19 @@ fn shown_to<T: Look, L: Ledger>(
     match read {
         Read::Manifest { name } => {
             let body = manifest_answer(alloc, look, who, name, site);
-            page_shown(Media::Manifest, Extra::Absent, body)
+            shown_with(Media::Manifest, Extra::Absent, body)
         }
         Read::Note { owner, name } => {
             let body = annotation(alloc, look, who, owner, name, site);
-            page_shown(Media::Annotation, Extra::Resource, body)
+            shown_with(Media::Annotation, Extra::Resource, body)
         }
         Read::Search { manifest, query } => {
             let body = search(alloc, look, who, manifest, query, site, steps);
-            search_shown(body)
+            shown_with(Media::Search, Extra::Absent, body)
         }
         Read::Complete { manifest, ask } => {
             let body = complete(alloc, look, who, manifest, ask, site, steps);
-            completion_shown(body)
+            shown_with(Media::Search, Extra::Absent, body)
         }
         Read::Canvas {
             manifest,
@@ -161,12 +161,12 @@ fn shown_to<T: Look, L: Ledger>(
             let body = canvas_page(
                 alloc, look, who, manifest, *canvas, *region, *page, site, steps,
             );
-            page_shown(Media::Manifest, Extra::Absent, body)
+            shown_with(Media::Manifest, Extra::Absent, body)
         }
         Read::Container { manifest, iris } => {
             let prefer = with_iris(prefer, *iris);
             let body = container(alloc, look, who, manifest, prefer, site, steps);
-            page_shown(Media::Annotation, Extra::Container, body)
+            shown_with(Media::Annotation, Extra::Container, body)
         }
         Read::ContainerPage {
             manifest,
@@ -174,69 +174,46 @@ fn shown_to<T: Look, L: Ledger>(
             iris,
         } => {
             let body = container_page(alloc, look, who, manifest, *page, *iris, site, steps);
-            page_shown(Media::Annotation, Extra::Absent, body)
+            shown_with(Media::Annotation, Extra::Absent, body)
         }
-        Read::Changes => changes_shown(alloc, look, site, who),
+        Read::Changes => {
+            let body = changes(alloc, look, who, site);
+            shown_with(Media::Changes, Extra::Absent, body)
+        }
         Read::ChangesPage { page } => {
             let body = changes_page(alloc, look, who, *page, site);
-            changes_page_shown(body)
+            shown_with(Media::Changes, Extra::Absent, body)
+        }
+        Read::Anchors { owner, name, page } => {
+            let body = anchors(alloc, look, who, owner, name, *page, site, steps);
+            shown_with(Media::Json, Extra::Absent, body)
+        }
+        Read::Orphans { manifest, page } => {
+            let body = orphans(alloc, look, who, manifest, *page, site, steps);
+            shown_with(Media::Json, Extra::Absent, body)
         }
     }
 }
 
-/// A manifest, an annotation, a container or a page.
-fn page_shown(
+/// What is shown, or why it isn't.
+fn shown_with(
     media: Media,
     extra: Extra,
-    body: Result<Bytes, PageError>,
+    body: Result<Bytes, ReadError>,
 ) -> Result<Result<Shown, Code>, AllocError>
-    ensures shown { IfOk result (λ found. found ≡ shown media extra page_refusal body) }
-    ensures memory { IfOk result (λ _. ¬ (body ≡ Err PageError.Memory)) }
+    ensures shown { (meant : Result (List ℕ) ReadError)
+        → Gives (λ body. body) ReadError.Memory body meant
+        → IfOk result (λ found. found ≡ shown_with media extra meant) }
+    ensures steps { (old new cost : ℕ) → Takes ReadError.Memory body old new cost
+        → OnOk result (new ≡ old + cost) }
 {
     match body {
         Ok(body) => Ok(Ok(Shown { media, extra, body })),
         Err(error) => match error {
-            PageError::Absent => Ok(Err(Code::Absent)),
-            PageError::Gone => Ok(Err(Code::Gone)),
-            PageError::NoPage { pages } => Ok(Err(Code::NoPage { pages })),
-            PageError::Memory => Err(AllocError),
-        },
-    }
-}
-
-fn search_shown(body: Result<Bytes, AskError>) -> Result<Result<Shown, Code>, AllocError>
-    ensures shown { IfOk result (λ found. found
-        ≡ shown Media.Search Extra.Absent search_refusal body) }
-    ensures memory { IfOk result (λ _. ¬ (body ≡ Err AskError.Memory)) }
-{
-    match body {
-        Ok(body) => Ok(Ok(Shown {
-            media: Media::Search,
-            extra: Extra::Absent,
-            body,
-        })),
-        Err(error) => match error {
-            AskError::NoManifest => Ok(Err(Code::Absent)),
-            AskError::NoPage { pages } => Ok(Err(Code::NoPage { pages })),
-            AskError::Memory => Err(AllocError),
-        },
-    }
-}
-
-fn completion_shown(body: Result<Bytes, CompleteError>) -> Result<Result<Shown, Code>, AllocError>
-    ensures shown { IfOk result (λ found. found
-        ≡ shown Media.Search Extra.Absent complete_refusal body) }
-    ensures memory { IfOk result (λ _. ¬ (body ≡ Err CompleteError.Memory)) }
-{
-    match body {
-        Ok(body) => Ok(Ok(Shown {
-            media: Media::Search,
-            extra: Extra::Absent,
-            body,
-        })),
-        Err(error) => match error {
-            CompleteError::NoManifest => Ok(Err(Code::Absent)),
-            CompleteError::Memory => Err(AllocError),
+            ReadError::Absent => Ok(Err(Code::Absent)),
+            ReadError::Gone => Ok(Err(Code::Gone)),
+            ReadError::NoPage { pages } => Ok(Err(Code::NoPage { pages })),
+            ReadError::Memory => Err(AllocError),
         },
     }
 }
@@ -248,44 +225,6 @@ fn with_iris(prefer: Prefer, iris: bool) -> Prefer
     Prefer {
         minimal: prefer.minimal,
         iris: prefer.iris || iris,
-    }
-}
-
-fn changes_shown<T: Look>(
-    alloc: Global,
-    look: &T,
-    site: &Site,
-    who: &Who<'_>,
-) -> Result<Result<Shown, Code>, AllocError>
-    ensures { IfOk result (λ shown. shown ≡ Ok (record {
-      media = Media.Changes;
-      extra = Extra.Absent;
-      body = changes_of site.now (view_of (T.state look.now) (identity who.now));
-    })) }
-{
-    let body = changes(alloc, look, who, site)?;
-    Ok(Ok(Shown {
-        media: Media::Changes,
-        extra: Extra::Absent,
-        body,
-    }))
-}
-
-fn changes_page_shown(body: Result<Bytes, StreamError>) -> Result<Result<Shown, Code>, AllocError>
-    ensures shown { IfOk result (λ found. found
-        ≡ shown Media.Changes Extra.Absent stream_refusal body) }
-    ensures memory { IfOk result (λ _. ¬ (body ≡ Err StreamError.Memory)) }
-{
-    match body {
-        Ok(body) => Ok(Ok(Shown {
-            media: Media::Changes,
-            extra: Extra::Absent,
-            body,
-        })),
-        Err(error) => match error {
-            StreamError::NoPage { pages } => Ok(Err(Code::NoPage { pages })),
-            StreamError::Memory => Err(AllocError),
-        },
     }
 }
 

@@ -17,13 +17,14 @@ use Rattle.an_lines.specs.Find.{Report}
 use Rattle.an_lines.specs.ImportEnds.{Imports}
 use Rattle.an_lines.specs.Status.{Finds, Misunderstands, TellsReport, misunderstood}
 use Rattle.an_lines.specs.Told.{IsTold}
+use Rattle.an_lines.proofs.HarvestLemmas.{Harvests-undamaged}
 use Rattle.an_lines.specs.Trials.{trial_report}
 use Rattle.an_lines.specs.declared.status.Status.{Status}
 use Rattle.an_lines.specs.declared.status.Status.TheVariants as status
 use Rattle.an_list.specs.Site.{Site}
 use Rattle.an_app.specs.declared.form.Form.{Form}
 use Rattle.an_app.specs.declared.form.Form.TheVariants as form
-use Rattle.an_app.specs.AtStore.{ExportsAt}
+use Rattle.an_app.specs.AtStore.{ExportsAt, HarvestsAt}
 use Rattle.an_app.specs.Exact.{IsOfOpened, OpensStore}
 use Rattle.an_app.specs.Outside.{Outside}
 use Rattle.an_app.specs.Runs.{Runs}
@@ -73,12 +74,19 @@ module _ (outside : Outside) (door : DoorEnd) (clock : ℤ → Bool) (old new : 
       ⊎_elim (λ opened. absurd (tells-undamaged (export_report opened.state by) outside.write_failed old.traffic new.traffic tab key (export_told-is outside door clock old new (view_named opened.state by)) opened.tells))
       (λ refused. found-damaged tab key refused) run
 
+  harvest-damaged : (site : Site) (by : List ℕ) (tab key : ℕ) → HarvestsAt outside site by old.traffic new.traffic (status.Damaged tab key) → state_of found ≡ Err (record { tab = tab; key = key })
+  unfolding HarvestsAt
+  harvest-damaged site by tab key run =
+      ⊎_elim (λ opened. absurd (Harvests-undamaged site opened.state by outside.write_failed old.traffic new.traffic tab key opened.harvests))
+      (λ refused. found-damaged tab key refused) run
+
   -- a run that reports damage had these cells, which stand for no state, and that one is the first
   -- damaged one
   pub damage-is-exact : (form : Form) (tab key : ℕ) → Runs outside door clock old new (status.Damaged tab key) form → state_of found ≡ Err (record { tab = tab; key = key })
   damage-is-exact (form.Find site) tab key run = absurd (find-undamaged site tab key run.1)
   damage-is-exact form.Import tab key run = ⊎_elim (λ opened. absurd (import-undamaged opened.before opened.behind tab key opened.imports)) (λ refused. found-damaged tab key refused) run
   damage-is-exact (form.Export by) tab key run = export-damaged by tab key run
+  damage-is-exact (form.Harvest site by) tab key run = harvest-damaged site by tab key run
   damage-is-exact (form.Session site) tab key run = ⊎_elim (λ opened. absurd (ended-undamaged opened.ended tab key opened.is)) (λ refused. found-damaged tab key refused) run
   damage-is-exact (form.Serve serving) tab key run = ⊎_elim (λ opened. absurd (serve-undamaged serving.port serving.connections tab key opened.ends)) (λ refused. found-damaged tab key refused) run
   damage-is-exact (form.Trial count seed) tab key run =
@@ -106,11 +114,16 @@ module _ (outside : Outside) (door : DoorEnd) (clock : ℤ → Bool) (old new : 
   unfolding ExportsAt
   export-stands by end of run = ⊎_elim (λ opened. (opened.state, found-for opened.state opened.opens)) (λ refused. absurd (never-unopened end of refused)) run
 
+  harvest-stands : (site : Site) (by : List ℕ) (end : Status) → IsOfOpened end → HarvestsAt outside site by old.traffic new.traffic end → (s : State) × (state_of found ≡ Ok s)
+  unfolding HarvestsAt
+  harvest-stands site by end of run = ⊎_elim (λ opened. (opened.state, found-for opened.state opened.opens)) (λ refused. absurd (never-unopened end of refused)) run
+
   -- a run that ends so at a store had cells that stand for a state
   pub opening-is-exact : (form : Form) (end : Status) → OpensStore form → IsOfOpened end → Runs outside door clock old new end form → (s : State) × (state_of found ≡ Ok s)
   opening-is-exact (form.Find site) end opens of run = absurd opens
   opening-is-exact form.Import end opens of run = ⊎_elim (λ opened. (opened.before, found-for opened.before opened.opens)) (λ refused. absurd (never-unopened end of refused)) run
   opening-is-exact (form.Export by) end opens of run = export-stands by end of run
+  opening-is-exact (form.Harvest site by) end opens of run = harvest-stands site by end of run
   opening-is-exact (form.Session site) end opens of run = ⊎_elim (λ opened. (opened.state, found-for opened.state opened.opens)) (λ refused. absurd (never-unopened end of refused)) run
   opening-is-exact (form.Serve serving) end opens of run = ⊎_elim (λ opened. (opened.state, found-for opened.state opened.opens)) (λ refused. absurd (never-unopened end of refused)) run
   opening-is-exact (form.Trial count seed) end opens of run = absurd opens

@@ -7,7 +7,7 @@ use Rattle.an_base.specs.Decimal.{decimal_of, is_decimal}
 use Rattle.an_base.specs.Outcome.{only_if}
 use Rattle.an_list.specs.Site.{Site, site_of}
 use Rattle.std.specs.Result.{result_ok}
-use Rattle.an_app.specs.Form.{connections_of, IsServed, port_of, workers_of, export_form, find_form, form_named, form_of, from_one, import_form, serve_form, serving_at, serving_in, serving_of, session_form, site_in, trial_form, trial_of, trial_seed, trial_size}
+use Rattle.an_app.specs.Form.{connections_of, IsServed, port_of, workers_of, export_form, find_form, form_named, form_of, from_one, harvest_form, import_form, serve_form, serving_at, serving_in, serving_of, session_form, site_in, trial_form, trial_of, trial_seed, trial_size}
 use Rattle.an_app.specs.declared.form.Form.{Form}
 use Rattle.an_app.specs.declared.form.Form.TheVariants as form
 
@@ -82,6 +82,17 @@ served-export [] = tt
 served-export (by ∷ []) = tt
 served-export (by ∷ word ∷ words) = tt
 
+served-site : (by : List ℕ) (site : Option Site) → IfSome (option_map (λ site. form.Harvest site by) site) IsServed
+served-site by None = tt
+served-site by (Some site) = tt
+
+served-harvest : (words : List (List ℕ)) → IfSome (harvest_form words) IsServed
+served-harvest [] = tt
+served-harvest (base ∷ []) = tt
+served-harvest (base ∷ size ∷ []) = tt
+served-harvest (base ∷ size ∷ by ∷ []) = served-site by (result_ok (site_of base size))
+served-harvest (base ∷ size ∷ by ∷ word ∷ words) = tt
+
 served-seed : (count : ℕ) (seed : Option ℕ) → IfSome (option_map (form.Trial count) seed) IsServed
 served-seed count None = tt
 served-seed count (Some seed) = tt
@@ -106,9 +117,10 @@ served-named name words =
     if-served (bytes_eq name (codes "find")) _ _ (served-find (site_in words))
     (if-served (bytes_eq name (codes "import")) _ _ (served-import words)
     (if-served (bytes_eq name (codes "export")) _ _ (served-export words)
+    (if-served (bytes_eq name (codes "harvest")) _ _ (served-harvest words)
     (if-served (bytes_eq name (codes "session")) _ _ (served-session (site_in words))
     (if-served (bytes_eq name (codes "serve")) _ _ (served-serve words)
-    (if-served (bytes_eq name (codes "trial")) _ _ (served-trial words) tt)))))
+    (if-served (bytes_eq name (codes "trial")) _ _ (served-trial words) tt))))))
 
 pub served : (words : List (List ℕ)) → IfSome (form_of words) IsServed
 served [] = tt

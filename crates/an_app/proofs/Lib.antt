@@ -3,3 +3,4 @@ pub mod RunLemmas
 pub mod ServeLemmas
 pub mod Exact
 pub mod Isolation
+pub mod HarvestLemmas

@@ -17,7 +17,7 @@ use Rattle.an_session.specs.declared.ended.Ended.{Ended}
 use Rattle.an_session.specs.declared.ended.Ended.TheVariants as ended
 use Rattle.an_lines.specs.ImportEnds.{Imports}
 use Rattle.an_app.specs.Unopened.{IsCause, LeavesCells, Unopened, UnopenedAt, unopened_text}
-use Rattle.an_app.specs.AtStore.{ExportsAt}
+use Rattle.an_app.specs.AtStore.{ExportsAt, HarvestsAt}
 use Rattle.an_lines.specs.Export.{export_report, export_told, view_named}
 use Rattle.an_app.specs.SessionEnds.{ended_status}
 use Rattle.an_app.specs.Serving.{DoorEnd, ServesTo}
@@ -30,6 +30,7 @@ use Rattle.an_app.specs.declared.form.Form.TheVariants as form
 use Rattle.an_lines.specs.Trials.{trial_report}
 use Rattle.an_lines.specs.declared.status.Status.{Status}
 use Rattle.an_lines.specs.declared.status.Status.TheVariants as status
+use Rattle.an_lines.proofs.HarvestLemmas.{Harvests-kept, Harvests-shut, Harvests-unfailing}
 use Rattle.an_lines.proofs.StatusLemmas.{Finds-no_memory, TellsReport-kept, TellsReport-nothing, TellsReport-shut, TellsReport-unfailing, exchange, exchange-read, prints-unread, reads_little-nothing, reads-nothing}
 
 -- ---- a store that isn't opened
@@ -179,12 +180,13 @@ unopened-nothing outside traffic same = (inl (stays-same outside.before outside.
 -- memory ran out before the form was read
 pub Runs-nothing_read : (outside : Outside) (door : DoorEnd) (clock : ℤ → Bool) (now : Line) (form : Option Form) → outside.after ≡ outside.before
     → IfSome form (Runs outside door clock now now status.Memory)
-unfolding ExportsAt
+unfolding ExportsAt HarvestsAt
 Runs-nothing_read outside door clock now None same = tt
 Runs-nothing_read outside door clock now (Some (form.Find site)) same =
     (same, Finds-no_memory site outside.read_failed outside.write_failed now.traffic now.traffic ([], reads-nothing now.traffic, omega arith))
 Runs-nothing_read outside door clock now (Some form.Import) same = inr (unopened-nothing outside now.traffic same)
 Runs-nothing_read outside door clock now (Some (form.Export by)) same = inr (unopened-nothing outside now.traffic same)
+Runs-nothing_read outside door clock now (Some (form.Harvest site by)) same = inr (unopened-nothing outside now.traffic same)
 Runs-nothing_read outside door clock now (Some (form.Session site)) same = inr (unopened-nothing outside now.traffic same)
 Runs-nothing_read outside door clock now (Some (form.Serve serving)) same = inr (unopened-nothing outside now.traffic same)
 Runs-nothing_read outside door clock now (Some (form.Trial count seed)) same =
@@ -204,6 +206,7 @@ ReadsInput-nothing_read traffic None = tt
 ReadsInput-nothing_read traffic (Some (form.Find site)) = reads_little-nothing traffic
 ReadsInput-nothing_read traffic (Some form.Import) = reads_little-nothing traffic
 ReadsInput-nothing_read traffic (Some (form.Export by)) = reads_little-nothing traffic
+ReadsInput-nothing_read traffic (Some (form.Harvest site by)) = reads_little-nothing traffic
 ReadsInput-nothing_read traffic (Some (form.Session site)) = little_requests traffic traffic (reads_little-nothing traffic)
 ReadsInput-nothing_read traffic (Some (form.Serve serving)) = reads_little-nothing traffic
 ReadsInput-nothing_read traffic (Some (form.Trial count seed)) = reads_little-nothing traffic
@@ -264,6 +267,18 @@ module _ (outside : Outside) (door : DoorEnd) (clock : ℤ → Bool) (old new : 
       ⊎_elim (λ opened. TellsReport-kept (export_report opened.state by) outside.write_failed old.traffic new.traffic (export_told-is (view_named opened.state by)) opened.tells)
       (λ whole. unopened_kept (IsCause outside) outside.write_failed old.traffic new.traffic kept whole.1) run
 
+  harvest_unfailing : (site : Site) (by : List ℕ) (end : Status) → ¬ outside.write_failed → HarvestsAt outside site by old.traffic new.traffic end → IsUnfailing end
+  unfolding HarvestsAt
+  harvest_unfailing site by end written run =
+      ⊎_elim (λ opened. Harvests-unfailing site opened.state by outside.write_failed old.traffic new.traffic end written opened.harvests)
+      (λ whole. unopened_unfailing (IsCause outside) outside.write_failed old.traffic new.traffic end written whole.1) run
+
+  harvest_kept : (site : Site) (by : List ℕ) → ¬ outside.keeper_can_fail → HarvestsAt outside site by old.traffic new.traffic status.KeeperFailed → ⊥
+  unfolding HarvestsAt
+  harvest_kept site by kept run =
+      ⊎_elim (λ opened. Harvests-kept site opened.state by outside.write_failed old.traffic new.traffic opened.harvests)
+      (λ whole. unopened_kept (IsCause outside) outside.write_failed old.traffic new.traffic kept whole.1) run
+
   serve_unfailing : (port most : ℕ) (end : Status) → ¬ outside.write_failed → ServesTo door outside.write_failed port most old.traffic new.traffic end → IsUnfailing end
   unfolding ServesTo
   serve_unfailing port most status.WriteFault written run = absurd (written run.0)
@@ -282,6 +297,7 @@ module _ (outside : Outside) (door : DoorEnd) (clock : ℤ → Bool) (old new : 
   run_unfailing end form.Import reads writes read written run =
       ⊎_elim (λ opened. import_unfailing opened.before opened.behind end read written opened.imports) (λ whole. unopened_unfailing (IsCause outside) outside.write_failed old.traffic new.traffic end written whole.1) run
   run_unfailing end (form.Export by) reads writes read written run = export_unfailing by end written run
+  run_unfailing end (form.Harvest site by) reads writes read written run = harvest_unfailing site by end written run
   run_unfailing end (form.Trial count seed) reads writes read written run = TellsReport-unfailing (trial_report (record { count = count; seed = seed })) outside.write_failed old.traffic new.traffic end tt written run.1
   run_unfailing end (form.Serve serving) reads writes read written run =
       ⊎_elim (λ opened. serve_unfailing serving.port serving.connections end written opened.ends) (λ whole. unopened_unfailing (IsCause outside) outside.write_failed old.traffic new.traffic end written whole.1) run
@@ -314,6 +330,7 @@ module _ (outside : Outside) (door : DoorEnd) (clock : ℤ → Bool) (old new : 
   run_kept form.Import kept run =
       ⊎_elim (λ opened. import_kept opened.before opened.behind kept opened.imports) (λ whole. unopened_kept (IsCause outside) outside.write_failed old.traffic new.traffic kept whole.1) run
   run_kept (form.Export by) kept run = export_kept by kept run
+  run_kept (form.Harvest site by) kept run = harvest_kept site by kept run
   run_kept (form.Trial count seed) kept run = TellsReport-kept (trial_report (record { count = count; seed = seed })) outside.write_failed old.traffic new.traffic tt run.1
   run_kept (form.Serve serving) kept run =
       ⊎_elim (λ opened. serve_kept serving.port serving.connections opened.ends) (λ whole. unopened_kept (IsCause outside) outside.write_failed old.traffic new.traffic kept whole.1) run
@@ -357,6 +374,11 @@ module _ (outside : Outside) (door : DoorEnd) (clock : ℤ → Bool) (old new : 
   export_shut by run =
       ⊎_elim (λ opened. TellsReport-shut (export_report opened.state by) outside.write_failed old.traffic new.traffic (export_told-is (view_named opened.state by)) opened.tells) unopened_shut run
 
+  harvest_shut : (site : Site) (by : List ℕ) → HarvestsAt outside site by old.traffic new.traffic status.DoorFailed → ⊥
+  unfolding HarvestsAt
+  harvest_shut site by run =
+      ⊎_elim (λ opened. Harvests-shut site opened.state by outside.write_failed old.traffic new.traffic opened.harvests) unopened_shut run
+
   serve_shut : (port most : ℕ) → door.faults ≡ 0 → ServesTo door outside.write_failed port most old.traffic new.traffic status.DoorFailed → ⊥
   unfolding ServesTo
   serve_shut port most none run = let some : 0 < door.faults = run.0 in omega (arith, none, some)
@@ -365,6 +387,7 @@ module _ (outside : Outside) (door : DoorEnd) (clock : ℤ → Bool) (old new : 
   run_shut (form.Find site) none run = find_shut site run.1
   run_shut form.Import none run = ⊎_elim (λ opened. import_shut opened.before opened.behind opened.imports) unopened_shut run
   run_shut (form.Export by) none run = export_shut by run
+  run_shut (form.Harvest site by) none run = harvest_shut site by run
   run_shut (form.Trial count seed) none run = TellsReport-shut (trial_report (record { count = count; seed = seed })) outside.write_failed old.traffic new.traffic tt run.1
   run_shut (form.Session site) none run = ⊎_elim (λ opened. ended_shut opened.ended opened.is) unopened_shut run
   run_shut (form.Serve serving) none run = ⊎_elim (λ opened. serve_shut serving.port serving.connections none opened.ends) unopened_shut run

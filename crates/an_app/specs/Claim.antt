@@ -37,7 +37,7 @@ use Rattle.an_state.specs.State.{empty}
 -- 1. A run
 pub use Rattle.an_app.specs.Runs.{Runs, ReadsInput}
 pub use Rattle.an_app.specs.Outside.{Outside, WasLeft}
-pub use Rattle.an_app.specs.AtStore.{ImportsOpened, ExportsOpened}
+pub use Rattle.an_app.specs.AtStore.{ImportsOpened, ExportsOpened, HarvestsOpened}
 pub use Rattle.an_app.specs.SessionEnds.{SessionOpened}
 pub use Rattle.an_app.specs.Serving.{DoorEnd, ServesOpened}
 pub use Rattle.an_app.specs.Unopened.{UnopenedAt}

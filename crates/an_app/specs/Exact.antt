@@ -11,6 +11,7 @@ abbrev pub OpensStore : Form → Type 0
 OpensStore (form.Find site) = ⊥
 OpensStore form.Import = ⊤
 OpensStore (form.Export by) = ⊤
+OpensStore (form.Harvest site by) = ⊤
 OpensStore (form.Session site) = ⊤
 OpensStore (form.Serve serving) = ⊤
 OpensStore (form.Trial count seed) = ⊥

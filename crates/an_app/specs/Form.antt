@@ -30,6 +30,12 @@ abbrev pub export_form : List (List ℕ) → Option Form
 export_form (by ∷ []) = Some (form.Export by)
 export_form _ = None
 
+-- where the server stands, and who reads
+abbrev pub harvest_form : List (List ℕ) → Option Form
+harvest_form (base ∷ size ∷ by ∷ []) =
+    option_map (λ site. form.Harvest site by) (result_ok (site_of base size))
+harvest_form _ = None
+
 -- a number from 1 to this one
 abbrev pub from_one : ℕ → List ℕ → Option ℕ
 from_one most word = option_and_then (only_if (nat_lt 0)) (decimal_of most word)
@@ -90,9 +96,10 @@ form_named name words =
     if bytes_eq name (codes "find") then find_form words
     else (if bytes_eq name (codes "import") then import_form words
     else (if bytes_eq name (codes "export") then export_form words
+    else (if bytes_eq name (codes "harvest") then harvest_form words
     else (if bytes_eq name (codes "session") then session_form words
     else (if bytes_eq name (codes "serve") then serve_form words
-    else (if bytes_eq name (codes "trial") then trial_form words else None)))))
+    else (if bytes_eq name (codes "trial") then trial_form words else None))))))
 
 -- the form of words, the first of which names the store, and isn't empty
 abbrev pub form_of : List (List ℕ) → Option Form
@@ -109,5 +116,6 @@ IsServed (form.Serve serving) =
 IsServed (form.Find site) = ⊤
 IsServed form.Import = ⊤
 IsServed (form.Export by) = ⊤
+IsServed (form.Harvest site by) = ⊤
 IsServed (form.Session site) = ⊤
 IsServed (form.Trial count seed) = ⊤

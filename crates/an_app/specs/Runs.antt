@@ -5,7 +5,7 @@ use Rattle.an_world.specs.Link.{Traffic}
 use Rattle.an_lines.specs.Status.{Finds, ReadsLittle, TellsReport}
 use Rattle.an_lines.specs.Trials.{trial_report}
 use Rattle.an_lines.specs.declared.status.Status.{Status}
-use Rattle.an_app.specs.AtStore.{ExportsAt, ImportsAt}
+use Rattle.an_app.specs.AtStore.{ExportsAt, HarvestsAt, ImportsAt}
 use Rattle.an_app.specs.Outside.{Outside}
 use Rattle.an_app.specs.Serving.{DoorEnd, ServesAt}
 use Rattle.an_app.specs.SessionEnds.{SessionAt}
@@ -22,6 +22,8 @@ Runs outside door clock old new status form.Import =
     ImportsAt outside old.traffic new.traffic status
 Runs outside door clock old new status (form.Export by) =
     ExportsAt outside by old.traffic new.traffic status
+Runs outside door clock old new status (form.Harvest site by) =
+    HarvestsAt outside site by old.traffic new.traffic status
 Runs outside door clock old new status (form.Session site) =
     SessionAt outside clock site old new status
 Runs outside door clock old new status (form.Serve serving) =
@@ -32,11 +34,12 @@ Runs outside door clock old new status (form.Trial count seed) =
     old.traffic new.traffic status
 
 -- little more is read than an input may have, and of a connection no more than 1,000 requests may
--- have; an export, a trial and a server read nothing
+-- have; an export, a harvest, a trial and a server read nothing
 abbrev pub ReadsInput : Option Traffic → Option Traffic → Form → Type 0
 ReadsInput old new (form.Find site) = ReadsLittle old new
 ReadsInput old new form.Import = ReadsLittle old new
 ReadsInput old new (form.Export by) = ReadsLittle old new
+ReadsInput old new (form.Harvest site by) = ReadsLittle old new
 ReadsInput old new (form.Session site) = ReadsRequests old new
 ReadsInput old new (form.Serve serving) = ReadsLittle old new
 ReadsInput old new (form.Trial count seed) = ReadsLittle old new

@@ -2,7 +2,8 @@ ghost use Rattle.std.specs.Prelude.{◌≡◌, ◌≤◌, IfOk, IfSome, map, str
 ghost use Rattle.std.specs.Result.{result_ok};
 ghost use Rattle.an_list.specs.Site.{site_of};
 ghost use Rattle.an_app.specs.Form.{connections_of, export_form, find_form, form_named, form_of};
-ghost use Rattle.an_app.specs.Form.{from_one, import_form, port_of, serve_form, serving_at};
+ghost use Rattle.an_app.specs.Form.{from_one, harvest_form, import_form, port_of, serve_form};
+ghost use Rattle.an_app.specs.Form.{serving_at};
 ghost use Rattle.an_app.specs.Form.{serving_in, serving_of, session_form, site_in, trial_form};
 ghost use Rattle.an_app.specs.Form.{trial_of, trial_seed, trial_size, workers_of, IsServed};
 
@@ -19,6 +20,8 @@ pub enum Form {
     Import,
     /// What the reader of a name sees of the store is printed, as lines.
     Export(Text),
+    /// What lives after the changes that the reader of a name sees of the store is printed.
+    Harvest { settings: Site, by: Text },
     /// One connection is served at the store.
     Session(Site),
     /// The connections that come in at a port are served at the store.
@@ -70,6 +73,7 @@ fn form_named(alloc: Global, name: &str, words: &[String]) -> Result<Option<Form
         "find" => find_form(alloc, words),
         "import" => Ok(import_form(words)),
         "export" => export_form(alloc, words),
+        "harvest" => harvest_form(alloc, words),
         "session" => session_form(alloc, words),
         "serve" => serve_form(alloc, words),
         "trial" => Ok(trial_form(words)),
@@ -227,6 +231,21 @@ fn export_form(alloc: Global, words: &[String]) -> Result<Option<Form>, AllocErr
 {
     match words {
         [by] => Ok(Some(Form::Export(Text::new(alloc, by.as_str())?))),
+        _ => Ok(None),
+    }
+}
+
+fn harvest_form(alloc: Global, words: &[String]) -> Result<Option<Form>, AllocError>
+    ensures { IfOk result (λ form. form ≡ harvest_form (map string_bytes words.now)) }
+{
+    match words {
+        [base, size, by] => match site_of(alloc, base.as_str(), size.as_str())? {
+            Some(settings) => {
+                let by = Text::new(alloc, by.as_str())?;
+                Ok(Some(Form::Harvest { settings, by }))
+            }
+            None => Ok(None),
+        },
         _ => Ok(None),
     }
 }

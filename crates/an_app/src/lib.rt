@@ -10,12 +10,12 @@
 
 pub use an_answers::{answer, query_answer, refusal_reply, write_answer};
 pub use an_door::{Accepted, Door, DoorFault, Finished, MemDoor, SureDoor, Tally};
-pub use an_lines::{Status, export, find, import, trial};
+pub use an_lines::{Status, export, find, harvest, harvest_look, import, trial};
 pub use an_routes::{Read, Route, RouteError, WriteRoute, command_of, route};
 pub use an_seats::{AtStores, session};
 pub use an_serve::session_at_desk;
 pub use form::{Form, Serving, form_of};
-pub use laws::equal_views_are_answered_alike;
+pub use laws::{equal_views_are_answered_alike, harvests_are_views};
 pub use memory::run_in_memory;
 pub use program::run;
 pub use ran::Ran;

@@ -9,7 +9,7 @@ ghost use Rattle.an_app.specs.Claim.{ReadsInput, Runs};
 use crate::form::{Form, form_of};
 use crate::ran::Ran;
 use crate::serving::serve_at;
-use crate::stored::{export_at, import_at, session_at};
+use crate::stored::{export_at, harvest_at, import_at, session_at};
 use an_door::Door;
 use an_keep::Keeper;
 use an_lines::{Status, find, tell_report, trial};
@@ -24,7 +24,8 @@ use std::thread::Threads;
 /// what the reader of a name sees of it; with the base of all IRIs and how many items a page has,
 /// `find`, which plays lines over a state of its own, or `session`, which serves one connection
 /// over the link, or, with a port, how many are served at once and how many in all, `serve`, which
-/// serves the connections that come in at the door; or, with how many annotations and a seed,
+/// serves the connections that come in at the door, or, with the name of a reader, `harvest`, which
+/// prints what lives after the changes that it sees; or, with how many annotations and a seed,
 /// `trial`, which plays a generated input. The run ends as misunderstood for other words, where
 /// nothing is read. The door may not be bound yet. The keeper is given back, as the run left it.
 pub fn run<
@@ -156,6 +157,9 @@ fn run_form<
         },
         Form::Import => import_at(alloc, link, keeper),
         Form::Export(by) => export_at(alloc, link, keeper, by.as_str()),
+        Form::Harvest { settings, by } => {
+            harvest_at(alloc, link, keeper, &settings, by.as_str())
+        }
         Form::Session(settings) => session_at(alloc, link, keeper, &settings, clock),
         Form::Serve(serving) => serve_at(rt, alloc, keeper, link, &serving, door, clock),
         Form::Trial { count, seed } => Ran {

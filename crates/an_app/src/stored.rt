@@ -7,7 +7,7 @@ ghost use Rattle.an_laws.specs.Events.{Event, IsLegal, Keeps, state_at, told_at}
 ghost use Rattle.an_serve.specs.Events.{opened};
 ghost use Rattle.an_session.specs.Session.{ReadsRequests, line};
 ghost use Rattle.an_session.specs.Trail.{Known};
-ghost use Rattle.an_app.specs.AtStore.{ExportsAt, ImportsAt};
+ghost use Rattle.an_app.specs.AtStore.{ExportsAt, HarvestsAt, ImportsAt};
 ghost use Rattle.an_app.specs.Outside.{WasLeft, outside_of};
 ghost use Rattle.an_lines.specs.ImportEnds.{Imports};
 ghost use Rattle.an_app.specs.Unopened.{Unopened, damage_text};
@@ -16,7 +16,7 @@ ghost use Rattle.an_lines.specs.Status.{ReadsLittle};
 
 use crate::ran::Ran;
 use an_keep::Keeper;
-use an_lines::{Status, export, import, tell};
+use an_lines::{Status, export, harvest, import, tell};
 use an_list::Site;
 use an_serve::session_at_desk;
 use an_session::Ended;
@@ -77,6 +77,33 @@ pub(crate) fn export_at<L: Link, K: Keeper>(
     match Desk::open(alloc, keeper) {
         Ok(desk) => {
             let status = export(alloc, link, &desk, by);
+            let keeper = desk.into_keeper();
+            Ran { status, keeper }
+        }
+        Err(refused) => not_opened(alloc, link, refused),
+    }
+}
+
+/// Prints what lives after the changes that a reader sees of the store of a keeper.
+pub(crate) fn harvest_at<L: Link, K: Keeper>(
+    alloc: Global,
+    link: &mut L,
+    keeper: K,
+    settings: &Site,
+    by: &str,
+) -> Ran<K>
+    ensures harvests { HarvestsAt
+        (outside_of (K.told keeper) (K.told result.keeper) (¬ (IsTrue K.is_sure))
+        (Rises (L.read_faults link.old) (L.read_faults link.new))
+        (Rises (L.write_faults link.old) (L.write_faults link.new)))
+        settings.now by.now (L.traffic link.old) (L.traffic link.new) result.status }
+    ensures bounded { ReadsLittle (L.traffic link.old) (L.traffic link.new) }
+    ensures never { K.may_begin ≡ false → IsSome (K.told result.keeper)
+        → IsSome (K.told keeper) }
+{
+    match Desk::open(alloc, keeper) {
+        Ok(desk) => {
+            let status = harvest(alloc, link, &desk, settings, by);
             let keeper = desk.into_keeper();
             Ran { status, keeper }
         }

@@ -2,6 +2,8 @@ pub mod TreeLemmas
 pub mod TreeTexts
 pub mod ValueLemmas
 pub mod CharLemmas
+pub mod FrontLemmas
+pub mod NameLemmas
 pub mod ObjectLemmas
 pub mod ItemLemmas
 pub mod WriteLemmas

@@ -1,5 +1,6 @@
 pub mod Outcome
 pub mod Name
+pub mod Front
 pub mod Decimal
 pub mod Member
 pub mod Tree

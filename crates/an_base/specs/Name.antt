@@ -4,7 +4,7 @@ use Rattle.std.specs.Prelude.{nat_lt, nat_le, option_map, is_none, Result, bytes
 use Rattle.std.specs.Prelude.{Option, Some}
 use Rattle.an_base.specs.declared.name.NameError.{NameError}
 use Rattle.an_base.specs.declared.name.NameError.TheVariants.{Empty, Long, Sign}
-use Rattle.an_base.specs.Outcome.{when, first_of, unless}
+use Rattle.an_base.specs.Outcome.{when, first_of, only_if, unless}
 
 -- a sign of a name: a to z, 0 to 9, `-` or `_`
 abbrev pub is_name_sign : ℕ → Bool
@@ -31,3 +31,7 @@ is_name text = is_none (first_of (name_refusals text))
 -- the name that a text is, or the first refusal
 abbrev pub name_of : List ℕ → Result (List ℕ) NameError
 name_of text = unless (first_of (name_refusals text)) text
+
+-- the name that a text is, where it is one
+abbrev pub name_in : List ℕ → Option (List ℕ)
+name_in text = only_if is_name text

@@ -12,6 +12,7 @@ pub use bytes::Bytes;
 pub use chars::char_count;
 pub use copy::{TryCopy, copy_both};
 pub use decimal::read_decimal;
+pub use front::after_front;
 pub use kept::KeptTree;
 pub use list::List;
 pub use member::{has_item, has_type, member_count, text_in, trees_in};
@@ -19,7 +20,7 @@ pub use moment::{
     Moment, MomentError, moment_of, moment_text, moment_texts_are_ascii, moment_texts_are_unique,
     moments_are_told, moments_read_back,
 };
-pub use name::{Name, NameError};
+pub use name::{Name, NameError, name_in};
 pub use object::{with_member, without_member};
 pub use shared::Shared;
 pub use span::{Prefer, Span, TermTotal};
@@ -44,6 +45,7 @@ mod bytes;
 mod chars;
 mod copy;
 mod decimal;
+mod front;
 mod kept;
 mod list;
 mod member;

@@ -1,6 +1,6 @@
 ghost use Rattle.std.specs.Prelude.{◌≡◌, IfOk, IsTrue, not, position};
 ghost use Rattle.an_base.specs.Outcome.{Gives, first_of};
-ghost use Rattle.an_base.specs.Name.{is_name_sign, name_refusals};
+ghost use Rattle.an_base.specs.Name.{is_name_sign, name_in, name_refusals};
 
 use crate::copy::TryCopy;
 use crate::shared::Shared;
@@ -90,6 +90,20 @@ impl Eq for Name {
     ghost use Rattle.std.specs.Cmp.Lexicographic.{nat_list_eq_equiv};
 
     ghost laws = { nat_list_eq_equiv };
+}
+
+/// The name that a text is, where it is one.
+pub fn name_in(alloc: Global, text: &str) -> Result<Option<Name>, AllocError>
+    ensures name { IfOk result (λ name. name ≡ name_in text.now) }
+{
+    match Name::new(alloc, text) {
+        Ok(name) => Ok(Some(name)),
+        Err(error) => if matches!(error, NameError::Memory) {
+            Err(AllocError)
+        } else {
+            Ok(None)
+        },
+    }
 }
 
 fn shared_text(alloc: Global, text: &str) -> Result<Shared<Text>, AllocError>

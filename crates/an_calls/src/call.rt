@@ -1,3 +1,5 @@
+use crate::anchor_calls::anchors;
+use crate::harvest_calls::{harvest_pages, harvest_replies};
 use crate::http_calls::{memory_reply, requests};
 use crate::index_calls::{classes, counts, postings};
 use crate::model_calls::{note, parts, sheet};
@@ -33,6 +35,8 @@ pub enum Call {
     Places,
     /// The quote of a span.
     Quote,
+    /// Where selectors hold in texts.
+    Anchors,
     /// What is kept of an annotation.
     Note,
     /// What an annotation says.
@@ -53,6 +57,10 @@ pub enum Call {
     Row,
     /// The row that bytes of the first format are, as it is written today.
     FormerRow,
+    /// What is harvested of pages.
+    HarvestPages,
+    /// What is harvested of the bytes of replies.
+    HarvestReplies,
     /// The requests that an input begins with, and what ends them.
     Requests,
     /// The reply for want of memory.
@@ -72,6 +80,7 @@ pub fn call_named(name: &str) -> Option<Call> {
         "region" => Call::Region,
         "places" => Call::Places,
         "quote" => Call::Quote,
+        "anchors" => Call::Anchors,
         "note" => Call::Note,
         "parts" => Call::Parts,
         "sheet" => Call::Sheet,
@@ -82,6 +91,8 @@ pub fn call_named(name: &str) -> Option<Call> {
         "settings" => Call::Site,
         "row" => Call::Row,
         "former_row" => Call::FormerRow,
+        "harvest_pages" => Call::HarvestPages,
+        "harvest_replies" => Call::HarvestReplies,
         "requests" => Call::Requests,
         "memory_reply" => Call::MemoryReply,
         _ => return None,
@@ -101,6 +112,7 @@ impl Answers for Call {
             Call::Region => Ok(region(alloc, argument)?),
             Call::Places => places_of(alloc, argument),
             Call::Quote => quote(alloc, argument),
+            Call::Anchors => anchors(alloc, argument),
             Call::Note => note(alloc, argument),
             Call::Parts => parts(alloc, argument),
             Call::Sheet => sheet(alloc, argument),
@@ -111,6 +123,8 @@ impl Answers for Call {
             Call::Site => settings(alloc, argument),
             Call::Row => row(alloc, Format::Second, argument),
             Call::FormerRow => row(alloc, Format::First, argument),
+            Call::HarvestPages => harvest_pages(alloc, argument),
+            Call::HarvestReplies => harvest_replies(alloc, argument),
             Call::Requests => requests(alloc, argument),
             Call::MemoryReply => memory_reply(alloc),
         }

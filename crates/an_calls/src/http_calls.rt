@@ -12,9 +12,14 @@ const REQUESTS: usize = 4;
 
 /// The requests that an input begins with, and what ends them: `GET /a HTTP/1.1\r\n\r\n`.
 pub fn requests(alloc: Global, argument: &str) -> Result<String, RowError> {
-    let returned = argument.replace(alloc, "\\r", "\r")?;
-    let input = returned.as_str().replace(alloc, "\\n", "\n")?;
+    let input = with_line_ends(alloc, argument)?;
     taken(alloc, input.as_str().as_bytes())
+}
+
+/// The text with both signs in place of what stands for them.
+pub fn with_line_ends(alloc: Global, text: &str) -> Result<String, AllocError> {
+    let returned = text.replace(alloc, "\\r", "\r")?;
+    returned.as_str().replace(alloc, "\\n", "\n")
 }
 
 fn taken(alloc: Global, input: &[u8]) -> Result<String, RowError> {

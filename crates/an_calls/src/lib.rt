@@ -11,8 +11,10 @@ pub use row_calls::{cell_shown, look_at};
 pub use rows::{Answers, RowError, two_parts, two_words};
 pub use twin_calls::TwinRows;
 
+mod anchor_calls;
 mod call;
 mod differences;
+mod harvest_calls;
 mod hex;
 mod http_calls;
 mod index_calls;

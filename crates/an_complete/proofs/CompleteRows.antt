@@ -22,7 +22,7 @@ use Rattle.an_query.specs.Filters.{FiltersRecord}
 use Rattle.an_complete.specs.Ask.{AskRecord}
 use Rattle.an_complete.specs.Cost.{complete_cost}
 use Rattle.an_complete.specs.Complete.{asked_terms, ask_form, ask_iri, complete_of, terms_page}
-use Rattle.an_complete.specs.declared.completion.CompleteError.TheVariants.{NoManifest}
+use Rattle.an_list.specs.declared.error.ReadError.TheVariants.{Absent}
 
 unfoldable completions_on_literals : Unit {0}
 unfolding asked_terms ask_form terms_page totals_of capped note_terms note_occurrences texts_of occurrences_of placed term_of caseless unicode_normalization unicode_segmentation byte_serialize percent_encode_byte escape_byte digits
@@ -68,7 +68,7 @@ row-iri_of_all : ask_iri site.base (codes "m1") (record ask { q = codes "a b"; f
 unfolding completions_on_literals
 row-iri_of_all = refl
 
-row-absent : complete_of site (view []) (codes "m9") ask ≡ Err NoManifest
+row-absent : complete_of site (view []) (codes "m9") ask ≡ Err Absent
 unfolding completions_on_literals
 row-absent = refl
 

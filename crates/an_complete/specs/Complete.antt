@@ -22,8 +22,8 @@ use Rattle.an_search.specs.Wanted.{matches, wanted_by}
 use Rattle.an_code.specs.declared.parameter.Parameter.TheVariants as parameter
 use Rattle.an_search.specs.declared.wanted.Wanted.{Wanted}
 use Rattle.an_complete.specs.Ask.{AskRecord}
-use Rattle.an_complete.specs.declared.completion.CompleteError.{CompleteError}
-use Rattle.an_complete.specs.declared.completion.CompleteError.TheVariants.{NoManifest}
+use Rattle.an_list.specs.declared.error.ReadError.{ReadError}
+use Rattle.an_list.specs.declared.error.ReadError.TheVariants.{Absent}
 
 -- ---- the terms
 
@@ -77,8 +77,8 @@ abbrev pub ask_iri : List ℕ → List ℕ → AskRecord → List ℕ
 ask_iri base manifest ask = complete_iri base manifest ++ (codes "?" ++ ask_form ask)
 
 -- the answer, as text
-abbrev pub complete_of : Site → View → List ℕ → AskRecord → Result (List ℕ) CompleteError
+abbrev pub complete_of : Site → View → List ℕ → AskRecord → Result (List ℕ) ReadError
 complete_of site view manifest ask =
     if is_some (manifest_in view manifest) then Ok (compact_text
     (terms_page (ask_iri site.base manifest ask) ask.ignored (asked_terms view manifest ask)))
-    else Err NoManifest
+    else Err Absent

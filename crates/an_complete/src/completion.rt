@@ -12,21 +12,13 @@ use crate::ask::Ask;
 use crate::page::{ask_iri, terms_text};
 use crate::totals::{asked_totals, first_terms};
 use an_base::{Bytes, Name, Steps, TermTotal};
-use an_list::Site;
+use an_list::{ReadError, Site};
 use an_policy::Who;
 use an_search::{Wanted, wanted_by};
 use an_state::{Look, shown_manifest};
 use an_terms::term_of;
 use std::alloc::{AllocError, Global};
 use std::sync::ledger::Ledger;
-
-/// Why a completion has no answer.
-#[derive(Clone, Copy, Debug, PartialEq, Eq)]
-pub enum CompleteError {
-    /// There is no such manifest that the caller may read.
-    NoManifest,
-    Memory,
-}
 
 /// The terms that complete a prefix (IIIF Content Search API 2.0): the first 100 of those that
 /// begin with it and occur often enough in the annotations on a manifest that the caller may read
@@ -40,10 +32,10 @@ pub fn complete<T: Look, L: Ledger>(
     ask: &Ask,
     site: &Site,
     steps: &mut Steps<L>,
-) -> Result<Bytes, CompleteError>
-    ensures answer { Gives (λ page. page) CompleteError.Memory result (complete_of site.now
+) -> Result<Bytes, ReadError>
+    ensures answer { Gives (λ page. page) ReadError.Memory result (complete_of site.now
         (view_of (T.state look.now) (identity who.now)) manifest.now ask.now) }
-    ensures steps { Takes CompleteError.Memory result steps.old steps.new (complete_cost
+    ensures steps { Takes ReadError.Memory result steps.old steps.new (complete_cost
         (view_of (T.state look.now) (identity who.now)) manifest.now ask.now) }
     ensures steps_most { steps.new ≤ steps.old + complete_cost
         (view_of (T.state look.now) (identity who.now)) manifest.now ask.now }
@@ -52,9 +44,9 @@ pub fn complete<T: Look, L: Ledger>(
     match shown_manifest(look, who, manifest) {
         Some(_) => match page_of_terms(alloc, look, who, manifest, ask, site, steps) {
             Ok(page) => Ok(page),
-            Err(_) => Err(CompleteError::Memory),
+            Err(_) => Err(ReadError::Memory),
         },
-        None => Err(CompleteError::NoManifest),
+        None => Err(ReadError::Absent),
     }
 }
 

@@ -8,7 +8,7 @@
 #![tactic(auto)]
 
 pub use ask::{Ask, QueryAskError, read_ask};
-pub use completion::{CompleteError, asked_terms, complete};
+pub use completion::{asked_terms, complete};
 
 mod ask;
 mod completion;

@@ -1,18 +1,16 @@
 -- The text that says inner groups is cut at its commas into the texts of the groups, and so it is read
 -- as those.
-use Rattle.std.proofs.Common.{◌≡◌, ℕ, Bool, true, false, not, cond, List, [], ◌∷◌, ◌++◌, length, nat_lt, refl, sym, ap, ◌∙◌, inl, inr, Ordering, Less, Equal, Greater, arith, IsTrue}
-use Rattle.std.specs.Prelude.{◌&&◌, ◌==◌, if◌then◌else◌, is_none, nat_le, position, Option, Some, None, option_map}
+use Rattle.std.proofs.Common.{◌≡◌, ℕ, Bool, true, false, not, List, [], ◌∷◌, ◌++◌, length, refl, sym, ap, ◌∙◌, Ordering, Less, Equal, Greater, arith, IsTrue}
+use Rattle.std.specs.Prelude.{◌&&◌, ◌==◌, nat_le, Option, Some, None}
 use Rattle.std.specs.List.{AllByRecursion, join_with_byte, list_all, slice_split}
 use Rattle.std.specs.List.Sorted.{IsStrictlySortedBy}
 use Rattle.std.specs.Ordering.{is_lt}
-use Rattle.std.proofs.lemmas.Bool.{and_parts, and_from, both_ways, cases_Bool}
+use Rattle.std.proofs.lemmas.Bool.{and_parts, and_from, both_ways}
 use Rattle.std.proofs.lemmas.Bool.Decides.{nat_tests}
 use Rattle.std.proofs.lemmas.Cmp.{nat_list_cmp_total}
-use Rattle.std.proofs.lemmas.Grind.{common_steps}
-use Rattle.an_base.specs.Name.{bad_sign, is_dash, is_name, is_name_sign}
-use Rattle.an_base.specs.Outcome.{first_of, when}
+use Rattle.an_base.specs.Name.{is_name, is_name_sign}
 use Rattle.an_base.specs.TextSet.{Ascend, ascending}
-use Rattle.an_base.specs.declared.name.NameError.TheVariants.{Empty, Long, Sign}
+use Rattle.an_base.proofs.NameLemmas.{name-signs}
 use Rattle.an_base.proofs.AscendLemmas.{by_bytes, ascend-ascending, has_text-ascending, same-ascend}
 use Rattle.an_policy.specs.Inner.{inner_named, inner_of, inner_text, is_valid_inner}
 use Rattle.an_policy.specs.Names.{are_names, ascend_behind, is_behind, is_group_name}
@@ -28,32 +26,12 @@ is_other b = not (b == 44)
 sign-other : (b : ℕ) → is_name_sign b ≡ true → is_other b ≡ true
 sign-other b is = grind (arith, nat_tests)
 
-position-first : {A : Type 0} (p : A → Bool) (x : A) (xs : List A) → p x ≡ true → position p (x ∷ xs) ≡ Some 0
-position-first p x xs passes = rw passes (grind (arith, common_steps))
-
-position-behind : {A : Type 0} (p : A → Bool) (x : A) (xs : List A) → p x ≡ false → position p (x ∷ xs) ≡ None → position p xs ≡ None
-position-behind p x xs fails none = grind (arith, common_steps)
-
-signs-other : (text : List ℕ) → position (λ b. not (is_name_sign b)) text ≡ None → list_all is_other text ≡ true
-signs-other [] none = refl
-signs-other (b ∷ text) none = elim (cases_Bool (is_name_sign b)) [
-  | inl is ↦ and_from _ _ (sign-other b is) (signs-other text (position-behind (λ b. not (is_name_sign b)) b text (ap not is) none))
-  | inr isnt ↦ let some : ◌≡◌ {A = Option ℕ} None (Some 0) = sym none ∙ position-first (λ b. not (is_name_sign b)) b text (ap not isnt) in absurd (cc)
-]
-
-no_sign : (empty long : Bool) (at : Option ℕ) → is_none (first_of (when empty Empty ∷ when long Long ∷ option_map Sign at ∷ [])) ≡ true → at ≡ None
-no_sign true long at h = absurd (cc)
-no_sign false true at h = absurd (cc)
-no_sign false false None h = refl
-no_sign false false (Some at) h = absurd (cc)
-
-no_bad : (dash : Bool) (at : Option ℕ) → (if dash then Some 0 else at) ≡ None → at ≡ None
-no_bad true at h = absurd (cc)
-no_bad false at h = h
-
 name-other : (name : List ℕ) → is_name name ≡ true → list_all is_other name ≡ true
-name-other name is =
-    signs-other name (no_bad (is_dash name) (position (λ b. not (is_name_sign b)) name) (no_sign (length name == 0) (nat_lt 64 (length name)) (bad_sign name) is))
+name-other name is = all-pass name (name-signs (λ b. is_other b ≡ true) sign-other name is)
+  where
+    all-pass : (text : List ℕ) → AllByRecursion (λ b. is_other b ≡ true) text → list_all is_other text ≡ true
+    all-pass [] h = refl
+    all-pass (b ∷ text) h = and_from _ _ h.0 (all-pass text h.1)
 
 -- ---- texts without commas, cut at those between them
 

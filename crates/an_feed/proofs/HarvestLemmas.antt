@@ -24,7 +24,7 @@ use Rattle.an_list.specs.Site.{Site, goes_on_from, is_base, is_base_sign, is_siz
 use Rattle.an_list.specs.declared.page.PageForm.TheVariants as form
 use Rattle.an_stream.specs.Activity.{activity}
 use Rattle.an_stream.specs.Stream.{changes_whole, changes_page_of, page_of_stream, stream_page, stream_tree}
-use Rattle.an_stream.specs.declared.stream.StreamError.{StreamError}
+use Rattle.an_list.specs.declared.error.ReadError.{ReadError}
 use Rattle.an_harvest.specs.Walk.{Walk, Gets, Stops, Ends, ComesTo, walk}
 use Rattle.an_harvest.specs.declared.fetch.Got.{Got}
 use Rattle.an_feed.specs.Served.{Serves, IsServed, HasAll}
@@ -117,7 +117,7 @@ module _ (site : Site) (view : View) (known : ℕ) (settled : IsServed site view
   small-page p le = let few = settled.pages in omega (arith, le, few)
 
   page-is : (p : ℕ) → 1 ≤ p → p ≤ page_count (length view.seen) site.size
-      → ◌≡◌ {A = Result (List ℕ) StreamError} (changes_page_of site view p) (Ok (compact_text (served.page_at site.base site.size view.seen told some known settled.within p)))
+      → ◌≡◌ {A = Result (List ℕ) ReadError} (changes_page_of site view p) (Ok (compact_text (served.page_at site.base site.size view.seen told some known settled.within p)))
   unfolding page_of_stream
   page-is p one le =
       let low : nat_lt p 1 ≡ false = grind (arith, nat_tests) in

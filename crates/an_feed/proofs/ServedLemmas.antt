@@ -6,7 +6,7 @@ use Rattle.an_harvest.proofs.WalkLemmas.{pages-on, on_feed, answers-same}
 use Rattle.std.proofs.lemmas.Bool.{le-leb}
 use Rattle.std.proofs.lemmas.Nat.{mul-le, mul-add-lt}
 use Rattle.std.specs.Prelude.{⊤, option_map, is_some, is_ok, nat_le, nat_lt}
-use Rattle.std.specs.List.{list_all, cons_option, starts_with}
+use Rattle.std.specs.List.{list_all, cons_option}
 use Rattle.std.proofs.Common.{◌^◌, ◌%◌, ◌/◌, min}
 use Rattle.std.proofs.Common.{eq-eqb, zero, ap₂, length-take, length-drop}
 use Rattle.std.specs.List.{AllByRecursion}
@@ -40,7 +40,8 @@ use Rattle.std.proofs.lemmas.Str.{is_utf8-from_IsUtf8, IsUtf8-from_ascii}
 use Rattle.std.proofs.lemmas.Bool.{and_from}
 use Rattle.serde_json.specs.Written.{compact_text}
 use Rattle.an_harvest.specs.Feed.{Change, change_of, changes_of, is_activity, has_moment, kind_in, manifest_in, id_in, number_in, items_in}
-use Rattle.an_selectors.specs.Region.{behind}
+use Rattle.an_base.specs.Front.{after_front}
+use Rattle.an_base.proofs.FrontLemmas.{front-there}
 use Rattle.an_list.specs.Page.{page_link, link_before, link_after, page_count, start_of, page_of, page_iri}
 use Rattle.an_list.specs.declared.page.PageForm.TheVariants as form
 use Rattle.an_list.specs.declared.page.Whole.{Whole}
@@ -183,20 +184,6 @@ pub activities-shallow : (base : List ℕ) (seens : List Seen) → items_depth (
 activities-shallow base [] = omega arith
 activities-shallow base (seen ∷ seens) = omega (arith, activity-shallow base seen, activities-shallow base seens)
 
--- ---- a target after the base
-
-starts-append : (base rest : List ℕ) → starts_with nat_eq (base ++ rest) base ≡ true
-starts-append [] rest = refl
-starts-append (b ∷ base) rest = rw (eq-eqb b b refl) (starts-append base rest)
-
-drop-append : (base rest : List ℕ) → drop (length base) (base ++ rest) ≡ rest
-drop-append [] rest = refl
-drop-append (b ∷ base) rest = drop-append base rest
-
-pub target-behind : (base rest : List ℕ) → behind base (base ++ rest) ≡ Some rest
-target-behind base rest =
-    ap (λ (b : Bool). cond b (Some (drop (length base) (base ++ rest))) None) (starts-append base rest) ∙ ap Some (drop-append base rest)
-
 -- ---- several activities
 
 all-activities : (base : List ℕ) (seens : List Seen) → AllByRecursion IsTold seens → list_all is_activity (map (activity base) seens) ≡ true
@@ -286,8 +273,8 @@ pub stream-feed : (base : List ℕ) (known pages total : ℕ) → nat_le known t
     → feed.feed_of base known (stream_tree (changes_whole base) pages total) ≡ Some (record { total = total; last = codes "/changes" ++ (codes "?page=" ++ decimal pages) })
 stream-feed base known pages total within =
     let iri : page_iri (changes_whole base) pages ≡ base ++ (codes "/changes" ++ (codes "?page=" ++ decimal pages)) = append_assoc base (codes "/changes") (codes "?page=" ++ decimal pages) in
-    let target : behind base (page_iri (changes_whole base) pages) ≡ Some (codes "/changes" ++ (codes "?page=" ++ decimal pages)) = ap (behind base) iri ∙ target-behind base (codes "/changes" ++ (codes "?page=" ++ decimal pages)) in
-    ap (λ (b : Bool). option_and_then {U = feed.Feed} (λ total. option_map (λ last. record { total = total; last = last }) (behind base (page_iri (changes_whole base) pages))) (cond b (Some total) None)) within
+    let target : after_front base (page_iri (changes_whole base) pages) ≡ Some (codes "/changes" ++ (codes "?page=" ++ decimal pages)) = ap (after_front base) iri ∙ front-there base (codes "/changes" ++ (codes "?page=" ++ decimal pages)) in
+    ap (λ (b : Bool). option_and_then {U = feed.Feed} (λ total. option_map (λ last. record { total = total; last = last }) (after_front base (page_iri (changes_whole base) pages))) (cond b (Some total) None)) within
     ∙ ap (option_map {U = feed.Feed} (λ last. record { total = total; last = last })) target
 
 -- ---- a page of the stream, as the walk reads it
@@ -301,8 +288,8 @@ before-more base known start count tree rest h n t =
     ap (λ (b : Bool). cond b (Some None) (cond (nat_eq count 0) None (option_map Some (feed.target_in base (codes "prev") tree)))) h
     ∙ ap (λ (b : Bool). cond b None (option_map Some (feed.target_in base (codes "prev") tree))) n ∙ ap (option_map Some) t
 
-page-target : (base : List ℕ) (page : ℕ) → behind base (page_iri (changes_whole base) page) ≡ Some (page_target page)
-page-target base page = ap (behind base) (append_assoc base (codes "/changes") (codes "?page=" ++ decimal page)) ∙ target-behind base (page_target page)
+page-target : (base : List ℕ) (page : ℕ) → after_front base (page_iri (changes_whole base) page) ≡ Some (page_target page)
+page-target base page = ap (after_front base) (append_assoc base (codes "/changes") (codes "?page=" ++ decimal page)) ∙ front-there base (page_target page)
 
 module _ (base : List ℕ) (known end pages page start : ℕ) (seens : List Seen) (told : AllByRecursion IsTold seens) (fits : start + length (map (activity base) seens) ≡ end) where
   abbrev served : Data
@@ -329,7 +316,7 @@ module _ (base : List ℕ) (known end pages page start : ℕ) (seens : List Seen
       (start-there (changes_whole base) page start (items_of (map (activity base) seens)) (link_before form.Changes (changes_whole base) page) (link_after form.Changes (changes_whole base) pages page))
       items-of-served (all-activities base seens told) (eq-eqb _ _ fits)
       (before-more base known start (length (map (activity base) seens)) served (page_target (page - 1)) h some
-      (ap (λ (o : Option Data). option_and_then (behind base) (option_and_then (text_in (codes "id")) o))
+      (ap (λ (o : Option Data). option_and_then (after_front base) (option_and_then (text_in (codes "id")) o))
       (prev-there (changes_whole base) page start (items_of (map (activity base) seens)) (link_before form.Changes (changes_whole base) page) (link_after form.Changes (changes_whole base) pages page)
       ∙ ap (λ (b : Bool). option_map (page_link form.Changes (changes_whole base)) (cond b (Some (page - 1)) None)) later)
       ∙ page-target base (page - 1)))

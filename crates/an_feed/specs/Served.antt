@@ -7,7 +7,7 @@ use Rattle.an_state.specs.declared.activity.Seen.{Seen}
 use Rattle.an_list.specs.Page.{page_count}
 use Rattle.an_list.specs.Site.{Site, is_base, is_size}
 use Rattle.an_stream.specs.Stream.{changes_of, changes_page_of}
-use Rattle.an_stream.specs.declared.stream.StreamError.{StreamError}
+use Rattle.an_list.specs.declared.error.ReadError.{ReadError}
 use Rattle.an_harvest.specs.Walk.{Walk, Gets, Stops, Ends}
 use Rattle.an_harvest.specs.declared.fetch.Got.{Got}
 use Rattle.an_feed.specs.Told.{IsTold, change_told, page_target}
@@ -22,7 +22,7 @@ pub record Serves
   pub stream : (got : Got) → answers (codes "/changes") got
       → got ≡ record { status = 200; body = changes_of site view }
   pub pages : (page : ℕ) (body : List ℕ) (got : Got) → page ≤ most_pages
-      → ◌≡◌ {A = Result (List ℕ) StreamError} (changes_page_of site view page) (Ok body)
+      → ◌≡◌ {A = Result (List ℕ) ReadError} (changes_page_of site view page) (Ok body)
       → answers (page_target page) got → got ≡ record { status = 200; body = body }
 
 -- settings as they are read, changes as a valid state has them, of which so many are known

@@ -5,11 +5,11 @@ use Rattle.std.specs.Prelude.{Option, Some, None, option_and_then, option_map, u
 use Rattle.std.specs.List.{filter_map, list_all}
 use Rattle.serde_json.specs.Data.{Data}
 use Rattle.serde_json.specs.Find.{get, as_number, as_array, as_u64}
+use Rattle.an_base.specs.Front.{after_front}
 use Rattle.an_base.specs.Items.{items_list}
 use Rattle.an_base.specs.Member.{text_in}
 use Rattle.an_base.specs.Moment.{moment_of}
 use Rattle.an_base.specs.Outcome.{only_if, passes}
-use Rattle.an_selectors.specs.Region.{behind}
 use Rattle.an_policy.specs.declared.kind.Kind.{Kind}
 use Rattle.an_policy.specs.declared.kind.Kind.TheVariants.{Create, Update, Delete}
 
@@ -78,7 +78,7 @@ changes_of items = filter_map change_of items
 
 -- the target that the id of a member names: what the id goes on with after the base
 abbrev pub target_in : List ℕ → List ℕ → Data → Option (List ℕ)
-target_in base name tree = option_and_then (behind base) (id_in name tree)
+target_in base name tree = option_and_then (after_front base) (id_in name tree)
 
 -- of a stream: how many activities it has, at least as many as are known, and its last page
 pub record Feed : Type 0 where

@@ -6,12 +6,11 @@ ghost use Rattle.an_base.specs.Member.{text_in};
 ghost use Rattle.an_harvest.specs.Feed.{number_in, items_in, id_in, kind_told, manifest_told};
 ghost use Rattle.an_harvest.specs.Feed.{kind_in, manifest_in, has_moment, is_activity};
 ghost use Rattle.an_harvest.specs.Feed.{page_items, place_of};
-ghost use Rattle.an_selectors.specs.Region.{behind};
 ghost use Rattle.an_harvest.specs.Feed.{target_in, change_of};
 ghost use Rattle.an_harvest.specs.Live.{leaving};
 ghost use Rattle.an_policy.specs.Seen.{is_deletion};
 
-use an_base::{moment_of, text_in};
+use an_base::{after_front, moment_of, text_in};
 use an_policy::Kind;
 use serde_json::Value;
 
@@ -181,20 +180,13 @@ pub(crate) fn are_activities(items: &[Value]) -> bool
 
 // ---- the stream and its pages
 
-/// What an id goes on with after the base that it begins with.
-fn target_at<'a>(base: &str, id: &'a str) -> Option<&'a str>
-    ensures { option_map (λ target. target.now) result ≡ behind base.now id.now }
-{
-    id.strip_prefix(base)
-}
-
 /// The target that the id of a member names.
 pub(crate) fn target_in<'a>(base: &str, tree: &'a Value, name: &str) -> Option<&'a str>
     ensures target { option_map (λ target. target.now) result
         ≡ target_in base.now name.now (view tree.now) }
 {
     match id_in(tree, name) {
-        Some(id) => target_at(base, id),
+        Some(id) => after_front(base, id),
         None => None,
     }
 }

@@ -11,6 +11,10 @@ manifest_iri base name = base ++ (codes "/manifests/" ++ name)
 abbrev pub note_iri : List ℕ → List ℕ → List ℕ → List ℕ
 note_iri base owner name = base ++ (codes "/annotations/" ++ (owner ++ (codes "/" ++ name)))
 
+-- the comments on an annotation, with where they hold
+abbrev pub anchors_iri : List ℕ → List ℕ → List ℕ → List ℕ
+anchors_iri base owner name = note_iri base owner name ++ codes "/anchors"
+
 -- ---- of a manifest
 
 -- the container of the annotations on it
@@ -33,6 +37,10 @@ search_iri base name = base ++ (codes "/search/" ++ name)
 
 abbrev pub complete_iri : List ℕ → List ℕ → List ℕ
 complete_iri base name = base ++ (codes "/autocomplete/" ++ name)
+
+-- the comments on it that have lost what they are about
+abbrev pub orphans_iri : List ℕ → List ℕ → List ℕ
+orphans_iri base name = base ++ (codes "/manifests/" ++ (name ++ codes "/orphans"))
 
 -- ---- of changes and marks
 

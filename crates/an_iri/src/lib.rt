@@ -6,9 +6,13 @@
 #![tactic(auto)]
 
 ghost use Rattle.std.specs.Prelude.{◌≡◌, IfOk, string_bytes};
-ghost use Rattle.an_iri.specs.Iris.{canvas_iri, canvas_page_iri, changes_iri, complete_iri};
-ghost use Rattle.an_iri.specs.Iris.{container_iri, manifest_iri, mark_iri, note_iri, reader_iri};
-ghost use Rattle.an_iri.specs.Iris.{search_iri};
+ghost use Rattle.an_iri.specs.Iris.{anchors_iri, canvas_iri, canvas_page_iri, changes_iri};
+ghost use Rattle.an_iri.specs.Iris.{complete_iri, container_iri, manifest_iri, mark_iri, note_iri};
+ghost use Rattle.an_iri.specs.Iris.{orphans_iri, reader_iri, search_iri};
+
+pub use names::{names_in, note_iris_are_unique, note_iris_read_back};
+
+mod names;
 
 use an_base::Name;
 use std::alloc::{AllocError, Global};
@@ -34,6 +38,28 @@ pub fn note_iri(alloc: Global, base: &str, owner: &Name, name: &Name) -> Result<
     let owner = owner.as_str();
     let name = name.as_str();
     format!(in alloc; "{base}/annotations/{owner}/{name}")
+}
+
+/// The IRI of the comments on an annotation, with where they hold.
+pub fn anchors_iri(
+    alloc: Global,
+    base: &str,
+    owner: &Name,
+    name: &Name,
+) -> Result<String, AllocError>
+    ensures iri { IfOk result
+        (λ iri. string_bytes iri ≡ anchors_iri base.now owner.now name.now) }
+{
+    let iri = note_iri(alloc, base, owner, name)?;
+    let iri = iri.as_str();
+    format!(in alloc; "{iri}/anchors")
+}
+
+/// The IRI of the comments on a manifest that have lost what they are about.
+pub fn orphans_iri(alloc: Global, base: &str, name: &str) -> Result<String, AllocError>
+    ensures iri { IfOk result (λ iri. string_bytes iri ≡ orphans_iri base.now name.now) }
+{
+    format!(in alloc; "{base}/manifests/{name}/orphans")
 }
 
 /// The IRI of the container of the annotations on a manifest.

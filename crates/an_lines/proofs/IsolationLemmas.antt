@@ -6,7 +6,8 @@ use Rattle.an_list.specs.Site.{Site}
 use Rattle.an_answers.specs.Answer.{answer_of}
 use Rattle.an_answers.specs.Answer as answer
 use Rattle.an_lines.specs.Asked.{asked_of}
-use Rattle.an_lines.specs.Find.{asked_turn, no_preference, prints, reply_line, turn_of}
+use Rattle.an_answers.specs.Fetch.{no_preference}
+use Rattle.an_lines.specs.Find.{asked_turn, prints, reply_line, turn_of}
 use Rattle.an_lines.specs.Isolation.{ReaderSeesAlike}
 use Rattle.an_lines.specs.declared.asked.Asked.{Asked}
 use Rattle.an_lines.specs.declared.asked.Asked.TheVariants as asked

@@ -13,9 +13,13 @@ abbrev pub view_named : State → List ℕ → Option View
 view_named s by =
     option_map (view_of s) (option_and_then (λ by. who_of s (reader by)) (by_of by))
 
+-- the name is no live reader's
+abbrev pub no_reader : Report
+no_reader = record { status = NoReader; text = codes "no reader\n" }
+
 -- what an export of a view tells
 abbrev pub export_told : Option View → Report
-export_told None = record { status = NoReader; text = codes "no reader\n" }
+export_told None = no_reader
 export_told (Some view) = record { status = Done; text = exported view }
 
 abbrev pub export_report : State → List ℕ → Report

@@ -1,7 +1,7 @@
 -- What lines do, one after another: writes change the state, reads print an answer, and the first
 -- refusal of what is not old ends the run.
 use Rattle.std.specs.Prelude.{ℕ, ◌+◌, List, [], ◌∷◌, ◌++◌, length, codes, decimal, nat_lt}
-use Rattle.std.specs.Prelude.{if◌then◌else◌, false, Option, Some, None, Result, Ok, Err}
+use Rattle.std.specs.Prelude.{if◌then◌else◌, Option, Some, None, Result, Ok, Err}
 use Rattle.an_code.specs.declared.code.Code.{Code}
 use Rattle.an_code.specs.declared.code.Code.TheVariants as code
 use Rattle.an_http.specs.Status.{number_of}
@@ -10,8 +10,8 @@ use Rattle.an_policy.specs.declared.who.Caller.{Caller}
 use Rattle.an_policy.specs.declared.who.Caller.TheVariants as caller
 use Rattle.an_state.specs.State.{State, empty}
 use Rattle.an_list.specs.Site.{Site}
-use Rattle.an_base.specs.declared.span.Prefer.{Prefer}
 use Rattle.an_answers.specs.Answer.{answer_of, query_answer}
+use Rattle.an_answers.specs.Fetch.{no_preference}
 use Rattle.an_state.specs.View.{view_by}
 use Rattle.an_lines.specs.Asked.{asked_of}
 use Rattle.an_lines.specs.Input.{input_limit}
@@ -54,9 +54,6 @@ reply_line reply =
 -- ---- a line
 
 -- no line says what it prefers
-abbrev pub no_preference : Prefer
-no_preference = record { minimal = false; iris = false }
-
 abbrev pub asked_turn : Site → State → Result Asked Code → Turn
 asked_turn site s (Ok asked.Nothing) = passes
 asked_turn site s (Ok (asked.Read by read)) =

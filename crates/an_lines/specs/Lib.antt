@@ -7,6 +7,7 @@ pub mod Written
 pub mod Find
 pub mod Import
 pub mod Export
+pub mod Harvest
 pub mod Trials
 pub mod Turned
 pub mod Status

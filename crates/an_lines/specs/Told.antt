@@ -15,4 +15,5 @@ abbrev pub IsTold : Status → Type 0
 IsTold status.Done = ⊤
 IsTold status.Misunderstood = ⊤
 IsTold status.NoReader = ⊤
+IsTold status.Refused = ⊤
 IsTold _ = ⊥

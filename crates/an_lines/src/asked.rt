@@ -5,11 +5,11 @@ ghost use Rattle.an_lines.specs.Asked.{route_asked, by_asked, words_asked, asked
 ghost use Rattle.an_lines.specs.Line.{by_of, lent_words, words_of};
 
 use crate::line::{LineWords, words_of};
-use an_base::{Moment, Name};
+use an_base::{Moment, Name, name_in};
 use an_code::Code;
 use an_http::{Allow, Method};
 use an_query::text_of;
-use an_routes::{Read, Route, RouteError, command_of, name_in, route};
+use an_routes::{Read, Route, RouteError, command_of, route};
 use an_state::Command;
 use std::alloc::{AllocError, Global};
 

@@ -1,5 +1,5 @@
-//! What plays lines: `find`, `import` and `trial`, and `export`, which prints lines; and how a run
-//! ends.
+//! What plays lines: `find`, `import` and `trial`, and `export`, which prints lines; `harvest`,
+//! which prints what a caller finds by the changes that it sees; and how a run ends.
 //!
 //! ```text
 //! import(alloc, &mut link, &mut desk)
@@ -9,6 +9,7 @@
 #![tactic(auto)]
 
 pub use exporting::export;
+pub use harvesting::{harvest, harvest_look};
 pub use importing::import;
 pub use lines::find;
 pub use status::Status;
@@ -18,6 +19,7 @@ pub use trials::trial;
 mod asked;
 mod counts;
 mod exporting;
+mod harvesting;
 mod import_line;
 mod importing;
 mod input;

@@ -17,6 +17,12 @@ pub(crate) const TOO_LARGE: Stop = Stop {
     why: Code::Input,
 };
 
+/// A harvest of a stream whose last page can't be asked for is refused.
+pub(crate) const TOO_LONG: Stop = Stop {
+    line: 0,
+    why: Code::Page,
+};
+
 /// The refusal of a line, as it is printed.
 pub(crate) fn refusal_line(alloc: Global, stop: Stop) -> Result<String, AllocError>
     ensures { IfOk result (λ text. string_bytes text ≡ refusal_line stop) }

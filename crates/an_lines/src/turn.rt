@@ -11,8 +11,8 @@ ghost use Rattle.an_lines.specs.Written.{written_of};
 
 use crate::asked::{Asked, asked_of};
 use crate::written::{stop_of, writer};
-use an_answers::{answer_uncounted, query_answer};
-use an_base::{Moment, Name, Prefer};
+use an_answers::{NO_PREFERENCE, answer_uncounted, query_answer};
+use an_base::{Moment, Name};
 use an_code::Code;
 use an_http::{Allow, Reply};
 use an_list::Site;
@@ -21,12 +21,6 @@ use an_policy::Caller;
 use an_routes::Read;
 use an_state::{Book, Command};
 use std::alloc::{AllocError, Global};
-
-/// No line says what it prefers.
-const NO_PREFERENCE: Prefer = Prefer {
-    minimal: false,
-    iris: false,
-};
 
 /// Takes the turn of a line: it may print an answer, or change the book. Answers why a line is
 /// refused.
@@ -116,7 +110,7 @@ fn apply(book: &mut Book, decided: Decided) -> Result<Option<Code>, AllocError>
 
 // ---- a line that reads
 
-/// Prints the answer to a read.
+/// Prints the answer to a read. No line says what it prefers.
 fn read_turn(
     alloc: Global,
     book: &Book,

@@ -4,4 +4,5 @@ pub mod PageText
 pub mod Marks
 pub mod Placed
 pub mod Listed
+pub mod Notes
 pub mod Cost

@@ -1,15 +1,19 @@
 -- The pages of a list (IIIF Content Search API 2.0; Web Annotation Data Model, section 5).
 use Rattle.std.specs.Prelude.{ℕ, ◌+◌, ◌-◌, ◌*◌, ◌==◌, max, nat_lt, List, ◌++◌, length}
 use Rattle.std.specs.Prelude.{map, take, drop, codes, decimal, Option, Some, None, option_map}
-use Rattle.std.specs.Prelude.{Bool, ◌||◌, if◌then◌else◌}
+use Rattle.std.specs.Prelude.{Bool, ◌||◌, if◌then◌else◌, Result, Ok, Err}
 use Rattle.std.specs.Int.{div_ceil}
 use Rattle.serde_json.specs.Data.{Data, number, unsigned, string, array, object, Items, no_items}
 use Rattle.serde_json.specs.Data.{item, member, no_members}
 use Rattle.serde_json.specs.View.{items_of}
 use Rattle.an_base.specs.Object.{with_member_if}
 use Rattle.an_model.specs.Targets.{is_empty}
+use Rattle.an_list.specs.Site.{Site}
+use Rattle.an_list.specs.declared.error.ReadError.{ReadError}
+use Rattle.an_list.specs.declared.error.ReadError.TheVariants.{NoPage}
 use Rattle.an_list.specs.declared.page.PageForm.{PageForm}
 use Rattle.an_list.specs.declared.page.PageForm.TheVariants as form
+use Rattle.an_list.specs.declared.page.Paging.{Paging}
 use Rattle.an_list.specs.declared.page.Whole.{Whole}
 
 -- ---- which items stand on a page
@@ -25,6 +29,17 @@ start_of page size = (page - 1) * size
 -- among so many pages none has this number
 abbrev pub lacks_page : ℕ → ℕ → Bool
 lacks_page pages page = nat_lt page 1 || nat_lt pages page
+
+-- what is shown of the page of this number of a list of so many items, where there is one
+abbrev pub on_page : {A : Type 0} → Site → ℕ → ℕ → A → Result A ReadError
+on_page site page total shown =
+    let pages = page_count total site.size in
+    if lacks_page pages page then Err (NoPage pages) else Ok shown
+
+-- the page itself
+abbrev pub paging_of : Site → ℕ → ℕ → Result Paging ReadError
+paging_of site page total =
+    on_page site page total (record { page = page; size = site.size; total = total })
 
 -- the number of the page after this one, of so many, and of the one before it, where there is one
 abbrev pub page_after : ℕ → ℕ → Option ℕ

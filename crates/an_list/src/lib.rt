@@ -9,17 +9,21 @@
 //! ```
 #![tactic(auto)]
 
+pub use error::ReadError;
 pub use items::{Listed, Marks, list_items};
 pub use marked::highlight;
+pub use notes::{NoteList, page_of_notes};
 pub use page::{
     PageForm, Paging, Whole, page_iri, page_of, page_text, push_ignored, push_link_member,
     push_next, push_prev, push_text_item, push_thing_member,
 };
 pub use site::{Site, SiteError, read_site};
 
+mod error;
 mod items;
 mod listed;
 mod mark;
 mod marked;
+mod notes;
 mod page;
 mod site;

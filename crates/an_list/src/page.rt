@@ -5,12 +5,15 @@ ghost use Rattle.serde_json.specs.Data.{Items, array, item, no_items, string};
 ghost use Rattle.serde_json.specs.View.{items_of};
 ghost use Rattle.serde_json.specs.Written.{compact_text};
 ghost use Rattle.an_base.specs.Write.{commas, item_commas, item_text, member_text};
-ghost use Rattle.an_list.specs.Page.{page_count, start_of, lacks_page, page_after, page_before};
+ghost use Rattle.an_list.specs.Page.{page_count, paging_of, start_of, lacks_page, page_after};
+ghost use Rattle.an_list.specs.Page.{page_before};
 ghost use Rattle.an_list.specs.Page.{whole_iri, page_iri, thing, page_named, page_link};
 ghost use Rattle.an_list.specs.Page.{whole_link, link_after, link_before, marks_page};
 ghost use Rattle.an_list.specs.Page.{marks_beside, texts_beside, list_page, page_of};
 ghost use Rattle.an_list.specs.PageText.{head_text, content_text, text_if, place_members};
 
+use crate::error::ReadError;
+use crate::site::Site;
 use an_base::{
     Bytes, Text, close_items, close_members, push_array_member, push_comma, push_name,
     push_number_member, push_text, push_text_member,
@@ -52,8 +55,24 @@ impl Paging {
         self.total.div_ceil(self.size as usize).max(1)
     }
 
-    /// Whether the list has no page of this number.
-    pub fn is_past(self) -> bool
+    /// The page of this number in a list of so many items, where it has one.
+    pub fn checked(site: &Site, page: u32, total: usize) -> Result<Paging, ReadError>
+        ensures page { result ≡ paging_of site.now page total }
+        ensures first { IfOk result (λ paging. 1 ≤ paging.page) }
+        ensures some { IfOk result (λ paging. 1 ≤ paging.size) }
+        ensures few { IfOk result (λ paging. paging.size ≤ 100) }
+    {
+        let size = site.size();
+        let paging = Paging { page, size, total };
+        if paging.is_past() {
+            let pages = paging.pages();
+            Err(ReadError::NoPage { pages })
+        } else {
+            Ok(paging)
+        }
+    }
+
+    fn is_past(self) -> bool
         requires size { 1 ≤ self.size }
         ensures past { result ≡ lacks_page (page_count self.total self.size) self.page }
         ensures first { OnFalse result (1 ≤ self.page) }

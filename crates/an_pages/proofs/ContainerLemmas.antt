@@ -16,16 +16,17 @@ use Rattle.an_list.proofs.ListedLemmas.{stand-found}
 use Rattle.an_list.proofs.ReadableLemmas.{filter_both}
 use Rattle.an_list.proofs.WrittenLemmas.{commas-member_if}
 use Rattle.an_list.specs.Listed.{StandAt}
-use Rattle.an_list.specs.Page.{page_count, page_iri, page_of, start_of, lacks_page, link_after, link_before}
+use Rattle.an_list.specs.Page.{page_count, page_iri, page_of, paging_of, start_of, link_after, link_before}
 use Rattle.an_list.specs.PageText.{member_if, text_if}
 use Rattle.an_list.specs.Site.{Site}
 use Rattle.an_list.specs.declared.page.PageForm.TheVariants as form
+use Rattle.an_list.specs.declared.error.ReadError.{ReadError}
+use Rattle.an_list.specs.declared.page.Paging.{Paging}
 use Rattle.an_list.specs.declared.page.Whole.{Whole}
-use Rattle.an_pages.proofs.NoteLemmas.{count_is}
+use Rattle.an_list.proofs.PageLemmas.{paging_is, shown_past, shown_there}
 use Rattle.an_pages.specs.Bodies.{note_context}
 use Rattle.an_pages.specs.Container.{container_contexts, container_link, container_tree, container_body, container_types, first_page, held_page, iri_item, items_on, notes_on, own_page, own_text}
 use Rattle.an_pages.specs.ContainerText.{content_text, end_text, part_text, whole_text}
-use Rattle.an_pages.specs.declared.error.PageError.TheVariants.{NoPage}
 
 -- ---- at places
 
@@ -63,19 +64,21 @@ iris_on base iris notes places rows is stand =
 
 -- ---- which page
 
-module _ (site : Site) (whole : Whole) (iris : Bool) (rows : List NoteState) (total size page pages : ℕ) (total_is : total ≡ length rows) (size_is : size ≡ site.size) (pages_are : pages ≡ page_count total size) where
-  pub no_own_page : lacks_page pages page ≡ true → own_text site whole iris page rows ≡ Err (NoPage pages)
+module _ (site : Site) (whole : Whole) (iris : Bool) (page : ℕ) (rows : List NoteState) (total : ℕ) (total_is : total ≡ length rows) where
+  pub past_own_page : (error : ReadError) → Err error ≡ paging_of site page total → own_text site whole iris page rows ≡ Err error
   unfolding own_text
-  no_own_page off = let count = count_is rows site.size total size pages total_is size_is pages_are in rw (count, off) refl
+  past_own_page error is =
+      shown_past site page (length rows) error (compact_text (own_page whole page site.size (length rows) (items_on site.base iris (page_of page site.size rows)))) (rw total_is at is)
 
-  pub found_own_page : (base text : List ℕ) → base ≡ site.base → lacks_page pages page ≡ false
-      → text ≡ compact_text (own_page whole page size total (items_on base iris (page_of page size rows)))
+  pub found_own_page : (paging : Paging) (base text : List ℕ) → Ok paging ≡ paging_of site page total → base ≡ site.base
+      → text ≡ compact_text (own_page whole paging.page paging.size paging.total (items_on base iris (page_of paging.page paging.size rows)))
       → own_text site whole iris page rows ≡ Ok text
   unfolding own_text
-  found_own_page base text base_is there is =
-      let count = count_is rows site.size total size pages total_is size_is pages_are in
-      let same = rw (base_is, total_is, size_is) at is in
-      rw (count, there) (ap Ok (sym same))
+  found_own_page paging base text checked base_is is =
+      let there : Ok paging ≡ paging_of site page (length rows) = rw total_is at checked in
+      let asked = paging_is site page (length rows) paging there in
+      shown_there site page (length rows) paging (compact_text (own_page whole page site.size (length rows) (items_on site.base iris (page_of page site.size rows)))) there
+      ∙ ap Ok (sym (rw (asked, base_is) at is))
 
 -- ---- the members' texts
 

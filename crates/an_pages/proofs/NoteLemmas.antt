@@ -1,10 +1,7 @@
 -- The annotations about a canvas, and the page of them that is asked for.
-use Rattle.std.proofs.Common.{◌≡◌, ℕ, List, [], ◌∷◌, map, length, Bool, true, false, cond, ◌||◌, Option, Some, None, Ok, Err, refl, sym, ap, subst, ◌∙◌}
+use Rattle.std.proofs.Common.{◌≡◌, ℕ, List, [], ◌∷◌, map, Bool, true, false, cond, ◌||◌, Option, Some, None, refl, ap, subst}
 use Rattle.std.specs.Prelude.{filter, slice_get}
 use Rattle.std.specs.List.{filter_map, cons_option, list_any}
-use Rattle.serde_json.specs.Data.{no_items}
-use Rattle.serde_json.specs.View.{items_of}
-use Rattle.serde_json.specs.Written.{compact_text}
 use Rattle.an_base.specs.Outcome.{passes}
 use Rattle.an_selectors.specs.declared.region.Xywh.{Xywh}
 use Rattle.an_model.specs.Targets.{kept_target}
@@ -13,12 +10,8 @@ use Rattle.an_policy.specs.Audience.{Identity}
 use Rattle.an_state.specs.State.{State, NoteState}
 use Rattle.an_state.specs.View.{view_of, readable_places}
 use Rattle.an_list.proofs.ReadableLemmas.{readable_rows}
-use Rattle.an_list.specs.Listed.{StandAt, listed_note}
-use Rattle.an_list.specs.Page.{list_page, page_count, lacks_page, page_of}
-use Rattle.an_list.specs.Site.{Site}
-use Rattle.an_list.specs.declared.page.Whole.{Whole}
-use Rattle.an_pages.specs.Canvas.{is_kept_in, is_row_about, is_target_in, notes_about, notes_text, passes_at, presentation_context}
-use Rattle.an_pages.specs.declared.error.PageError.TheVariants.{NoPage}
+use Rattle.an_list.specs.Listed.{StandAt}
+use Rattle.an_pages.specs.Canvas.{is_kept_in, is_row_about, is_target_in, notes_about, passes_at}
 
 -- ---- what is about a canvas
 
@@ -54,22 +47,3 @@ about_stand s who manifest canvas region =
     subst (λ rows. StandAt s.notes (filter (passes_at (is_row_about canvas region) s.notes) (readable_places s who manifest)) (filter (is_row_about canvas region) rows))
     (readable_rows s who manifest)
     (stand_passing (is_row_about canvas region) s.notes (readable_places s who manifest))
-
--- ---- which page
-
-pub count_is : (rows : List NoteState) (own total size pages : ℕ) → total ≡ length rows → size ≡ own → pages ≡ page_count total size → page_count (length rows) own ≡ pages
-count_is rows own total size pages total_is size_is is = sym (is ∙ ap (λ n. page_count n size) total_is ∙ ap (page_count (length rows)) size_is)
-
-module _ (site : Site) (whole : Whole) (rows : List NoteState) (total size page pages : ℕ) (total_is : total ≡ length rows) (size_is : size ≡ site.size) (pages_are : pages ≡ page_count total size) where
-  pub no_page : lacks_page pages page ≡ true → notes_text site whole page rows ≡ Err (NoPage pages)
-  unfolding notes_text
-  no_page off = let count = count_is rows site.size total size pages total_is size_is pages_are in rw (count, off) refl
-
-  pub found_page : (base text : List ℕ) → base ≡ site.base → lacks_page pages page ≡ false
-      → text ≡ compact_text (list_page presentation_context whole page size total (items_of (filter_map (listed_note base) (page_of page size rows))) no_items [])
-      → notes_text site whole page rows ≡ Ok text
-  unfolding notes_text
-  found_page base text base_is there is =
-      let count = count_is rows site.size total size pages total_is size_is pages_are in
-      let same = rw (base_is, total_is, size_is) at is in
-      rw (count, there) (ap Ok (sym same))

@@ -11,8 +11,8 @@ use Rattle.an_state.specs.State.{ManifestState, NoteState, LiveManifest, LiveNot
 use Rattle.an_state.specs.View.{View, manifest_in, note_in, last_kind}
 use Rattle.an_list.specs.Listed.{listed_live}
 use Rattle.an_list.specs.Site.{Site}
-use Rattle.an_pages.specs.declared.error.PageError.{PageError}
-use Rattle.an_pages.specs.declared.error.PageError.TheVariants.{Absent, Gone}
+use Rattle.an_list.specs.declared.error.ReadError.{ReadError}
+use Rattle.an_list.specs.declared.error.ReadError.TheVariants.{Absent, Gone}
 
 abbrev pub live_body : Site → ManifestState → LiveManifest → List ℕ
 live_body site row live = compact_text (dressed site.base row.name live.tree)
@@ -22,7 +22,7 @@ abbrev pub manifest_body : Site → ManifestState → Option (List ℕ)
 manifest_body site row = option_map (live_body site row) row.live
 
 -- the manifest of this name, as the view has it
-unfoldable pub manifest_of_view : Site → View → List ℕ → Result (List ℕ) PageError
+unfoldable pub manifest_of_view : Site → View → List ℕ → Result (List ℕ) ReadError
 manifest_of_view site view name =
     ok_or (option_and_then (manifest_body site) (manifest_in view name)) Absent
 
@@ -43,14 +43,14 @@ note_body site row = option_map (shown_live site row) row.live
 
 -- why an annotation isn't shown: it is gone where the last change of it that the caller saw was its
 -- deletion
-abbrev pub missing_note : View → List ℕ → List ℕ → PageError
+abbrev pub missing_note : View → List ℕ → List ℕ → ReadError
 missing_note view owner name =
     if passes is_deletion (last_kind (record { owner = Some owner; name = name }) view.seen)
     then Gone
     else Absent
 
 -- the annotation of this owner and name, as the view has it
-unfoldable pub annotation_of_view : Site → View → List ℕ → List ℕ → Result (List ℕ) PageError
+unfoldable pub annotation_of_view : Site → View → List ℕ → List ℕ → Result (List ℕ) ReadError
 annotation_of_view site view owner name =
     ok_or (option_and_then (note_body site) (note_in view owner name))
     (missing_note view owner name)

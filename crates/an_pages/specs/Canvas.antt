@@ -1,12 +1,10 @@
 -- A page of the annotations on a canvas (IIIF Presentation API 3.0, sections 5.3 and 5.5), or on a
 -- region of it.
-use Rattle.std.specs.Prelude.{ℕ, ◌+◌, ◌-◌, List, [], ◌++◌, length, filter, codes, decimal, nat_lt}
+use Rattle.std.specs.Prelude.{ℕ, ◌+◌, ◌-◌, List, [], ◌++◌, filter, codes, decimal, nat_lt}
 use Rattle.std.specs.Prelude.{bytes_eq, slice_get, Bool, true, ◌&&◌, if◌then◌else◌}
-use Rattle.std.specs.Prelude.{Option, None, Some, option_and_then, Result, Ok, Err}
-use Rattle.std.specs.List.{list_any, filter_map}
-use Rattle.serde_json.specs.Data.{Data, no_items}
-use Rattle.serde_json.specs.View.{items_of}
-use Rattle.serde_json.specs.Written.{compact_text}
+use Rattle.std.specs.Prelude.{Option, None, Some, option_and_then, Result}
+use Rattle.std.specs.List.{list_any}
+use Rattle.serde_json.specs.Data.{Data}
 use Rattle.an_base.specs.Outcome.{or_refuse, passes}
 use Rattle.an_iri.specs.Iris.{canvas_iri}
 use Rattle.an_selectors.specs.declared.region.Xywh.{Xywh}
@@ -16,12 +14,11 @@ use Rattle.an_model.specs.declared.target.Target.{Target}
 use Rattle.an_manifest.specs.Manifest.{canvases_of}
 use Rattle.an_state.specs.State.{ManifestState, NoteState}
 use Rattle.an_state.specs.View.{View, is_on, manifest_in}
-use Rattle.an_list.specs.Listed.{listed_note}
-use Rattle.an_list.specs.Page.{list_page, page_count, page_of, lacks_page}
+use Rattle.an_list.specs.Notes.{notes_text}
 use Rattle.an_list.specs.Site.{Site}
 use Rattle.an_list.specs.declared.page.Whole.{Whole}
-use Rattle.an_pages.specs.declared.error.PageError.{PageError}
-use Rattle.an_pages.specs.declared.error.PageError.TheVariants.{Absent, NoPage}
+use Rattle.an_list.specs.declared.error.ReadError.{ReadError}
+use Rattle.an_list.specs.declared.error.ReadError.TheVariants.{Absent}
 
 -- ---- regions
 
@@ -93,25 +90,12 @@ canvas_whole base name canvas region = record {
   parameters = region_form region;
 }
 
--- a page of them
-abbrev pub notes_page : Site → Whole → ℕ → List NoteState → Data
-notes_page site whole page notes =
-    list_page presentation_context whole page site.size (length notes)
-    (items_of (filter_map (listed_note site.base) (page_of page site.size notes))) no_items []
-
--- the same as text, where there is a page of this number
-unfoldable pub notes_text : Site → Whole → ℕ → List NoteState → Result (List ℕ) PageError
-notes_text site whole page notes =
-    let pages = page_count (length notes) site.size in
-    if lacks_page pages page then Err (NoPage pages)
-    else Ok (compact_text (notes_page site whole page notes))
-
 -- the answer, from the caller's view alone
 unfoldable pub canvas_page_of
-    : Site → View → List ℕ → ℕ → Option Xywh → ℕ → Result (List ℕ) PageError
+    : Site → View → List ℕ → ℕ → Option Xywh → ℕ → Result (List ℕ) ReadError
 canvas_page_of site view name canvas region page =
     or_refuse Absent (canvas_in view name canvas) (λ id.
-    notes_text site (canvas_whole site.base name canvas region) page
+    notes_text site presentation_context (canvas_whole site.base name canvas region) page [] []
     (notes_about view name id region))
 
 -- ---- for private clauses

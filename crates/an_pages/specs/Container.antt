@@ -13,14 +13,14 @@ use Rattle.an_iri.specs.Iris.{container_iri, note_iri}
 use Rattle.an_state.specs.State.{NoteState}
 use Rattle.an_state.specs.View.{View, is_on, manifest_in}
 use Rattle.an_list.specs.Listed.{listed_note}
-use Rattle.an_list.specs.Page.{page_count, page_iri, page_of, start_of, lacks_page}
+use Rattle.an_list.specs.Page.{on_page, page_count, page_iri, page_of, start_of}
 use Rattle.an_list.specs.Page.{link_after, link_before}
 use Rattle.an_list.specs.Site.{Site}
 use Rattle.an_list.specs.declared.page.PageForm.TheVariants as form
 use Rattle.an_list.specs.declared.page.Whole.{Whole}
 use Rattle.an_pages.specs.Bodies.{note_context}
-use Rattle.an_pages.specs.declared.error.PageError.{PageError}
-use Rattle.an_pages.specs.declared.error.PageError.TheVariants.{Absent, NoPage}
+use Rattle.an_list.specs.declared.error.ReadError.{ReadError}
+use Rattle.an_list.specs.declared.error.ReadError.TheVariants.{Absent}
 
 -- ---- the list that is served in pages
 
@@ -113,7 +113,7 @@ container_body site whole prefer notes =
     (items_on site.base prefer.iris (page_of 1 site.size notes)))
     site.size (length notes))
 
-unfoldable pub container_of : Site → View → List ℕ → Prefer → Result (List ℕ) PageError
+unfoldable pub container_of : Site → View → List ℕ → Prefer → Result (List ℕ) ReadError
 container_of site view name prefer =
     if is_some (manifest_in view name)
     then Ok (container_body site (container_whole site.base name prefer.iris) prefer
@@ -121,15 +121,14 @@ container_of site view name prefer =
     else Err Absent
 
 -- a page of these annotations, where there is one of this number
-unfoldable pub own_text : Site → Whole → Bool → ℕ → List NoteState → Result (List ℕ) PageError
+unfoldable pub own_text : Site → Whole → Bool → ℕ → List NoteState → Result (List ℕ) ReadError
 own_text site whole iris page notes =
-    let pages = page_count (length notes) site.size in
-    if lacks_page pages page then Err (NoPage pages)
-    else Ok (compact_text (own_page whole page site.size (length notes)
+    on_page site page (length notes)
+    (compact_text (own_page whole page site.size (length notes)
     (items_on site.base iris (page_of page site.size notes))))
 
 unfoldable pub container_page_of
-    : Site → View → List ℕ → ℕ → Bool → Result (List ℕ) PageError
+    : Site → View → List ℕ → ℕ → Bool → Result (List ℕ) ReadError
 container_page_of site view name page iris =
     if is_some (manifest_in view name)
     then own_text site (container_whole site.base name iris) iris page (notes_on view name)

@@ -1,27 +1,19 @@
-ghost use Rattle.std.specs.Prelude.{◌≡◌, ◌+◌, ◌≤◌, List, [], length};
-ghost use Rattle.std.specs.Prelude.{string_bytes, IfOk, OnOk, Some, option_map};
-ghost use Rattle.std.specs.List.{filter_map};
-ghost use Rattle.serde_json.specs.Data.{no_items};
-ghost use Rattle.serde_json.specs.View.{items_of};
-ghost use Rattle.serde_json.specs.Written.{compact_text};
+ghost use Rattle.std.specs.Prelude.{◌≡◌, ◌+◌, ◌≤◌, [], string_bytes, IfOk, Some, option_map};
 ghost use Rattle.an_base.specs.Outcome.{Gives};
-ghost use Rattle.an_policy.specs.Audience.{identity};
-ghost use Rattle.an_state.specs.State.{NoteState};
-ghost use Rattle.an_state.specs.View.{view_of};
+ghost use Rattle.an_list.specs.Cost.{Takes};
+ghost use Rattle.an_list.specs.Notes.{notes_text};
 ghost use Rattle.an_manifest.specs.Manifest.{canvases_of};
-ghost use Rattle.an_list.specs.Cost.{Takes, page_cost};
-ghost use Rattle.an_list.specs.Listed.{StandAt, listed_note};
-ghost use Rattle.an_list.specs.Page.{list_page};
+ghost use Rattle.an_policy.specs.Audience.{identity};
+ghost use Rattle.an_state.specs.View.{view_of};
 ghost use Rattle.an_pages.specs.Canvas.{canvas_at, canvas_in, row_canvas, canvas_whole};
 ghost use Rattle.an_pages.specs.Canvas.{region_form, presentation_context, notes_about};
-ghost use Rattle.an_pages.specs.Canvas.{notes_text, canvas_page_of};
+ghost use Rattle.an_pages.specs.Canvas.{canvas_page_of};
 ghost use Rattle.an_pages.specs.Cost.{about_cost, canvas_page_cost};
 
 use crate::about::places_about;
-use crate::error::PageError;
 use an_base::{Bytes, Name, Steps, Text};
 use an_iri::canvas_iri;
-use an_list::{Paging, Site, Whole, list_items, page_of, page_text};
+use an_list::{NoteList, ReadError, Site, Whole, page_of_notes};
 use an_manifest::KeptSheet;
 use an_policy::Who;
 use an_selectors::Xywh;
@@ -46,10 +38,10 @@ pub fn canvas_page<T: Look, L: Ledger>(
     page: u32,
     site: &Site,
     steps: &mut Steps<L>,
-) -> Result<Bytes, PageError>
-    ensures answer { Gives (λ body. body) PageError.Memory result (canvas_page_of site.now
+) -> Result<Bytes, ReadError>
+    ensures answer { Gives (λ body. body) ReadError.Memory result (canvas_page_of site.now
         (view_of (T.state look.now) (identity who.now)) name.now canvas region page) }
-    ensures steps { Takes PageError.Memory result steps.old steps.new
+    ensures steps { Takes ReadError.Memory result steps.old steps.new
         (canvas_page_cost site.now (view_of (T.state look.now) (identity who.now))
         name.now canvas region page) }
     ensures steps_most { steps.new ≤ steps.old
@@ -64,7 +56,7 @@ pub fn canvas_page<T: Look, L: Ledger>(
                 alloc, look, who, name, id, region, &whole, page, site, steps,
             )
         }
-        None => Err(PageError::Absent),
+        None => Err(ReadError::Absent),
     }
 }
 
@@ -125,11 +117,11 @@ fn page_about<T: Look, L: Ledger>(
     page: u32,
     site: &Site,
     steps: &mut Steps<L>,
-) -> Result<Bytes, PageError>
-    ensures body { Gives (λ body. body) PageError.Memory result
-        (notes_text site.now whole.now page (notes_about
+) -> Result<Bytes, ReadError>
+    ensures body { Gives (λ body. body) ReadError.Memory result
+        (notes_text site.now presentation_context whole.now page [] [] (notes_about
         (view_of (T.state look.now) (identity who.now)) name.now canvas.now region)) }
-    ensures steps { Takes PageError.Memory result steps.old steps.new
+    ensures steps { Takes ReadError.Memory result steps.old steps.new
         (about_cost site.now (view_of (T.state look.now) (identity who.now)) name.now
         region page canvas.now) }
     ensures steps_most { steps.new ≤ steps.old
@@ -138,68 +130,13 @@ fn page_about<T: Look, L: Ledger>(
     ensures steps_least { steps.old ≤ steps.new }
 {
     let places = places_about(alloc, look, who, name, canvas, region, steps)?;
-    page_at(alloc, look, whole, page, places.as_slice(), site, steps)
-}
-
-/// The page of this number of the annotations at these places.
-fn page_at<T: Look, L: Ledger>(
-    alloc: Global,
-    look: &T,
-    whole: &Whole,
-    page: u32,
-    places: &[usize],
-    site: &Site,
-    steps: &mut Steps<L>,
-) -> Result<Bytes, PageError>
-    ensures body { (rows : List NoteState) → StandAt (T.state look.now).notes places.now rows
-        → Gives (λ body. body) PageError.Memory result
-        (notes_text site.now whole.now page rows) }
-    ensures steps { Takes PageError.Memory result steps.old steps.new
-        (page_cost page site.now.size places.now) }
-    ensures steps_most { steps.new ≤ steps.old
-        + page_cost page site.now.size places.now }
-    ensures steps_least { steps.old ≤ steps.new }
-{
-    let paging = Paging {
-        page,
-        size: site.size(),
-        total: places.len(),
+    let list = NoteList {
+        whole,
+        context: PRESENTATION_CONTEXT,
+        terms: &[],
+        ignored: &[],
     };
-    if paging.is_past() {
-        let pages = paging.pages();
-        return Err(PageError::NoPage { pages });
-    }
-    let shown = page_of(places, paging);
-    Ok(write_page(alloc, look, whole, paging, site.base(), shown, steps)?)
-}
-
-/// The text of the page that has the annotations at these places.
-fn write_page<T: Look, L: Ledger>(
-    alloc: Global,
-    look: &T,
-    whole: &Whole,
-    paging: Paging,
-    base: &str,
-    places: &[usize],
-    steps: &mut Steps<L>,
-) -> Result<Bytes, AllocError>
-    requires few { length places.now ≤ 100 }
-    requires page { 1 ≤ paging.page }
-    requires size { 1 ≤ paging.size }
-    ensures text { (rows : List NoteState) → StandAt (T.state look.now).notes places.now rows
-        → IfOk result (λ text. text ≡ compact_text
-        (list_page presentation_context whole.now paging.page paging.size paging.total
-        (items_of (filter_map (listed_note base.now) rows)) no_items [])) }
-    ensures steps { OnOk result (steps.new ≡ steps.old
-        + length places.now) }
-    ensures steps_most { steps.new ≤ steps.old
-        + length places.now }
-    ensures steps_least { steps.old ≤ steps.new }
-{
-    let listed = list_items(alloc, look, places, &[], base, "", steps)?;
-    let items = listed.items.as_slice();
-    let text = page_text(alloc, PRESENTATION_CONTEXT, whole, paging, items, &[], &[])?;
-    Ok(text)
+    page_of_notes(alloc, look, site, &list, page, places.as_slice(), steps)
 }
 
 /// All annotations on the canvas, or on the region of it.

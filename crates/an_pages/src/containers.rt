@@ -14,12 +14,11 @@ ghost use Rattle.an_pages.specs.Container.{container_page_of, container_whole, f
 ghost use Rattle.an_pages.specs.Container.{iris_form, items_on, notes_on, own_page, own_text};
 ghost use Rattle.an_pages.specs.Cost.{container_cost, container_page_cost, first_cost};
 
-use crate::error::PageError;
 use crate::items::items_at;
 use crate::written::{container_text, held_text, own_text};
 use an_base::{Bytes, Name, Prefer, Steps, Text, push_text};
 use an_iri::container_iri;
-use an_list::{Paging, Site, Whole, page_iri, page_of};
+use an_list::{Paging, ReadError, Site, Whole, page_iri, page_of};
 use an_policy::Who;
 use an_state::{Look, shown_manifest};
 use std::alloc::{AllocError, Global};
@@ -37,10 +36,10 @@ pub fn container<T: Look, L: Ledger>(
     prefer: Prefer,
     site: &Site,
     steps: &mut Steps<L>,
-) -> Result<Bytes, PageError>
-    ensures answer { Gives (λ body. body) PageError.Memory result (container_of site.now
+) -> Result<Bytes, ReadError>
+    ensures answer { Gives (λ body. body) ReadError.Memory result (container_of site.now
         (view_of (T.state look.now) (identity who.now)) name.now prefer) }
-    ensures steps { Takes PageError.Memory result steps.old steps.new
+    ensures steps { Takes ReadError.Memory result steps.old steps.new
         (container_cost site.now (view_of (T.state look.now) (identity who.now)) name.now
         prefer) }
     ensures steps_most { steps.new ≤ steps.old
@@ -50,7 +49,7 @@ pub fn container<T: Look, L: Ledger>(
 {
     match shown_manifest(look, who, name) {
         Some(_) => Ok(container_body(alloc, look, who, name, prefer, site, steps)?),
-        None => Err(PageError::Absent),
+        None => Err(ReadError::Absent),
     }
 }
 
@@ -163,10 +162,10 @@ pub fn container_page<T: Look, L: Ledger>(
     iris: bool,
     site: &Site,
     steps: &mut Steps<L>,
-) -> Result<Bytes, PageError>
-    ensures answer { Gives (λ body. body) PageError.Memory result (container_page_of site.now
+) -> Result<Bytes, ReadError>
+    ensures answer { Gives (λ body. body) ReadError.Memory result (container_page_of site.now
         (view_of (T.state look.now) (identity who.now)) name.now page iris) }
-    ensures steps { Takes PageError.Memory result steps.old steps.new
+    ensures steps { Takes ReadError.Memory result steps.old steps.new
         (container_page_cost site.now (view_of (T.state look.now) (identity who.now))
         name.now page) }
     ensures steps_most { steps.new ≤ steps.old
@@ -176,7 +175,7 @@ pub fn container_page<T: Look, L: Ledger>(
 {
     match shown_manifest(look, who, name) {
         Some(_) => page_shown(alloc, look, who, name, page, iris, site, steps),
-        None => Err(PageError::Absent),
+        None => Err(ReadError::Absent),
     }
 }
 
@@ -189,11 +188,11 @@ fn page_shown<T: Look, L: Ledger>(
     iris: bool,
     site: &Site,
     steps: &mut Steps<L>,
-) -> Result<Bytes, PageError>
-    ensures body { Gives (λ body. body) PageError.Memory result (own_text site.now
+) -> Result<Bytes, ReadError>
+    ensures body { Gives (λ body. body) ReadError.Memory result (own_text site.now
         (container_whole site.now.base name.now iris) iris page
         (notes_on (view_of (T.state look.now) (identity who.now)) name.now)) }
-    ensures steps { Takes PageError.Memory result steps.old steps.new
+    ensures steps { Takes ReadError.Memory result steps.old steps.new
         (page_cost page site.now.size (notes_on (view_of (T.state look.now) (identity who.now))
         name.now)) }
     ensures steps_most { steps.new ≤ steps.old
@@ -225,27 +224,23 @@ fn page_at<T: Look, L: Ledger>(
     places: &[usize],
     site: &Site,
     steps: &mut Steps<L>,
-) -> Result<Bytes, PageError>
+) -> Result<Bytes, ReadError>
     ensures body { (rows : List NoteState) → StandAt (T.state look.now).notes places.now rows
-        → Gives (λ body. body) PageError.Memory result
+        → Gives (λ body. body) ReadError.Memory result
         (own_text site.now whole.now iris page rows) }
-    ensures steps { Takes PageError.Memory result steps.old steps.new
+    ensures steps { Takes ReadError.Memory result steps.old steps.new
         (page_cost page site.now.size places.now) }
     ensures steps_most { steps.new ≤ steps.old
         + page_cost page site.now.size places.now }
     ensures steps_least { steps.old ≤ steps.new }
 {
-    let paging = Paging {
-        page,
-        size: site.size(),
-        total: places.len(),
-    };
-    if paging.is_past() {
-        let pages = paging.pages();
-        return Err(PageError::NoPage { pages });
+    match Paging::checked(site, page, places.len()) {
+        Ok(paging) => {
+            let shown = page_of(places, paging);
+            Ok(write_page(alloc, look, whole, paging, shown, site.base(), iris, steps)?)
+        }
+        Err(error) => Err(error),
     }
-    let shown = page_of(places, paging);
-    Ok(write_page(alloc, look, whole, paging, shown, site.base(), iris, steps)?)
 }
 
 /// The text of the page that has the annotations at these places.

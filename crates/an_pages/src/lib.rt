@@ -3,20 +3,18 @@
 //!
 //! ```text
 //! annotation(alloc, &look, &who, &owner, &name, &site)   Ok(body) where `who` may read it,
-//!     Err(PageError::Gone) where it could once, and else Err(PageError::Absent)
+//!     Err(ReadError::Gone) where it could once, and else Err(ReadError::Absent)
 //! ```
 #![tactic(auto)]
 
 pub use canvas::canvas_page;
 pub use containers::{container, container_page};
-pub use error::PageError;
 pub use manifest::manifest_answer;
-pub use note::annotation;
+pub use note::{annotation, missing_note};
 
 mod about;
 mod canvas;
 mod containers;
-mod error;
 mod items;
 mod manifest;
 mod note;

@@ -6,10 +6,9 @@ ghost use Rattle.an_state.specs.View.{view_of};
 ghost use Rattle.an_served.specs.Manifest.{dressed};
 ghost use Rattle.an_pages.specs.Bodies.{manifest_body, manifest_of_view};
 
-use crate::error::PageError;
 use an_base::{Bytes, Name};
 use an_keyed::Keyed;
-use an_list::Site;
+use an_list::{ReadError, Site};
 use an_manifest::KeptSheet;
 use an_policy::Who;
 use an_served::push_manifest;
@@ -26,19 +25,19 @@ pub fn manifest_answer<T: Look>(
     who: &Who<'_>,
     name: &Name,
     site: &Site,
-) -> Result<Bytes, PageError>
-    ensures answer { Gives (λ body. body) PageError.Memory result (manifest_of_view site.now
+) -> Result<Bytes, ReadError>
+    ensures answer { Gives (λ body. body) ReadError.Memory result (manifest_of_view site.now
         (view_of (T.state look.now) (identity who.now)) name.now) }
 {
     match shown_manifest(look, who, name) {
         Some(row) => match row_body(alloc, row, site) {
             Ok(body) => match body {
                 Some(body) => Ok(body),
-                None => Err(PageError::Absent),
+                None => Err(ReadError::Absent),
             },
-            Err(_) => Err(PageError::Memory),
+            Err(_) => Err(ReadError::Memory),
         },
-        None => Err(PageError::Absent),
+        None => Err(ReadError::Absent),
     }
 }
 

@@ -6,11 +6,10 @@ ghost use Rattle.an_state.specs.Live.{lent_note};
 ghost use Rattle.an_state.specs.View.{note_in, view_of};
 ghost use Rattle.an_pages.specs.Bodies.{shown_live, note_body, missing_note, annotation_of_view};
 
-use crate::error::PageError;
 use an_base::{Bytes, Name};
 use an_iri::note_iri;
 use an_keyed::Keyed;
-use an_list::Site;
+use an_list::{ReadError, Site};
 use an_policy::{Kind, Who};
 use an_served::push_shown;
 use an_state::{LiveNote, Look, NoteRow, shown_note};
@@ -31,16 +30,16 @@ pub fn annotation<T: Look>(
     owner: &Name,
     name: &Name,
     site: &Site,
-) -> Result<Bytes, PageError>
-    ensures answer { Gives (λ body. body) PageError.Memory result (annotation_of_view site.now
+) -> Result<Bytes, ReadError>
+    ensures answer { Gives (λ body. body) ReadError.Memory result (annotation_of_view site.now
         (view_of (T.state look.now) (identity who.now)) owner.now name.now) }
 {
     match shown_body(alloc, look, who, owner, name, site) {
         Ok(body) => match body {
             Some(body) => Ok(body),
-            None => Err(missing(look, who, owner, name)),
+            None => Err(missing_note(look, who, owner, name)),
         },
-        Err(_) => Err(PageError::Memory),
+        Err(_) => Err(ReadError::Memory),
     }
 }
 
@@ -62,18 +61,20 @@ fn shown_body<T: Look>(
     }
 }
 
-/// Why the annotation isn't shown to the caller.
-fn missing<T: Look>(look: &T, who: &Who<'_>, owner: &Name, name: &Name) -> PageError
-    ensures { result
+/// Why an annotation that the caller may not read isn't shown: it is gone where the last change of
+/// it that the caller sees, by the groups it has now, is its deletion or its move out of sight, and
+/// absent otherwise. Takes no memory.
+pub fn missing_note<T: Look>(look: &T, who: &Who<'_>, owner: &Name, name: &Name) -> ReadError
+    ensures why { result
         ≡ missing_note (view_of (T.state look.now) (identity who.now)) owner.now name.now }
 {
     match look.last_change(who, Some(owner), name) {
         Some(kind) => if is_deletion(kind) {
-            PageError::Gone
+            ReadError::Gone
         } else {
-            PageError::Absent
+            ReadError::Absent
         },
-        None => PageError::Absent,
+        None => ReadError::Absent,
     }
 }
 

@@ -13,7 +13,6 @@ use Rattle.an_base.specs.declared.tree.TreeError.{TreeError}
 use Rattle.an_code.specs.declared.code.Code.{Code}
 use Rattle.an_code.specs.declared.code.Code.TheVariants as code
 use Rattle.an_code.specs.declared.parameter.Parameter.TheVariants as parameter
-use Rattle.an_complete.specs.Ask.{ask_of}
 use Rattle.an_http.specs.declared.method.Method.{Method}
 use Rattle.an_http.specs.declared.method.Method.TheVariants.{Get, Head, Options, Put, Delete}
 use Rattle.an_policy.specs.Group.{group_named, is_valid_group}
@@ -22,7 +21,6 @@ use Rattle.an_policy.specs.declared.inner.Inner.{Inner}
 use Rattle.an_policy.proofs.GroupLemmas.{valid}
 use Rattle.an_query.specs.Given.{number_in, value_of}
 use Rattle.an_query.specs.Given as given
-use Rattle.an_query.specs.Query.{query_of}
 use Rattle.an_query.specs.declared.pairs.Pair.{Pair}
 use Rattle.an_state.specs.Commands.{is_number, is_sendable}
 use Rattle.an_state.specs.declared.command.Command.{Command}
@@ -31,14 +29,12 @@ use Rattle.an_state.specs.declared.command.Object.{Object}
 use Rattle.an_state.specs.declared.command.Object.TheVariants as object
 use Rattle.an_routes.specs.Commands.{command_of, is_sendable_route, is_sendable_write, with_tree}
 use Rattle.an_routes.specs.Paths.{delete_reads, kind_of, methods_of, object_kind, path_of, row_of}
-use Rattle.an_routes.specs.Query.{and_then, given_of, group_in, group_of, inner_of, manifest_of, version_of}
-use Rattle.an_routes.specs.Routes.{ask_refused, delete_at, deletion, deletion_of, grouped, manifest_put, meant_at, numbered, object_read, put_at, put_of, put_with, query_refused, read_at, read_by, route_at, route_of, route_to, told, written}
+use Rattle.an_routes.specs.Query.{given_of, group_in, group_of, inner_of, manifest_of, version_of}
+use Rattle.an_routes.specs.Routes.{delete_at, deletion, deletion_of, grouped, manifest_put, meant_at, numbered, put_at, put_of, put_with, read_at, reading, route_at, route_of, route_to, told, written}
 use Rattle.an_routes.specs.Target.{segments_of, target_parts}
-use Rattle.an_routes.specs.declared.paths.Kind.TheVariants as kind
 use Rattle.an_routes.specs.declared.paths.Path.{Path}
 use Rattle.an_routes.specs.declared.paths.Path.TheVariants as path
 use Rattle.an_routes.specs.declared.kinds.Read.{Read}
-use Rattle.an_routes.specs.declared.kinds.Read.TheVariants as read
 use Rattle.an_routes.specs.declared.kinds.Route.{Route}
 use Rattle.an_routes.specs.declared.kinds.Route.TheVariants as route
 use Rattle.an_routes.specs.declared.kinds.RouteError.{RouteError}
@@ -135,48 +131,24 @@ means-written (Err refusal) is = tt
 
 means-put : (at : Path) (query : List ℕ) → Means (put_at at query)
 means-put (path.Object what) query = means-written (put_of what query) (writes-numbered (given_of (row_of (object_kind what)).put query) (put_with what) (writes-put what))
-means-put (path.Search manifest) query = tt
-means-put (path.Complete manifest) query = tt
-means-put (path.Canvas manifest canvas) query = tt
-means-put (path.Container manifest) query = tt
-means-put path.Changes query = tt
+means-put _ query = tt
 
 means-delete : (at : Path) (query : List ℕ) → Means (delete_at at query)
 means-delete (path.Object what) query =
     means-written (deletion_of what query)
     (writes-numbered (given_of delete_reads query) (λ pairs version. Ok (deletion what version)) (λ pairs version. writes-deletion what version))
-means-delete (path.Search manifest) query = tt
-means-delete (path.Complete manifest) query = tt
-means-delete (path.Canvas manifest canvas) query = tt
-means-delete (path.Container manifest) query = tt
-means-delete path.Changes query = tt
+means-delete _ query = tt
 
 -- a read writes nothing
-reads : {A E : Type 0} (make : A → Read) (refuse : E → Unrouted) (found : Result A E) → Means (result_map_both (λ x. route.Read (make x)) refuse found)
-reads make refuse (Ok x) = refl
-reads make refuse (Err e) = tt
-
-reads-by : (pairs : Result (List Pair) Code) (next : List Pair → Result Read Code) → Means (read_by pairs next)
-reads-by pairs next = reads (λ its. its) unrouted.Query (and_then pairs next)
-
-means-object : (what : Object) (query : List ℕ) → Means (object_read what query)
-means-object (object.Reader name) query = tt
-means-object (object.Manifest name) query = reads-by (given_of (row_of kind.Manifest).get query) _
-means-object (object.Note owner name) query = reads-by (given_of (row_of kind.Note).get query) _
-
-means-read : (at : Path) (query : List ℕ) → Means (read_at at query)
-means-read (path.Object what) query = means-object what query
-means-read (path.Search manifest) query = reads (read.Search manifest) query_refused (query_of (row_of kind.Search).get query)
-means-read (path.Complete manifest) query = reads (read.Complete manifest) ask_refused (ask_of query)
-means-read (path.Canvas manifest canvas) query = reads-by (given_of (row_of kind.Canvas).get query) _
-means-read (path.Container manifest) query = reads-by (given_of (row_of kind.Container).get query) _
-means-read path.Changes query = reads-by (given_of (row_of kind.Changes).get query) _
+means-read : (found : Result Read Unrouted) → Means (reading found)
+means-read (Ok read) = refl
+means-read (Err why) = tt
 
 means-at : (at : Path) (query : List ℕ) (method : Option Method) → Means (meant_at at query method)
 means-at at query None = tt
 means-at at query (Some Options) = refl
-means-at at query (Some Get) = means-read at query
-means-at at query (Some Head) = means-read at query
+means-at at query (Some Get) = means-read (read_at at query)
+means-at at query (Some Head) = means-read (read_at at query)
 means-at at query (Some Put) = means-put at query
 means-at at query (Some Delete) = means-delete at query
 

@@ -1,6 +1,7 @@
 -- The paths of the server: the table of their kinds, and the path of a target's segments.
 use Rattle.std.specs.Prelude.{ℕ, List, [], ◌∷◌, bytes_eq, codes, if◌then◌else◌, Option, Some, None}
-use Rattle.std.specs.Prelude.{option_and_then, option_map, length, ◌==◌, not}
+use Rattle.std.specs.Prelude.{option_and_then, option_map, length, ◌==◌}
+use Rattle.an_base.specs.Name.{name_in}
 use Rattle.an_code.specs.declared.parameter.Parameter.{Parameter}
 use Rattle.an_code.specs.declared.parameter.Parameter.TheVariants.{Version, Manifest, Group, Page}
 use Rattle.an_code.specs.declared.parameter.Parameter.TheVariants.{Iris, Xywh}
@@ -11,7 +12,6 @@ use Rattle.an_query.specs.Given.{number_in}
 use Rattle.an_query.specs.Query.{search_parameters}
 use Rattle.an_state.specs.declared.command.Object.{Object}
 use Rattle.an_state.specs.declared.command.Object.TheVariants as object
-use Rattle.an_routes.specs.Query.{name_in}
 use Rattle.an_routes.specs.declared.paths.Kind.{Kind}
 use Rattle.an_routes.specs.declared.paths.Kind.TheVariants as kind
 use Rattle.an_routes.specs.declared.paths.Path.{Path}
@@ -28,6 +28,10 @@ pub record Row : Type 0 where
 abbrev pub row : Allow → List Parameter → List Parameter → Row
 row methods get put = record { methods = methods; get = get; put = put }
 
+-- a GET that reads only which page is asked for
+abbrev pub page_reads : List Parameter
+page_reads = Page ∷ []
+
 -- the kinds of paths, each with its methods, what a GET reads, and what a PUT reads
 abbrev pub row_of : Kind → Row
 row_of kind.Reader = row WriteOnly [] (Version ∷ [])
@@ -37,7 +41,9 @@ row_of kind.Search = row ReadOnly search_parameters []
 row_of kind.Complete = row ReadOnly ask_parameters []
 row_of kind.Canvas = row ReadOnly (Page ∷ Xywh ∷ []) []
 row_of kind.Container = row ReadOnly (Page ∷ Iris ∷ []) []
-row_of kind.Changes = row ReadOnly (Page ∷ []) []
+row_of kind.Changes = row ReadOnly page_reads []
+row_of kind.Anchors = row ReadOnly page_reads []
+row_of kind.Orphans = row ReadOnly page_reads []
 
 abbrev pub methods_of : Kind → Allow
 methods_of kind = (row_of kind).methods
@@ -60,26 +66,24 @@ kind_of (path.Complete manifest) = kind.Complete
 kind_of (path.Canvas manifest canvas) = kind.Canvas
 kind_of (path.Container manifest) = kind.Container
 kind_of path.Changes = kind.Changes
+kind_of (path.Anchors owner name) = kind.Anchors
+kind_of (path.Orphans manifest) = kind.Orphans
 
--- ---- the path of segments
+-- ---- the path of segments: the words that are said first, and the names behind them
 
 -- `/changes`
-abbrev pub path_alone : List ℕ → Option Path
-path_alone kind = if bytes_eq kind (codes "changes") then Some path.Changes else None
+abbrev pub changes_path : List (List ℕ) → Option Path
+changes_path [] = Some path.Changes
+changes_path _ = None
 
--- `/readers/N`, `/manifests/M`, `/search/M` and `/autocomplete/M`
-abbrev pub path_named : List ℕ → List ℕ → Option Path
-path_named kind name =
-    if bytes_eq kind (codes "readers") then Some (path.Object (object.Reader name))
-    else (if bytes_eq kind (codes "manifests") then Some (path.Object (object.Manifest name))
-    else (if bytes_eq kind (codes "search") then Some (path.Search name)
-    else (if bytes_eq kind (codes "autocomplete") then Some (path.Complete name) else None)))
+-- the name that segments are, if they are one alone
+abbrev pub name_alone : List (List ℕ) → Option (List ℕ)
+name_alone (name ∷ []) = name_in name
+name_alone _ = None
 
--- `/annotations/OWNER/N`
-abbrev pub path_owned : List ℕ → List ℕ → List ℕ → Option Path
-path_owned kind owner name =
-    if bytes_eq kind (codes "annotations") then Some (path.Object (object.Note owner name))
-    else None
+-- a word and a name alone
+abbrev pub named_path : (List ℕ → Path) → List (List ℕ) → Option Path
+named_path path rest = option_map path (name_alone rest)
 
 -- `/manifests/M/annotations/`, with nothing behind the last `/`
 abbrev pub container_path : List ℕ → List ℕ → Option Path
@@ -90,19 +94,52 @@ container_path manifest last =
 abbrev pub canvas_path : List ℕ → List ℕ → Option Path
 canvas_path manifest last = option_map (path.Canvas manifest) (number_in last)
 
-abbrev pub path_within : List ℕ → List ℕ → List ℕ → List ℕ → Option Path
-path_within kind manifest part last =
-    if not (bytes_eq kind (codes "manifests")) then None
-    else (if bytes_eq part (codes "annotations") then container_path manifest last
-    else (if bytes_eq part (codes "canvases") then canvas_path manifest last else None))
+-- `/manifests/M/orphans`
+abbrev pub orphans_path : List ℕ → List ℕ → Option Path
+orphans_path manifest part =
+    if bytes_eq part (codes "orphans") then Some (path.Orphans manifest) else None
+
+-- what stands behind the name of a manifest
+abbrev pub manifest_part : List ℕ → List (List ℕ) → Option Path
+manifest_part manifest [] = Some (path.Object (object.Manifest manifest))
+manifest_part manifest (part ∷ []) = orphans_path manifest part
+manifest_part manifest (part ∷ last ∷ []) =
+    if bytes_eq part (codes "annotations") then container_path manifest last
+    else (if bytes_eq part (codes "canvases") then canvas_path manifest last else None)
+manifest_part manifest _ = None
+
+-- `/manifests/M`, and what stands behind it
+abbrev pub manifest_path : List (List ℕ) → Option Path
+manifest_path (name ∷ rest) =
+    option_and_then (λ manifest. manifest_part manifest rest) (name_in name)
+manifest_path [] = None
+
+-- `/annotations/OWNER/N/anchors`
+abbrev pub anchors_path : List ℕ → List ℕ → List ℕ → Option Path
+anchors_path owner name part =
+    if bytes_eq part (codes "anchors") then Some (path.Anchors owner name) else None
+
+-- what stands behind the names of an annotation
+abbrev pub note_part : List ℕ → List ℕ → List (List ℕ) → Option Path
+note_part owner name [] = Some (path.Object (object.Note owner name))
+note_part owner name (part ∷ []) = anchors_path owner name part
+note_part owner name _ = None
+
+-- `/annotations/OWNER/N`, and what stands behind it
+abbrev pub note_path : List (List ℕ) → Option Path
+note_path (owner ∷ name ∷ rest) =
+    option_and_then (λ owner. option_and_then (λ name. note_part owner name rest) (name_in name))
+    (name_in owner)
+note_path _ = None
 
 -- the path of these segments; N, M and OWNER are names
-abbrev pub path_of : List (List ℕ) → Option Path
-path_of (kind ∷ []) = path_alone kind
-path_of (kind ∷ name ∷ []) = option_and_then (path_named kind) (name_in name)
-path_of (kind ∷ owner ∷ name ∷ []) =
-    option_and_then (λ owner. option_and_then (path_owned kind owner) (name_in name))
-    (name_in owner)
-path_of (kind ∷ name ∷ part ∷ last ∷ []) =
-    option_and_then (λ name. path_within kind name part last) (name_in name)
-path_of _ = None
+unfoldable pub path_of : List (List ℕ) → Option Path
+path_of [] = None
+path_of (kind ∷ rest) =
+    if bytes_eq kind (codes "readers")
+    then named_path (λ name. path.Object (object.Reader name)) rest
+    else (if bytes_eq kind (codes "manifests") then manifest_path rest
+    else (if bytes_eq kind (codes "annotations") then note_path rest
+    else (if bytes_eq kind (codes "search") then named_path path.Search rest
+    else (if bytes_eq kind (codes "autocomplete") then named_path path.Complete rest
+    else (if bytes_eq kind (codes "changes") then changes_path rest else None)))))

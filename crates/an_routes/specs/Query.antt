@@ -1,8 +1,9 @@
 -- What a query gives to a route (URL Standard, section 5.1).
 use Rattle.std.specs.Prelude.{ℕ, List, Option, Some, None, option_map, option_and_then}
 use Rattle.std.specs.Prelude.{Result, Ok, Err, Bool, true, false, bytes_eq, codes, if◌then◌else◌}
-use Rattle.an_base.specs.Name.{is_name}
-use Rattle.an_base.specs.Outcome.{only_if, or_refuse, unless}
+use Rattle.std.specs.Prelude.{unwrap_or}
+use Rattle.an_base.specs.Name.{name_in}
+use Rattle.an_base.specs.Outcome.{or_refuse, unless}
 use Rattle.an_code.specs.declared.code.Code.{Code}
 use Rattle.an_code.specs.declared.code.Code.TheVariants as code
 use Rattle.an_code.specs.declared.parameter.Parameter.{Parameter}
@@ -31,9 +32,6 @@ given_of reads query =
 -- a number from 1 to 999,999,999
 abbrev pub version_of : List Pair → Option ℕ
 version_of given = option_and_then number_in (value_of parameter.Version given)
-
-abbrev pub name_in : List ℕ → Option (List ℕ)
-name_in text = only_if is_name text
 
 abbrev pub manifest_of : List Pair → Option (List ℕ)
 manifest_of given = option_and_then name_in (value_of parameter.Manifest given)
@@ -66,6 +64,10 @@ and_then (Err refusal) next = Err refusal
 
 abbrev pub page_of : List Pair → Result (Option ℕ) Code
 page_of given = given_as code.Page number_in (value_of parameter.Page given)
+
+-- the first page where none is asked for
+abbrev pub page_or_first : List Pair → Result ℕ Code
+page_or_first given = and_then (page_of given) (λ page. Ok (unwrap_or page 1))
 
 abbrev pub iris_in : Option (List ℕ) → Result Bool Code
 iris_in None = Ok false

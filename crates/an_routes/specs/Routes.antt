@@ -1,5 +1,5 @@
 -- The routes: what each method means at each path.
-use Rattle.std.specs.Prelude.{ℕ, List, Option, Some, None, option_and_then, unwrap_or, Bool}
+use Rattle.std.specs.Prelude.{ℕ, List, Option, Some, None, option_and_then, Bool}
 use Rattle.std.specs.Prelude.{Result, Ok, Err}
 use Rattle.std.specs.Result.{result_map_both}
 use Rattle.an_base.specs.Outcome.{or_refuse}
@@ -18,8 +18,8 @@ use Rattle.an_query.specs.declared.query.QueryError.TheVariants as no_query
 use Rattle.an_state.specs.declared.command.Object.{Object}
 use Rattle.an_state.specs.declared.command.Object.TheVariants as object
 use Rattle.an_routes.specs.Paths.{row_of, methods_of, delete_reads, object_kind, kind_of, path_of}
-use Rattle.an_routes.specs.Query.{given_of, version_of, manifest_of, group_of, inner_of, page_of, iris_of}
-use Rattle.an_routes.specs.Query.{and_then, region_of}
+use Rattle.an_routes.specs.Query.{and_then, given_of, group_of, inner_of, iris_of, manifest_of}
+use Rattle.an_routes.specs.Query.{page_of, page_or_first, region_of, version_of}
 use Rattle.an_routes.specs.Target.{target_parts, segments_of}
 use Rattle.an_routes.specs.declared.paths.Kind.{Kind}
 use Rattle.an_routes.specs.declared.paths.Kind.TheVariants as kind
@@ -96,9 +96,8 @@ query_refused no_query.Page = unrouted.Query code.Page
 query_refused no_query.Bytes = unrouted.Query code.Bytes
 query_refused no_query.Memory = unrouted.Memory
 
-abbrev pub searched : List ℕ → Result QueryRecord QueryError → Result Route Unrouted
-searched manifest =
-    result_map_both (λ query. route.Read (read.Search manifest query)) query_refused
+abbrev pub searched : List ℕ → Result QueryRecord QueryError → Result Read Unrouted
+searched manifest = result_map_both (read.Search manifest) query_refused
 
 abbrev pub ask_refused : QueryAskError → Unrouted
 ask_refused no_ask.NoPrefix = unrouted.Query code.Prefix
@@ -108,51 +107,58 @@ ask_refused (no_ask.Date at) = unrouted.Query (code.Date at)
 ask_refused no_ask.Bytes = unrouted.Query code.Bytes
 ask_refused no_ask.Memory = unrouted.Memory
 
-abbrev pub completed : List ℕ → Result AskRecord QueryAskError → Result Route Unrouted
-completed manifest =
-    result_map_both (λ ask. route.Read (read.Complete manifest ask)) ask_refused
+abbrev pub completed : List ℕ → Result AskRecord QueryAskError → Result Read Unrouted
+completed manifest = result_map_both (read.Complete manifest) ask_refused
 
 -- what is read by what is given, or the refusal of that
 abbrev pub read_by : Result (List Pair) Code → (List Pair → Result Read Code)
-    → Result Route Unrouted
-read_by given read = result_map_both route.Read unrouted.Query (and_then given read)
+    → Result Read Unrouted
+read_by given read = result_map_both (λ read. read) unrouted.Query (and_then given read)
 
 -- a read that no parameter changes
-abbrev pub shown : Read → Result (List Pair) Code → Result Route Unrouted
+abbrev pub shown : Read → Result (List Pair) Code → Result Read Unrouted
 shown read given = read_by given (λ given. Ok read)
 
 abbrev pub changes_at : Option ℕ → Read
 changes_at (Some page) = read.ChangesPage page
 changes_at None = read.Changes
 
-abbrev pub changes_read : Result (List Pair) Code → Result Route Unrouted
-changes_read given = read_by given (λ given. and_then (page_of given) (λ page. Ok (changes_at page)))
+abbrev pub changes_read : Result (List Pair) Code → Result Read Unrouted
+changes_read given =
+    read_by given (λ given. and_then (page_of given) (λ page. Ok (changes_at page)))
 
 abbrev pub container_at : List ℕ → Option ℕ → Bool → Read
 container_at manifest (Some page) iris = read.ContainerPage manifest page iris
 container_at manifest None iris = read.Container manifest iris
 
 -- the page, and then whether IRIs are asked for
-abbrev pub container_read : List ℕ → Result (List Pair) Code → Result Route Unrouted
+abbrev pub container_read : List ℕ → Result (List Pair) Code → Result Read Unrouted
 container_read manifest given =
     read_by given (λ given. and_then (page_of given) (λ page.
     and_then (iris_of given) (λ iris. Ok (container_at manifest page iris))))
 
 -- the page, the first where none is asked for, and then the region
-abbrev pub canvas_read : List ℕ → ℕ → Result (List Pair) Code → Result Route Unrouted
+abbrev pub canvas_read : List ℕ → ℕ → Result (List Pair) Code → Result Read Unrouted
 canvas_read manifest canvas given =
-    read_by given (λ given. and_then (page_of given) (λ page.
-    and_then (region_of given) (λ region.
-    Ok (read.Canvas manifest canvas region (unwrap_or page 1)))))
+    read_by given (λ given. and_then (page_or_first given) (λ page.
+    and_then (region_of given) (λ region. Ok (read.Canvas manifest canvas region page))))
 
-abbrev pub object_read : Object → List ℕ → Result Route Unrouted
+-- the page that is asked for, the first where none is, or the refusal of what is given
+abbrev pub page_asked : Result (List Pair) Code → Result ℕ Unrouted
+page_asked given = result_map_both (λ page. page) unrouted.Query (and_then given page_or_first)
+
+-- that page
+abbrev pub page_read : (ℕ → Read) → Result (List Pair) Code → Result Read Unrouted
+page_read read given = result_map_both read (λ why. why) (page_asked given)
+
+abbrev pub object_read : Object → List ℕ → Result Read Unrouted
 object_read (object.Reader name) query = Err unrouted.Method
 object_read (object.Manifest name) query =
     shown (read.Manifest name) (given_of (row_of kind.Manifest).get query)
 object_read (object.Note owner name) query =
     shown (read.Note owner name) (given_of (row_of kind.Note).get query)
 
-abbrev pub read_at : Path → List ℕ → Result Route Unrouted
+abbrev pub read_at : Path → List ℕ → Result Read Unrouted
 read_at (path.Object object) query = object_read object query
 read_at (path.Search manifest) query = searched manifest (query_of (row_of kind.Search).get query)
 read_at (path.Complete manifest) query = completed manifest (ask_of query)
@@ -161,15 +167,22 @@ read_at (path.Canvas manifest canvas) query =
 read_at (path.Container manifest) query =
     container_read manifest (given_of (row_of kind.Container).get query)
 read_at path.Changes query = changes_read (given_of (row_of kind.Changes).get query)
+read_at (path.Anchors owner name) query =
+    page_read (read.Anchors owner name) (given_of (row_of kind.Anchors).get query)
+read_at (path.Orphans manifest) query =
+    page_read (read.Orphans manifest) (given_of (row_of kind.Orphans).get query)
 
 -- ---- all routes
+
+abbrev pub reading : Result Read Unrouted → Result Route Unrouted
+reading = result_map_both route.Read (λ why. why)
 
 -- what a method means at a path; HEAD is GET without the body (RFC 9110, section 9.3.2)
 abbrev pub meant_at : Path → List ℕ → Option Method → Result Route Unrouted
 meant_at path query None = Err unrouted.Method
 meant_at path query (Some Options) = Ok (route.Options (methods_of (kind_of path)))
-meant_at path query (Some Get) = read_at path query
-meant_at path query (Some Head) = read_at path query
+meant_at path query (Some Get) = reading (read_at path query)
+meant_at path query (Some Head) = reading (read_at path query)
 meant_at path query (Some Put) = put_at path query
 meant_at path query (Some Delete) = delete_at path query
 
@@ -205,6 +218,8 @@ read_kind (read.Container manifest iris) = kind.Container
 read_kind (read.ContainerPage manifest page iris) = kind.Container
 read_kind read.Changes = kind.Changes
 read_kind (read.ChangesPage page) = kind.Changes
+read_kind (read.Anchors owner name page) = kind.Anchors
+read_kind (read.Orphans manifest page) = kind.Orphans
 
 abbrev pub read_methods : Read → Allow
 read_methods read = methods_of (read_kind read)

@@ -53,6 +53,17 @@ pub enum Read {
     ChangesPage {
         page: u32,
     },
+    /// A page of the comments on an annotation, each with where it holds in its texts.
+    Anchors {
+        owner: Name,
+        name: Name,
+        page: u32,
+    },
+    /// A page of the comments on a manifest that have lost what they are about.
+    Orphans {
+        manifest: Name,
+        page: u32,
+    },
 }
 
 /// What is written: a command without its tree.
@@ -143,6 +154,8 @@ impl Read {
             Read::ContainerPage { .. } => Kind::Container,
             Read::Changes => Kind::Changes,
             Read::ChangesPage { .. } => Kind::Changes,
+            Read::Anchors { .. } => Kind::Anchors,
+            Read::Orphans { .. } => Kind::Orphans,
         }
     }
 }

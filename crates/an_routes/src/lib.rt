@@ -8,7 +8,6 @@
 
 pub use commands::{command_of, routes_are_sendable};
 pub use kinds::{Read, Route, RouteError, WriteRoute};
-pub use query::name_in;
 pub use routes::route;
 pub use target::cut;
 

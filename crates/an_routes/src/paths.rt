@@ -1,13 +1,13 @@
 //! The paths of the server: the table of their kinds, and the path of a target's segments.
 ghost use Rattle.std.specs.Prelude.{◌≡◌, IfOk, option_and_then};
-ghost use Rattle.an_routes.specs.Paths.{container_path, canvas_path, kind_of, methods_of};
-ghost use Rattle.an_routes.specs.Paths.{object_kind, path_alone, path_named, path_of, path_owned};
-ghost use Rattle.an_routes.specs.Paths.{path_within, row_of};
+ghost use Rattle.an_routes.specs.Paths.{anchors_path, canvas_path, changes_path, container_path};
+ghost use Rattle.an_routes.specs.Paths.{kind_of, manifest_part, manifest_path, methods_of};
+ghost use Rattle.an_routes.specs.Paths.{name_alone, named_path, note_part, note_path, object_kind};
+ghost use Rattle.an_routes.specs.Paths.{orphans_path, path_of, row_of};
 ghost use Rattle.an_routes.specs.Target.{segments_of};
 
-use crate::query::name_in;
 use crate::target::segments_of;
-use an_base::{Name, Text};
+use an_base::{Name, Text, name_in};
 use an_code::Parameter;
 use an_http::Allow;
 use an_query::number_in;
@@ -33,6 +33,10 @@ pub(crate) enum Kind {
     Container,
     /// `/changes`
     Changes,
+    /// `/annotations/OWNER/N/anchors`
+    Anchors,
+    /// `/manifests/M/orphans`
+    Orphans,
 }
 
 impl Kind {
@@ -49,6 +53,8 @@ impl Kind {
             Kind::Canvas => Allow::ReadOnly,
             Kind::Container => Allow::ReadOnly,
             Kind::Changes => Allow::ReadOnly,
+            Kind::Anchors => Allow::ReadOnly,
+            Kind::Orphans => Allow::ReadOnly,
         }
     }
 }
@@ -62,8 +68,8 @@ pub(crate) const CANVAS_READS: [Parameter; 2] = [Parameter::Page, Parameter::Xyw
 /// Those of a GET of a container.
 pub(crate) const CONTAINER_READS: [Parameter; 2] = [Parameter::Page, Parameter::Iris];
 
-/// Those of a GET of the changes.
-pub(crate) const CHANGES_READS: [Parameter; 1] = [Parameter::Page];
+/// Those of a GET of the changes, or of comments.
+pub(crate) const PAGE_READS: [Parameter; 1] = [Parameter::Page];
 
 /// Those of a PUT of a reader, and of each DELETE.
 pub(crate) const NUMBER_READS: [Parameter; 1] = [Parameter::Version];
@@ -99,6 +105,8 @@ pub(crate) enum Path {
     Canvas { manifest: Name, canvas: u32 },
     Container { manifest: Name },
     Changes,
+    Anchors { owner: Name, name: Name },
+    Orphans { manifest: Name },
 }
 
 impl Path {
@@ -112,6 +120,8 @@ impl Path {
             Path::Canvas { .. } => Kind::Canvas,
             Path::Container { .. } => Kind::Container,
             Path::Changes => Kind::Changes,
+            Path::Anchors { .. } => Kind::Anchors,
+            Path::Orphans { .. } => Kind::Orphans,
         }
     }
 }
@@ -137,48 +147,109 @@ pub(crate) fn path_in(alloc: Global, path: &str) -> Result<Option<Path>, AllocEr
 }
 
 /// The path of these segments.
+#[tactic(auto, unfolding(crate::specs::Paths::path_of))]
 fn path_of(alloc: Global, segments: &[Text]) -> Result<Option<Path>, AllocError>
     ensures { IfOk result (λ found. found ≡ path_of segments.now) }
 {
     match segments {
-        [kind] => Ok(path_alone(kind.as_str())),
-        [kind, name] => match name_in(alloc, name.as_str())? {
-            Some(name) => Ok(path_named(kind.as_str(), name)),
-            None => Ok(None),
+        [kind, rest @ ..] => match kind.as_str() {
+            "readers" => reader_path(alloc, rest),
+            "manifests" => manifest_path(alloc, rest),
+            "annotations" => note_path(alloc, rest),
+            "search" => search_path(alloc, rest),
+            "autocomplete" => complete_path(alloc, rest),
+            "changes" => Ok(changes_path(rest)),
+            _ => Ok(None),
         },
-        [kind, owner, name] => match name_in(alloc, owner.as_str())? {
-            Some(owner) => match name_in(alloc, name.as_str())? {
-                Some(name) => Ok(path_owned(kind.as_str(), owner, name)),
-                None => Ok(None),
-            },
-            None => Ok(None),
-        },
-        [kind, name, part, last] => match name_in(alloc, name.as_str())? {
-            Some(name) => Ok(path_within(kind.as_str(), name, part.as_str(), last.as_str())),
-            None => Ok(None),
-        },
-        _ => Ok(None),
+        [] => Ok(None),
     }
 }
 
-fn path_alone(kind: &str) -> Option<Path>
-    ensures { result ≡ path_alone kind.now }
+/// `/changes`
+fn changes_path(rest: &[Text]) -> Option<Path>
+    ensures { result ≡ changes_path rest.now }
 {
-    match kind {
-        "changes" => Some(Path::Changes),
+    match rest {
+        [] => Some(Path::Changes),
         _ => None,
     }
 }
 
-fn path_within(kind: &str, manifest: Name, part: &str, last: &str) -> Option<Path>
-    ensures { result ≡ path_within kind.now manifest part.now last.now }
+/// `/readers/N`
+fn reader_path(alloc: Global, rest: &[Text]) -> Result<Option<Path>, AllocError>
+    ensures { IfOk result (λ found. found
+        ≡ named_path (λ name. Path.Object (Object.Reader name)) rest.now) }
 {
-    if kind != "manifests" {
-        return None;
+    match name_alone(alloc, rest)? {
+        Some(name) => Ok(Some(Path::Object(Object::Reader(name)))),
+        None => Ok(None),
     }
+}
+
+/// `/search/M`
+fn search_path(alloc: Global, rest: &[Text]) -> Result<Option<Path>, AllocError>
+    ensures { IfOk result (λ found. found ≡ named_path Path.Search rest.now) }
+{
+    match name_alone(alloc, rest)? {
+        Some(manifest) => Ok(Some(Path::Search { manifest })),
+        None => Ok(None),
+    }
+}
+
+/// `/autocomplete/M`
+fn complete_path(alloc: Global, rest: &[Text]) -> Result<Option<Path>, AllocError>
+    ensures { IfOk result (λ found. found ≡ named_path Path.Complete rest.now) }
+{
+    match name_alone(alloc, rest)? {
+        Some(manifest) => Ok(Some(Path::Complete { manifest })),
+        None => Ok(None),
+    }
+}
+
+/// The name that the segments are, if they are one alone.
+fn name_alone(alloc: Global, segments: &[Text]) -> Result<Option<Name>, AllocError>
+    ensures { IfOk result (λ name. name ≡ name_alone segments.now) }
+{
+    match segments {
+        [name] => name_in(alloc, name.as_str()),
+        _ => Ok(None),
+    }
+}
+
+/// `/manifests/M`, and what stands behind it.
+fn manifest_path(alloc: Global, rest: &[Text]) -> Result<Option<Path>, AllocError>
+    ensures { IfOk result (λ found. found ≡ manifest_path rest.now) }
+{
+    match rest {
+        [name, rest @ ..] => match name_in(alloc, name.as_str())? {
+            Some(manifest) => Ok(manifest_part(manifest, rest)),
+            None => Ok(None),
+        },
+        [] => Ok(None),
+    }
+}
+
+fn manifest_part(manifest: Name, rest: &[Text]) -> Option<Path>
+    ensures { result ≡ manifest_part manifest rest.now }
+{
+    match rest {
+        [] => Some(Path::Object(Object::Manifest(manifest))),
+        [part] => orphans_path(manifest, part.as_str()),
+        [part, last] => match part.as_str() {
+            "annotations" => container_path(manifest, last.as_str()),
+            "canvases" => canvas_path(manifest, last.as_str()),
+            _ => None,
+        },
+        _ => None,
+    }
+}
+
+/// `/manifests/M/orphans`
+fn orphans_path(manifest: Name, part: &str) -> Option<Path>
+    ensures { result ≡ orphans_path manifest part.now }
+{
     match part {
-        "annotations" => container_path(manifest, last),
-        "canvases" => canvas_path(manifest, last),
+        "orphans" => Some(Path::Orphans { manifest }),
         _ => None,
     }
 }
@@ -203,23 +274,38 @@ fn canvas_path(manifest: Name, last: &str) -> Option<Path>
     }
 }
 
-fn path_named(kind: &str, name: Name) -> Option<Path>
-    ensures { result ≡ path_named kind.now name }
+/// `/annotations/OWNER/N`, and what stands behind it.
+fn note_path(alloc: Global, rest: &[Text]) -> Result<Option<Path>, AllocError>
+    ensures { IfOk result (λ found. found ≡ note_path rest.now) }
 {
-    match kind {
-        "readers" => Some(Path::Object(Object::Reader(name))),
-        "manifests" => Some(Path::Object(Object::Manifest(name))),
-        "search" => Some(Path::Search { manifest: name }),
-        "autocomplete" => Some(Path::Complete { manifest: name }),
+    match rest {
+        [owner, name, rest @ ..] => match name_in(alloc, owner.as_str())? {
+            Some(owner) => match name_in(alloc, name.as_str())? {
+                Some(name) => Ok(note_part(owner, name, rest)),
+                None => Ok(None),
+            },
+            None => Ok(None),
+        },
+        _ => Ok(None),
+    }
+}
+
+fn note_part(owner: Name, name: Name, rest: &[Text]) -> Option<Path>
+    ensures { result ≡ note_part owner name rest.now }
+{
+    match rest {
+        [] => Some(Path::Object(Object::Note { owner, name })),
+        [part] => anchors_path(owner, name, part.as_str()),
         _ => None,
     }
 }
 
-fn path_owned(kind: &str, owner: Name, name: Name) -> Option<Path>
-    ensures { result ≡ path_owned kind.now owner name }
+/// `/annotations/OWNER/N/anchors`
+fn anchors_path(owner: Name, name: Name, part: &str) -> Option<Path>
+    ensures { result ≡ anchors_path owner name part.now }
 {
-    match kind {
-        "annotations" => Some(Path::Object(Object::Note { owner, name })),
+    match part {
+        "anchors" => Some(Path::Anchors { owner, name }),
         _ => None,
     }
 }

@@ -1,8 +1,8 @@
 ghost use Rattle.std.specs.Prelude.{◌≡◌, IfOk};
-ghost use Rattle.an_routes.specs.Query.{given_of, version_of, name_in, manifest_of, group_of, inner_of};
-ghost use Rattle.an_routes.specs.Query.{page_of, iris_of, region_of};
+ghost use Rattle.an_routes.specs.Query.{given_of, version_of, manifest_of, group_of, inner_of};
+ghost use Rattle.an_routes.specs.Query.{page_of, page_or_first, iris_of, region_of};
 
-use an_base::{List, Name, NameError};
+use an_base::{List, Name, name_in};
 use an_code::{Code, Parameter};
 use an_policy::{Group, Inner, group_named, inner_named};
 use an_query::{Pair, number_in, query_pairs, twice_in, value_in};
@@ -83,6 +83,16 @@ pub(crate) fn page_of(given: &[Pair]) -> Result<Option<u32>, Code>
     }
 }
 
+/// The page that is asked for, the first where none is.
+pub(crate) fn page_or_first(given: &[Pair]) -> Result<u32, Code>
+    ensures { result ≡ page_or_first given.now }
+{
+    match page_of(given) {
+        Ok(page) => Ok(page.unwrap_or(1)),
+        Err(code) => Err(code),
+    }
+}
+
 /// Whether annotations are asked for by their IRIs alone.
 pub(crate) fn iris_of(given: &[Pair]) -> Result<bool, Code>
     ensures { result ≡ iris_of given.now }
@@ -107,19 +117,5 @@ pub(crate) fn region_of(given: &[Pair]) -> Result<Option<Xywh>, Code>
             None => Err(Code::Xywh),
         },
         None => Ok(None),
-    }
-}
-
-/// The name that a text is.
-pub fn name_in(alloc: Global, text: &str) -> Result<Option<Name>, AllocError>
-    ensures name { IfOk result (λ name. name ≡ name_in text.now) }
-{
-    match Name::new(alloc, text) {
-        Ok(name) => Ok(Some(name)),
-        Err(error) => if matches!(error, NameError::Memory) {
-            Err(AllocError)
-        } else {
-            Ok(None)
-        },
     }
 }

@@ -2,23 +2,24 @@ ghost use Rattle.std.specs.Prelude.{◌≡◌, [], IfOk, Ok, Some};
 ghost use Rattle.an_base.specs.Outcome.{Gives};
 ghost use Rattle.an_complete.specs.Ask.{ask_of};
 ghost use Rattle.an_query.specs.Query.{query_of};
-ghost use Rattle.an_routes.specs.Paths.{row_of};
+ghost use Rattle.an_routes.specs.Paths.{page_reads, row_of};
 ghost use Rattle.an_routes.specs.Query.{given_of};
 ghost use Rattle.an_routes.specs.Routes.{changes_read, container_at, container_read, canvas_read};
 ghost use Rattle.an_routes.specs.Routes.{manifest_put, note_put, put_with, put_of, deletion};
 ghost use Rattle.an_routes.specs.Routes.{deletion_of, written, put_at, delete_at, searched};
 ghost use Rattle.an_routes.specs.Routes.{query_refused, completed, ask_refused, shown};
-ghost use Rattle.an_routes.specs.Routes.{object_read, read_at, meant_at, route_at, route_to};
-ghost use Rattle.an_routes.specs.Routes.{route_of};
+ghost use Rattle.an_routes.specs.Routes.{object_read, page_asked, read_at, reading};
+ghost use Rattle.an_routes.specs.Routes.{meant_at, route_at, route_to, route_of};
 ghost use Rattle.an_routes.specs.declared.paths.Kind.TheVariants as kind;
 
 use crate::kinds::{Read, Route, RouteError, Unrouted, WriteRoute};
 use crate::paths::{
-    CANVAS_READS, CHANGES_READS, CONTAINER_READS, NUMBER_READS, Path, READS_NOTHING, path_in,
+    CANVAS_READS, CONTAINER_READS, NUMBER_READS, PAGE_READS, Path, READS_NOTHING, path_in,
     put_reads,
 };
 use crate::query::{
-    given_in, group_of, inner_of, iris_of, manifest_of, page_of, region_of, version_of,
+    given_in, group_of, inner_of, iris_of, manifest_of, page_of, page_or_first, region_of,
+    version_of,
 };
 use crate::target::target_parts;
 use an_base::Name;
@@ -93,8 +94,8 @@ fn meant_at(
 {
     match method {
         Some(Method::Options) => Ok(Route::Options(path.kind().methods())),
-        Some(Method::Get) => read_at(alloc, path, query),
-        Some(Method::Head) => read_at(alloc, path, query),
+        Some(Method::Get) => reading(read_at(alloc, path, query)),
+        Some(Method::Head) => reading(read_at(alloc, path, query)),
         Some(Method::Put) => put_at(alloc, path, query),
         Some(Method::Delete) => delete_at(alloc, path, query),
         None => Err(Unrouted::Method),
@@ -103,8 +104,17 @@ fn meant_at(
 
 // ---- reads
 
-fn read_at(alloc: Global, path: Path, query: &str) -> Result<Route, Unrouted>
-    ensures { Gives (λ route. route) Unrouted.Memory result (read_at path query.now) }
+fn reading(read: Result<Read, Unrouted>) -> Result<Route, Unrouted>
+    ensures { result ≡ reading read }
+{
+    match read {
+        Ok(read) => Ok(Route::Read(read)),
+        Err(why) => Err(why),
+    }
+}
+
+fn read_at(alloc: Global, path: Path, query: &str) -> Result<Read, Unrouted>
+    ensures { Gives (λ read. read) Unrouted.Memory result (read_at path query.now) }
 {
     match path {
         Path::Object(object) => object_read(alloc, object, query),
@@ -113,11 +123,19 @@ fn read_at(alloc: Global, path: Path, query: &str) -> Result<Route, Unrouted>
         Path::Canvas { manifest, canvas } => canvas_read(alloc, manifest, canvas, query),
         Path::Container { manifest } => container_read(alloc, manifest, query),
         Path::Changes => changes_read(alloc, query),
+        Path::Anchors { owner, name } => {
+            let page = page_in(alloc, query)?;
+            Ok(Read::Anchors { owner, name, page })
+        }
+        Path::Orphans { manifest } => {
+            let page = page_in(alloc, query)?;
+            Ok(Read::Orphans { manifest, page })
+        }
     }
 }
 
-fn object_read(alloc: Global, object: Object, query: &str) -> Result<Route, Unrouted>
-    ensures { Gives (λ route. route) Unrouted.Memory result (object_read object query.now) }
+fn object_read(alloc: Global, object: Object, query: &str) -> Result<Read, Unrouted>
+    ensures { Gives (λ read. read) Unrouted.Memory result (object_read object query.now) }
 {
     match object {
         Object::Reader(_) => Err(Unrouted::Method),
@@ -127,14 +145,14 @@ fn object_read(alloc: Global, object: Object, query: &str) -> Result<Route, Unro
 }
 
 /// The stream of changes, or a page of it.
-fn changes_read(alloc: Global, query: &str) -> Result<Route, Unrouted>
-    ensures { Gives (λ route. route) Unrouted.Memory result
+fn changes_read(alloc: Global, query: &str) -> Result<Read, Unrouted>
+    ensures { Gives (λ read. read) Unrouted.Memory result
         (changes_read (given_of (row_of kind.Changes).get query.now)) }
 {
-    match given_in(alloc, &CHANGES_READS, query) {
+    match given_in(alloc, &PAGE_READS, query) {
         Ok(Ok(given)) => match page_of(given.as_slice()) {
-            Ok(Some(page)) => Ok(Route::Read(Read::ChangesPage { page })),
-            Ok(None) => Ok(Route::Read(Read::Changes)),
+            Ok(Some(page)) => Ok(Read::ChangesPage { page }),
+            Ok(None) => Ok(Read::Changes),
             Err(code) => Err(Unrouted::Query(code)),
         },
         Ok(Err(code)) => Err(Unrouted::Query(code)),
@@ -143,8 +161,8 @@ fn changes_read(alloc: Global, query: &str) -> Result<Route, Unrouted>
 }
 
 /// A container, or a page of it.
-fn container_read(alloc: Global, manifest: Name, query: &str) -> Result<Route, Unrouted>
-    ensures { Gives (λ route. route) Unrouted.Memory result
+fn container_read(alloc: Global, manifest: Name, query: &str) -> Result<Read, Unrouted>
+    ensures { Gives (λ read. read) Unrouted.Memory result
         (container_read manifest (given_of (row_of kind.Container).get query.now)) }
 {
     match given_in(alloc, &CONTAINER_READS, query) {
@@ -154,12 +172,12 @@ fn container_read(alloc: Global, manifest: Name, query: &str) -> Result<Route, U
     }
 }
 
-fn container_given(manifest: Name, given: &[Pair]) -> Result<Route, Unrouted>
+fn container_given(manifest: Name, given: &[Pair]) -> Result<Read, Unrouted>
     ensures { result ≡ container_read manifest (Ok given.now) }
 {
     match page_of(given) {
         Ok(page) => match iris_of(given) {
-            Ok(iris) => Ok(Route::Read(container_at(manifest, page, iris))),
+            Ok(iris) => Ok(container_at(manifest, page, iris)),
             Err(code) => Err(Unrouted::Query(code)),
         },
         Err(code) => Err(Unrouted::Query(code)),
@@ -180,8 +198,8 @@ fn container_at(manifest: Name, page: Option<u32>, iris: bool) -> Read
 }
 
 /// A page of the annotations on a canvas, the first where none is asked for.
-fn canvas_read(alloc: Global, manifest: Name, canvas: u32, query: &str) -> Result<Route, Unrouted>
-    ensures { Gives (λ route. route) Unrouted.Memory result
+fn canvas_read(alloc: Global, manifest: Name, canvas: u32, query: &str) -> Result<Read, Unrouted>
+    ensures { Gives (λ read. read) Unrouted.Memory result
         (canvas_read manifest canvas (given_of (row_of kind.Canvas).get query.now)) }
 {
     match given_in(alloc, &CANVAS_READS, query) {
@@ -191,31 +209,46 @@ fn canvas_read(alloc: Global, manifest: Name, canvas: u32, query: &str) -> Resul
     }
 }
 
-fn canvas_given(manifest: Name, canvas: u32, given: &[Pair]) -> Result<Route, Unrouted>
+fn canvas_given(manifest: Name, canvas: u32, given: &[Pair]) -> Result<Read, Unrouted>
     ensures { result ≡ canvas_read manifest canvas (Ok given.now) }
 {
-    match page_of(given) {
+    match page_or_first(given) {
         Ok(page) => match region_of(given) {
-            Ok(region) => Ok(Route::Read(Read::Canvas {
+            Ok(region) => Ok(Read::Canvas {
                 manifest,
                 canvas,
                 region,
-                page: page.unwrap_or(1),
-            })),
+                page,
+            }),
             Err(code) => Err(Unrouted::Query(code)),
         },
         Err(code) => Err(Unrouted::Query(code)),
     }
 }
 
+/// The page that a query asks for, the first where it asks for none.
+fn page_in(alloc: Global, query: &str) -> Result<u32, Unrouted>
+    ensures { Gives (λ page. page) Unrouted.Memory result
+        (page_asked (given_of page_reads query.now)) }
+{
+    match given_in(alloc, &PAGE_READS, query) {
+        Ok(Ok(given)) => match page_or_first(given.as_slice()) {
+            Ok(page) => Ok(page),
+            Err(code) => Err(Unrouted::Query(code)),
+        },
+        Ok(Err(code)) => Err(Unrouted::Query(code)),
+        Err(_) => Err(Unrouted::Memory),
+    }
+}
+
 /// A read that no parameter changes.
-fn shown(alloc: Global, read: Read, query: &str) -> Result<Route, Unrouted>
-    ensures { Gives (λ route. route) Unrouted.Memory result
+fn shown(alloc: Global, read: Read, query: &str) -> Result<Read, Unrouted>
+    ensures { Gives (λ read. read) Unrouted.Memory result
         (shown read (given_of [] query.now)) }
 {
     match given_in(alloc, &READS_NOTHING, query) {
         Ok(given) => match given {
-            Ok(_) => Ok(Route::Read(read)),
+            Ok(_) => Ok(read),
             Err(code) => Err(Unrouted::Query(code)),
         },
         Err(_) => Err(Unrouted::Memory),
@@ -223,12 +256,12 @@ fn shown(alloc: Global, read: Read, query: &str) -> Result<Route, Unrouted>
 }
 
 /// A search with its query, or the first refusal of the query.
-fn searched(alloc: Global, manifest: Name, query: &str) -> Result<Route, Unrouted>
-    ensures { Gives (λ route. route) Unrouted.Memory result
+fn searched(alloc: Global, manifest: Name, query: &str) -> Result<Read, Unrouted>
+    ensures { Gives (λ read. read) Unrouted.Memory result
         (searched manifest (query_of (row_of kind.Search).get query.now)) }
 {
     match read_query(alloc, &SEARCH_PARAMETERS, query) {
-        Ok(query) => Ok(Route::Read(Read::Search { manifest, query })),
+        Ok(query) => Ok(Read::Search { manifest, query }),
         Err(error) => Err(query_refused(error)),
     }
 }
@@ -246,12 +279,12 @@ fn query_refused(error: QueryError) -> Unrouted
 }
 
 /// A completion with what it asks, or the first refusal of that.
-fn completed(alloc: Global, manifest: Name, query: &str) -> Result<Route, Unrouted>
-    ensures { Gives (λ route. route) Unrouted.Memory result
+fn completed(alloc: Global, manifest: Name, query: &str) -> Result<Read, Unrouted>
+    ensures { Gives (λ read. read) Unrouted.Memory result
         (completed manifest (ask_of query.now)) }
 {
     match read_ask(alloc, query) {
-        Ok(ask) => Ok(Route::Read(Read::Complete { manifest, ask })),
+        Ok(ask) => Ok(Read::Complete { manifest, ask }),
         Err(error) => Err(ask_refused(error)),
     }
 }

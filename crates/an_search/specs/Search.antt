@@ -1,24 +1,18 @@
 -- A search in the annotations on a manifest (IIIF Content Search API 2.0).
-use Rattle.std.specs.Prelude.{ℕ, List, ◌∷◌, length, filter, codes, is_some}
-use Rattle.std.specs.Prelude.{if◌then◌else◌, Result, Ok, Err}
-use Rattle.std.specs.List.{filter_map}
-use Rattle.serde_json.specs.Data.{Data}
-use Rattle.serde_json.specs.View.{items_of}
-use Rattle.serde_json.specs.Written.{compact_text}
+use Rattle.std.specs.Prelude.{ℕ, List, ◌∷◌, filter, codes, is_some, if◌then◌else◌, Result, Err}
 use Rattle.an_code.specs.declared.parameter.Parameter.TheVariants as parameter
+use Rattle.an_iri.specs.Iris.{search_iri}
 use Rattle.an_state.specs.State.{NoteState}
 use Rattle.an_state.specs.View.{View, is_on, manifest_in}
 use Rattle.an_query.specs.Filters.{filter_parameters}
 use Rattle.an_query.specs.Form.{form_of}
-use Rattle.an_iri.specs.Iris.{search_iri}
-use Rattle.an_list.specs.Listed.{listed_note, marks_of}
-use Rattle.an_list.specs.Page.{list_page, page_count, lacks_page, page_iri, page_of}
 use Rattle.an_query.specs.Query.{QueryRecord}
+use Rattle.an_list.specs.Notes.{notes_text}
 use Rattle.an_list.specs.Site.{Site}
-use Rattle.an_search.specs.Wanted.{matches, wanted_of, wanted_terms}
-use Rattle.an_search.specs.declared.searching.AskError.{AskError}
-use Rattle.an_search.specs.declared.searching.AskError.TheVariants.{NoManifest, NoPage}
+use Rattle.an_list.specs.declared.error.ReadError.{ReadError}
+use Rattle.an_list.specs.declared.error.ReadError.TheVariants.{Absent}
 use Rattle.an_list.specs.declared.page.Whole.{Whole}
+use Rattle.an_search.specs.Wanted.{matches, wanted_of, wanted_terms}
 use Rattle.an_search.specs.declared.wanted.Wanted.{Wanted}
 
 -- ---- what is found
@@ -46,24 +40,14 @@ whole_of base manifest query = record {
 }
 
 -- the page of what was found that the query asks for
-abbrev pub found_page : Site → Whole → QueryRecord → List NoteState → Data
-found_page site whole query found =
-    let rows = page_of query.page site.size found in
-    list_page search_context whole query.page site.size (length found)
-    (items_of (filter_map (listed_note site.base) rows))
-    (items_of (marks_of site.base (wanted_terms query.q) (page_iri whole query.page) 1 rows))
-    query.ignored
-
--- the same as text, unless it is past the last page
-unfoldable pub found_text : Site → List ℕ → QueryRecord → List NoteState → Result (List ℕ) AskError
-found_text site manifest query found =
-    let pages = page_count (length found) site.size in
-    if lacks_page pages query.page then Err (NoPage pages)
-    else Ok (compact_text (found_page site (whole_of site.base manifest query) query found))
+unfoldable pub found_text : Site → Whole → QueryRecord → List NoteState → Result (List ℕ) ReadError
+found_text site whole query found =
+    notes_text site search_context whole query.page (wanted_terms query.q) query.ignored found
 
 -- the answer to a search, from the caller's view alone
-abbrev pub search_of : Site → View → List ℕ → QueryRecord → Result (List ℕ) AskError
+abbrev pub search_of : Site → View → List ℕ → QueryRecord → Result (List ℕ) ReadError
 search_of site view manifest query =
     if is_some (manifest_in view manifest)
-    then found_text site manifest query (hits view manifest (wanted_of query))
-    else Err NoManifest
+    then found_text site (whole_of site.base manifest query) query
+    (hits view manifest (wanted_of query))
+    else Err Absent

@@ -2,14 +2,14 @@
 //!
 //! ```text
 //! search(alloc, &look, &who, &manifest, &query, &site, &mut steps)
-//!     Ok(page), or Err(AskError::NoPage { pages: 1 }) where that page is past the only one
+//!     Ok(page), or Err(ReadError::NoPage { pages: 1 }) where that page is past the only one
 //! ```
 #![tactic(auto)]
 
 pub use known::{Known, Last, known_first};
 pub use pieces::Pieces;
 pub use ranges::Ranges;
-pub use searching::{AskError, SEARCH_CONTEXT, found_total, search};
+pub use searching::{SEARCH_CONTEXT, found_total, search};
 pub use wanted::{Wanted, matches, matches_after, wanted_by, wants_nothing};
 
 mod hits;

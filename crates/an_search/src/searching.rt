@@ -1,17 +1,13 @@
 ghost use Rattle.std.specs.Prelude.{◌≡◌, ◌+◌, ◌≤◌, List, length, string_bytes};
 ghost use Rattle.std.specs.Prelude.{IfOk, OnOk};
-ghost use Rattle.std.specs.List.{filter_map};
-ghost use Rattle.serde_json.specs.View.{items_of};
-ghost use Rattle.serde_json.specs.Written.{compact_text};
 ghost use Rattle.an_base.specs.Outcome.{Gives};
 ghost use Rattle.an_policy.specs.Audience.{identity};
 ghost use Rattle.an_state.specs.State.{NoteState};
 ghost use Rattle.an_state.specs.View.{view_of};
 ghost use Rattle.an_list.specs.Cost.{Takes, page_cost};
 ghost use Rattle.an_search.specs.Cost.{find_cost, search_cost, shown_cost};
-ghost use Rattle.an_list.specs.Listed.{StandAt, listed_note, marks_of};
-ghost use Rattle.an_list.specs.Page.{list_page, page_iri, page_of};
-ghost use Rattle.an_search.specs.Search.{found_text, hits, query_form, search_context, search_of};
+ghost use Rattle.an_list.specs.Listed.{StandAt};
+ghost use Rattle.an_search.specs.Search.{found_text, hits, query_form, search_of};
 ghost use Rattle.an_search.specs.Search.{whole_of};
 ghost use Rattle.an_search.specs.Wanted.{wanted_of, wanted_terms};
 
@@ -20,7 +16,7 @@ use crate::wanted::wanted_of;
 use an_base::{Bytes, Name, Steps, Text};
 use an_code::Parameter;
 use an_iri::search_iri;
-use an_list::{Paging, Site, Whole, list_items, page_iri, page_of, page_text};
+use an_list::{NoteList, ReadError, Site, Whole, page_of_notes};
 use an_policy::Who;
 use an_query::{Query, append_filters, append_given};
 use an_state::{Look, shown_manifest};
@@ -30,26 +26,6 @@ use std::sync::ledger::Ledger;
 
 /// The context of searches (IIIF Content Search API 2.0).
 pub const SEARCH_CONTEXT: &str = "http://iiif.io/api/search/2/context.json";
-
-/// Why a search has no answer.
-#[derive(Clone, Copy, Debug, PartialEq, Eq)]
-pub enum AskError {
-    /// There is no such manifest that the caller may read.
-    NoManifest,
-    /// The page is past the last one, which has this number.
-    NoPage { pages: usize },
-    Memory,
-}
-
-impl From<AllocError> for AskError {
-    ghost use Rattle.an_search.specs.declared.searching.AskError.TheVariants.{Memory};
-
-    ghost from_gives = { λ e error. error ≡ Memory };
-
-    fn from(_error: AllocError) -> AskError {
-        AskError::Memory
-    }
-}
 
 /// A page of a search in the annotations on a manifest (IIIF Content Search API 2.0): those that
 /// the caller may read and that are wanted, in their order, and the words that were found in them.
@@ -62,10 +38,10 @@ pub fn search<T: Look, L: Ledger>(
     query: &Query,
     site: &Site,
     steps: &mut Steps<L>,
-) -> Result<Bytes, AskError>
-    ensures answer { Gives (λ page. page) AskError.Memory result (search_of site.now
+) -> Result<Bytes, ReadError>
+    ensures answer { Gives (λ page. page) ReadError.Memory result (search_of site.now
         (view_of (T.state look.now) (identity who.now)) manifest.now query.now) }
-    ensures steps { Takes AskError.Memory result steps.old steps.new (search_cost site.now
+    ensures steps { Takes ReadError.Memory result steps.old steps.new (search_cost site.now
         (view_of (T.state look.now) (identity who.now)) manifest.now query.now) }
     ensures steps_most { steps.new ≤ steps.old + search_cost site.now
         (view_of (T.state look.now) (identity who.now)) manifest.now query.now }
@@ -73,7 +49,7 @@ pub fn search<T: Look, L: Ledger>(
 {
     match shown_manifest(look, who, manifest) {
         Some(_) => search_shown(alloc, look, who, manifest, query, site, steps),
-        None => Err(AskError::NoManifest),
+        None => Err(ReadError::Absent),
     }
 }
 
@@ -108,24 +84,25 @@ fn search_shown<T: Look, L: Ledger>(
     query: &Query,
     site: &Site,
     steps: &mut Steps<L>,
-) -> Result<Bytes, AskError>
-    ensures answer { Gives (λ page. page) AskError.Memory result
-        (found_text site.now manifest.now query.now
+) -> Result<Bytes, ReadError>
+    ensures answer { Gives (λ page. page) ReadError.Memory result
+        (found_text site.now (whole_of site.now.base manifest.now query.now) query.now
         (hits (view_of (T.state look.now) (identity who.now)) manifest.now
         (wanted_of query.now))) }
-    ensures steps { Takes AskError.Memory result steps.old steps.new (shown_cost site.now
+    ensures steps { Takes ReadError.Memory result steps.old steps.new (shown_cost site.now
         (view_of (T.state look.now) (identity who.now)) manifest.now query.now) }
     ensures steps_most { steps.new ≤ steps.old + shown_cost site.now
         (view_of (T.state look.now) (identity who.now)) manifest.now query.now }
     ensures steps_least { steps.old ≤ steps.new }
 {
+    let whole = whole_of(alloc, site.base(), manifest, query)?;
     let wanted = wanted_of(alloc, query)?;
     let places = hit_places(alloc, look, who, manifest, &wanted, steps)?;
     let terms = wanted.terms.as_slice();
     page_at(
         alloc,
         look,
-        manifest,
+        &whole,
         query,
         site,
         places.as_slice(),
@@ -134,75 +111,35 @@ fn search_shown<T: Look, L: Ledger>(
     )
 }
 
-/// The page of what was found at these places.
+/// The page that a query asks for of what was found at these places, which is served in pages as
+/// `whole`.
 fn page_at<T: Look, L: Ledger>(
     alloc: Global,
     look: &T,
-    manifest: &Name,
+    whole: &Whole,
     query: &Query,
     site: &Site,
     places: &[usize],
     terms: &[Text],
     steps: &mut Steps<L>,
-) -> Result<Bytes, AskError>
+) -> Result<Bytes, ReadError>
     requires terms { terms.now ≡ wanted_terms query.now.q }
     ensures answer { (rows : List NoteState) → StandAt (T.state look.now).notes places.now rows
-        → Gives (λ page. page) AskError.Memory result
-        (found_text site.now manifest.now query.now rows) }
-    ensures steps { Takes AskError.Memory result steps.old steps.new
+        → Gives (λ page. page) ReadError.Memory result
+        (found_text site.now whole.now query.now rows) }
+    ensures steps { Takes ReadError.Memory result steps.old steps.new
         (page_cost query.now.page site.now.size places.now) }
     ensures steps_most { steps.new ≤ steps.old
         + page_cost query.now.page site.now.size places.now }
     ensures steps_least { steps.old ≤ steps.new }
 {
-    let paging = Paging {
-        page: query.page(),
-        size: site.size(),
-        total: places.len(),
+    let list = NoteList {
+        whole,
+        context: SEARCH_CONTEXT,
+        terms,
+        ignored: query.ignored(),
     };
-    if paging.is_past() {
-        let pages = paging.pages();
-        return Err(AskError::NoPage { pages });
-    }
-    let base = site.base();
-    let whole = whole_of(alloc, base, manifest, query)?;
-    let ignored = query.ignored();
-    let shown = page_of(places, paging);
-    Ok(write_page(
-        alloc, look, &whole, paging, base, shown, terms, ignored, steps,
-    )?)
-}
-
-fn write_page<T: Look, L: Ledger>(
-    alloc: Global,
-    look: &T,
-    whole: &Whole,
-    paging: Paging,
-    base: &str,
-    places: &[usize],
-    terms: &[Text],
-    ignored: &[Text],
-    steps: &mut Steps<L>,
-) -> Result<Bytes, AllocError>
-    requires few { length places.now ≤ 100 }
-    requires page { 1 ≤ paging.page }
-    requires size { 1 ≤ paging.size }
-    ensures page { (rows : List NoteState) → StandAt (T.state look.now).notes places.now rows
-        → IfOk result (λ text. text ≡ compact_text
-        (list_page search_context whole.now paging.page paging.size paging.total
-        (items_of (filter_map (listed_note base.now) rows))
-        (items_of (marks_of base.now terms.now (page_iri whole.now paging.page) 1 rows))
-        ignored.now)) }
-    ensures steps { OnOk result (steps.new ≡ steps.old + length places.now) }
-    ensures steps_most { steps.new ≤ steps.old + length places.now }
-    ensures steps_least { steps.old ≤ steps.new }
-{
-    let iri = page_iri(alloc, whole, paging.page as usize)?;
-    let listed = list_items(alloc, look, places, terms, base, iri.as_str(), steps)?;
-    let items = listed.items.as_slice();
-    let marks = listed.marks.text.as_slice();
-    let text = page_text(alloc, SEARCH_CONTEXT, whole, paging, items, marks, ignored)?;
-    Ok(text)
+    page_of_notes(alloc, look, site, &list, query.page(), places, steps)
 }
 
 /// All that a search finds.

@@ -1,23 +1,10 @@
--- A text cut at its front, and at its commas.
-use Rattle.std.proofs.Common.{◌≡◌, ℕ, ◌<◌, true, false, eqb, List, [], ◌∷◌, Bor, length, drop, Option, Some, None, MatchOption, refl, sym, ap, ◌∙◌, subst, lit<, arith}
-use Rattle.std.proofs.lemmas.Bool.{cond-true, cond-false}
+-- A text cut at its commas.
+use Rattle.std.proofs.Common.{◌≡◌, ℕ, ◌<◌, eqb, List, [], ◌∷◌, Bor, length, Option, Some, None, MatchOption, refl, sym, ap, ◌∙◌, subst, lit<, arith}
 use Rattle.std.proofs.lemmas.List.Splits.{slice_split_first, slice_split_none, length-slice_split}
 use Rattle.std.proofs.lemmas.List.Sums.{fails_before_first}
-use Rattle.std.proofs.lemmas.Str.Pattern.{starts_text, split_once_first, IsSplitOnceResult}
-use Rattle.std.specs.Prelude.{option_map}
+use Rattle.std.proofs.lemmas.Str.Pattern.{split_once_first, IsSplitOnceResult}
 use Rattle.std.specs.List.{position_or_len, before_first, after_first}
-use Rattle.std.specs.Str.{IsCharBoundary}
-use Rattle.std.specs.Str.Pattern.{FindsTextPrefix, StripsPrefix}
-use Rattle.an_selectors.specs.Region.{behind, parts_of, region_of_parts, region_of_numbers}
-
--- what `strip_prefix` leaves
-pub behind-strip_prefix : (front text : List ℕ) (r : Option (Bor (List ℕ)))
-    → MatchOption r (FindsTextPrefix front text None) (λ x. StripsPrefix (FindsTextPrefix front) text x.now)
-    → option_map (λ s. s.now) r ≡ behind front text
-behind-strip_prefix front text None h = sym (cond-false _ _ _ (sym (starts_text false front text h)))
-behind-strip_prefix front text (Some x) (n, found, rest, size) =
-    let starts = starts_text true front text (n, found, subst (IsCharBoundary text) (sym found.0) found.2) in
-    ap Some (rest ∙ ap (λ k. drop k text) found.0) ∙ sym (cond-true _ _ _ (sym starts))
+use Rattle.an_selectors.specs.Region.{parts_of, region_of_parts, region_of_numbers}
 
 -- the parts between commas, by what `split_once` gives
 pub slice_split-split_once : (text : List ℕ) (r : Option (Bor (List ℕ) × Bor (List ℕ))) → IsSplitOnceResult 44 text r

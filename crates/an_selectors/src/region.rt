@@ -1,8 +1,8 @@
-ghost use Rattle.std.specs.Prelude.{◌≡◌, [], ◌∷◌, MatchOption, option_map};
-ghost use Rattle.an_selectors.specs.Region.{behind, coordinate, parts_of, region_of};
+ghost use Rattle.std.specs.Prelude.{◌≡◌, [], ◌∷◌, MatchOption};
+ghost use Rattle.an_selectors.specs.Region.{coordinate, parts_of, region_of};
 ghost use Rattle.an_selectors.specs.Region.{region_of_numbers, region_of_parts, size, without_unit};
 
-use an_base::read_decimal;
+use an_base::{after_front, read_decimal};
 
 /// A rectangle of an image, in pixels: its upper left corner, its width and its height.
 #[derive(Clone, Copy, Debug, PartialEq, Eq)]
@@ -19,7 +19,7 @@ pub struct Xywh {
 pub fn read_xywh(fragment: &str) -> Option<Xywh>
     ensures region { result ≡ region_of fragment.now }
 {
-    match behind("xywh=", fragment) {
+    match after_front("xywh=", fragment) {
         Some(numbers) => read_region_numbers(without_unit(numbers)),
         None => None,
     }
@@ -74,15 +74,8 @@ fn size(text: &str) -> Option<u32>
 fn without_unit(text: &str) -> &str
     ensures { result.now ≡ without_unit text.now }
 {
-    match behind("pixel:", text) {
+    match after_front("pixel:", text) {
         Some(rest) => rest,
         None => text,
     }
-}
-
-/// What a text goes on with behind this front, where it begins with it.
-fn behind<'a>(front: &str, text: &'a str) -> Option<&'a str>
-    ensures { option_map (λ s. s.now) result ≡ behind front.now text.now }
-{
-    text.strip_prefix(front)
 }

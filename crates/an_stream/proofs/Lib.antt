@@ -1,2 +1,3 @@
 mod StreamRows
 pub mod TextLemmas
+pub mod StreamLemmas

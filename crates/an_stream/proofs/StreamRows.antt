@@ -11,7 +11,7 @@ use Rattle.an_state.specs.declared.command.Object.TheVariants.{Manifest, Note}
 use Rattle.an_list.specs.Site.{Site}
 use Rattle.an_stream.specs.Activity.{activity}
 use Rattle.an_stream.specs.Stream.{changes_of, changes_page_of, page_of_stream, stream_page}
-use Rattle.an_stream.specs.declared.stream.StreamError.TheVariants.{NoPage}
+use Rattle.an_list.specs.declared.error.ReadError.TheVariants.{NoPage}
 
 unfoldable changes_on_literals : Unit {0}
 unfolding activity stream_page page_of_stream moment_text date_time_after days_of_months escape_byte digits

@@ -1,7 +1,6 @@
 -- The stream of the changes that a caller sees, the earliest first, and its pages (IIIF Change
 -- Discovery API 1.0, level 2).
-use Rattle.std.specs.Prelude.{ℕ, List, [], length, map, codes, if◌then◌else◌}
-use Rattle.std.specs.Prelude.{Result, Ok, Err}
+use Rattle.std.specs.Prelude.{ℕ, List, [], length, map, codes, Result}
 use Rattle.serde_json.specs.Data.{Data, number, unsigned, string, array, object, Items, member}
 use Rattle.serde_json.specs.Data.{no_members}
 use Rattle.serde_json.specs.View.{items_of}
@@ -10,14 +9,13 @@ use Rattle.an_base.specs.Object.{with_member_if}
 use Rattle.an_iri.specs.Iris.{changes_iri}
 use Rattle.an_state.specs.View.{View}
 use Rattle.an_state.specs.declared.activity.Seen.{Seen}
-use Rattle.an_list.specs.Page.{page_count, page_of, start_of, lacks_page, page_iri, thing}
+use Rattle.an_list.specs.Page.{on_page, page_count, page_of, start_of, page_iri, thing}
 use Rattle.an_list.specs.Page.{page_link, link_after, link_before}
 use Rattle.an_list.specs.Site.{Site}
 use Rattle.an_list.specs.declared.page.PageForm.TheVariants as form
 use Rattle.an_list.specs.declared.page.Whole.{Whole}
 use Rattle.an_stream.specs.Activity.{activity}
-use Rattle.an_stream.specs.declared.stream.StreamError.{StreamError}
-use Rattle.an_stream.specs.declared.stream.StreamError.TheVariants.{NoPage}
+use Rattle.an_list.specs.declared.error.ReadError.{ReadError}
 
 -- the context of changes
 abbrev pub changes_context : List ℕ
@@ -65,14 +63,13 @@ stream_page whole pages page start items =
     (stream_page_members whole page start items))
 
 -- the text of a page of these activities, where there is one of this number
-unfoldable pub page_of_stream : Site → List Seen → ℕ → Result (List ℕ) StreamError
+unfoldable pub page_of_stream : Site → List Seen → ℕ → Result (List ℕ) ReadError
 page_of_stream site seen page =
-    let pages = page_count (length seen) site.size in
-    if lacks_page pages page then Err (NoPage pages)
-    else Ok (compact_text
-    (stream_page (changes_whole site.base) pages page (start_of page site.size)
+    on_page site page (length seen) (compact_text
+    (stream_page (changes_whole site.base) (page_count (length seen) site.size) page
+    (start_of page site.size)
     (items_of (map (activity site.base) (page_of page site.size seen)))))
 
 -- the answer, of the activities in the view
-abbrev pub changes_page_of : Site → View → ℕ → Result (List ℕ) StreamError
+abbrev pub changes_page_of : Site → View → ℕ → Result (List ℕ) ReadError
 changes_page_of site view page = page_of_stream site view.seen page

@@ -2,11 +2,11 @@
 //!
 //! ```text
 //! changes_page(alloc, &look, &who, 3, &site)   where `who` sees 11 changes, and a page has ten:
-//!     Err(StreamError::NoPage { pages: 2 })
+//!     Err(ReadError::NoPage { pages: 2 })
 //! ```
 #![tactic(auto)]
 
-pub use stream::{StreamError, changes, changes_page};
+pub use stream::{changes, changes_page};
 
 mod activity;
 mod page;

@@ -9,6 +9,7 @@ abbrev pub has_store : Form → Bool
 has_store (form.Find site) = false
 has_store form.Import = true
 has_store (form.Export by) = true
+has_store (form.Harvest site by) = true
 has_store (form.Session site) = true
 has_store (form.Serve serving) = true
 has_store (form.Trial count seed) = false

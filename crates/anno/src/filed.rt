@@ -99,6 +99,7 @@ fn has_store(form: &Form) -> bool
         Form::Find(_) => false,
         Form::Import => true,
         Form::Export(_) => true,
+        Form::Harvest { settings: _, by: _ } => true,
         Form::Session(_) => true,
         Form::Serve(_) => true,
         Form::Trial { count: _, seed: _ } => false,

@@ -4,7 +4,7 @@ use Rattle.an_policy.specs.Audience.{identity}
 use Rattle.an_state.specs.View.{view_of}
 use Rattle.an_list.specs.Listed.{StandAt}
 use Rattle.an_pages.specs.Container.{container_whole, notes_on, own_text}
-use Rattle.an_pages.specs.declared.error.PageError.TheVariants.{Memory}
+use Rattle.an_list.specs.declared.error.ReadError.TheVariants.{Memory}
 use Rattle.an_list.specs.Cost.{Takes}
 use Rattle.an_list.proofs.PageLemmas.{page_cost-same}
 use Rattle.an_pages.proofs.ContainerLemmas.{on_stand}

@@ -1,37 +1,7 @@
-use Rattle.std.proofs.Common.{◌+◌, ◌≤◌, length, arith, ap, subst, sym, ◌∙◌}
-use Rattle.an_search.proofs.FoundLemmas.{found-page, past-pages}
-use Rattle.an_list.proofs.ListedLemmas.{stand-count, stand-page}
-use Rattle.an_list.proofs.PageLemmas.{cost_past, cost_shown}
+use Rattle.an_search.proofs.FoundLemmas.{found_by}
 use Rattle.an_search.proofs.searching.page_at.Goals as goal
-
-pub returns-then-is_past-clause-answer : goal.returns-then-is_past-clause-answer
-returns-then-is_past-clause-answer g c = λ rows stand memory.
-    past-pages _ _ _ rows _ c.size.result c.page.result c.pages-pages.result (stand-count _ _ rows stand) c.size.ensures.value c.page.ensures.value c.pages-pages.ensures.count
-    (sym c.is_past.ensures.past ∙ c.if-is_past.true)
 
 pub returns-clause-answer : goal.returns-clause-answer
 returns-clause-answer g c = λ rows stand.
-    let shown = rw (sym c.page_of-shown.ensures.page) at (stand-page _ c.page.result c.size.result c.args.places.now rows stand) in
-    found-page _ _ _ rows c.in_ok-whole.whole c.base-base.result.now _ c.size.result c.page.result _ _ _
-    c.in_ok-whole.ensures c.base-base.ensures.value (stand-count _ _ rows stand) c.size.ensures.value c.page.ensures.value c.requires.terms c.ignored-ignored.ensures.value
-    (sym c.is_past.ensures.past ∙ c.if-is_past.false) (c.in_ok-write_page.ensures.page _ shown)
-
-pub returns-then-is_past-clause-steps : goal.returns-then-is_past-clause-steps
-returns-then-is_past-clause-steps g c = λ other.
-    let none = cost_past _ _ c.args.places.now c.page.result c.size.result c.size.ensures.value c.page.ensures.value (sym c.is_past.ensures.past ∙ c.if-is_past.true) in
-    omega (arith, none)
-
-pub returns-clause-steps : goal.returns-clause-steps
-returns-clause-steps g c =
-    let shown = cost_shown _ _ c.args.places.now c.page.result c.size.result c.size.ensures.value c.page.ensures.value (sym c.is_past.ensures.past ∙ c.if-is_past.false) in
-    c.in_ok-write_page.ensures.steps ∙ ap (λ n. c.args.steps.now + n) (ap length c.page_of-shown.ensures.page ∙ sym shown)
-
-pub returns-clause-steps_most : goal.returns-clause-steps_most
-returns-clause-steps_most g c =
-    let shown = cost_shown _ _ c.args.places.now c.page.result c.size.result c.size.ensures.value c.page.ensures.value (sym c.is_past.ensures.past ∙ c.if-is_past.false) in
-    subst (λ n. c.write_page.new.steps ≤ c.args.steps.now + n) (ap length c.page_of-shown.ensures.page ∙ sym shown) c.write_page.ensures.steps_most
-
-pub returns-in_err-write_page-clause-steps_most : goal.returns-in_err-write_page-clause-steps_most
-returns-in_err-write_page-clause-steps_most g c =
-    let shown = cost_shown _ _ c.args.places.now c.page.result c.size.result c.size.ensures.value c.page.ensures.value (sym c.is_past.ensures.past ∙ c.if-is_past.false) in
-    subst (λ n. c.write_page.new.steps ≤ c.args.steps.now + n) (ap length c.page_of-shown.ensures.page ∙ sym shown) c.write_page.ensures.steps_most
+    found_by c.args.site.now c.args.whole.now c.args.query.now rows c.page.result _ _ (λ page. page) c.page_of_notes.result
+    c.page.ensures.value c.requires.terms c.ignored.ensures.value (c.page_of_notes.ensures.page rows stand)

@@ -5,9 +5,9 @@ use Rattle.an_state.specs.View.{view_of}
 use Rattle.an_state.specs.State.{NoteState}
 use Rattle.an_search.specs.Cost.{candidates}
 use Rattle.an_list.specs.Listed.{StandAt}
-use Rattle.an_search.specs.Search.{found_text, hits}
+use Rattle.an_search.specs.Search.{found_text, hits, whole_of}
 use Rattle.an_search.specs.Wanted.{wanted_of}
-use Rattle.an_search.specs.declared.searching.AskError.TheVariants.{Memory}
+use Rattle.an_list.specs.declared.error.ReadError.TheVariants.{Memory}
 use Rattle.an_search.specs.declared.wanted.Wanted.{Wanted}
 use Rattle.an_list.proofs.ListedLemmas.{stand-count}
 use Rattle.an_list.proofs.PageLemmas.{page_cost-same, takes_both}
@@ -20,8 +20,11 @@ returns-clause-answer g c =
     let stand = hits-stand s (identity c.args.who.now) c.args.manifest.now c.in_ok-wanted.wanted in
     let places = c.as_slice.ensures.value ∙ c.in_ok-places.ensures.places in
     let shown = subst (λ places. StandAt s.notes places (hits (view_of s (identity c.args.who.now)) c.args.manifest.now c.in_ok-wanted.wanted)) (sym places) stand in
-    subst (λ wanted. Gives (λ page. page) Memory c.page_at.result (found_text c.args.site.now c.args.manifest.now c.args.query.now (hits (view_of s (identity c.args.who.now)) c.args.manifest.now wanted)))
-    c.in_ok-wanted.ensures (c.page_at.ensures.answer _ shown)
+    let whole = c.in_ok-whole.ensures ∙ ap (λ base. whole_of base c.args.manifest.now c.args.query.now) c.base.ensures.value in
+    subst (λ wanted. Gives (λ page. page) Memory c.page_at.result (found_text c.args.site.now (whole_of c.args.site.now.base c.args.manifest.now c.args.query.now) c.args.query.now (hits (view_of s (identity c.args.who.now)) c.args.manifest.now wanted)))
+    c.in_ok-wanted.ensures
+    (subst (λ whole. Gives (λ page. page) Memory c.page_at.result (found_text c.args.site.now whole c.args.query.now (hits (view_of s (identity c.args.who.now)) c.args.manifest.now c.in_ok-wanted.wanted)))
+    whole (c.page_at.ensures.answer _ shown))
 
 pub returns-clause-steps : goal.returns-clause-steps
 returns-clause-steps g c =

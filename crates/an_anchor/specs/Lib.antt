@@ -1,0 +1,4 @@
+pub mod Comments
+pub mod Cost
+pub mod Resolve
+pub mod Walk
