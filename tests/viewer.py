@@ -221,6 +221,143 @@ def refusals(browser):
     told(browser, "You are no member of this group, or of one of these. (403 not_member)")
 
 
+STATES = {"whole": "About the whole annotation.",
+          "exact": "Exact: these words stand where the comment says.",
+          "moved": "Moved: these words stand at another place than the comment says.",
+          "1": "Found: these words stand in 1 place.", "2": "Found: these words stand in 2 places.",
+          "lost": "Lost: these words aren't there any more."}
+
+
+def choose(browser, canvas, text, total):
+    """Opens a leaf of the letters, and the comments on the annotation that begins so."""
+    card = ("[...document.querySelectorAll('#notes .card')]"
+            ".find(card => card.innerText.startsWith(arguments[0]))")
+    browser.run(f"location.hash = 'manifest=viewer-letters&canvas={canvas}'")
+    browser.until(lambda: browser.run(f"return !!{card}", text))
+    browser.run(f"{card}.querySelector('a').click()", text)
+    return comments(browser, total)
+
+
+def cards(browser, part):
+    """The lines of each card, without its link and its owner."""
+    return [list(filter(None, card.split("\n")))[:-2] for card in browser.texts(f"{part} .card")]
+
+
+def comments(browser, total):
+    """The comments on the annotation that is shown: what each says, means, and how it was found."""
+    browser.until(lambda: browser.texts("#comments-total") == [total])
+    due("how many comments there are", browser.texts("#comments-total"), [total])
+    return cards(browser, "#comments")
+
+
+def comments_again(browser, total):
+    browser.run("document.querySelector('#comments-total').textContent = ''")
+    browser.press("#again-comments")
+    return comments(browser, total)
+
+
+def marks(browser):
+    """What is marked in the texts, and the signs that follow places."""
+    return browser.run("return [...document.querySelectorAll('#texts mark, #texts sup')]"
+                       ".map(e => e.textContent).join(' ')")
+
+
+def rewrite(browser, text, group, number):
+    browser.run("const field = document.querySelector('#editor [name=text]');"
+                "field.value = arguments[0]", text)  # a driver types no emoji
+    browser.type("#editor [name=group]", group)
+    browser.press("#editor button")
+    told(browser, f"The note is kept as number {number}.")
+
+
+def lost(browser, total):
+    browser.until(lambda: browser.texts("#lost-total") == [total])
+    due("how many comments are lost", browser.texts("#lost-total"), [total])
+    return cards(browser, "#lost")
+
+
+def open_lost(browser, total):
+    """Presses for the lost comments, as they are now."""
+    browser.run("closeLost()")
+    browser.press("#more-lost")
+    return lost(browser, total)
+
+
+def comments_on_annotations(browser, other):
+    other.open("about:blank")
+    other.open("file://" + PAGE)
+    connect(other)
+    due("each comment, its words, and how they were found", choose(other, 1, "🦢", "8 comments."), [
+        ["Ardea cinerea.", "… grey herons …", STATES["exact"]],
+        ["Both texts have it.", "… st …", STATES["2"]],
+        ["The same birds.", "… Reiher …", STATES["1"]],
+        ["A drawing, and a number.", "… 🦢 Two …", STATES["1"]],
+        ["Who wrote this?", STATES["whole"]],
+        ["The old lock.", "… the lock …", STATES["exact"]],
+        ["All of them.", "… grey herons stood …", STATES["exact"]],
+        ["No egret, surely.", "… white egret …", STATES["lost"]]])
+    due("the marks are exact, though an emoji stands before them, and lie over each other",
+        marks(other), "🦢 Two [4, found] grey  herons [1, exact]   st [2, found] ood [7, exact]"
+        " the lock [6, exact] Reiher [3, found] st [2, found]")
+    due("the texts are the annotation's", other.texts("#texts h4"), ["Text 1 of 2", "Text 2 of 2"])
+    due("a mark names its comments for those who hear the page", other.run(
+        "return document.querySelectorAll('#texts mark')[2].getAttribute('aria-details')"),
+        "comment-7 comment-1")
+    picture(other, "comments")
+    due("a comment is found", search(other, "cinerea")[0], "1 annotation fits.")
+    due("its hit leads to what it is on", other.texts("#hits a"), ["a comment on an annotation"])
+    moved_comments(browser, other)
+    lost_comments(browser, other)
+    many_comments(other)
+
+
+def moved_comments(browser, other):
+    browser.open(ORIGIN)
+    connect(browser, VERA, "viewer-vera")
+    choose(browser, 1, "🦢", "8 comments.")
+    browser.press("#notes .card:first-child button")
+    rewrite(browser, "🦢🦢 The two grey herons stood by the lock.", "public", 2)
+    moved = [state for *_, state in comments(browser, "8 comments.")]
+    due("comments after their text was changed", moved, [STATES[state] for state in [
+        "moved", "2", "1", "1", "whole", "moved", "moved", "lost"]])
+    due("others see them so when they ask again", [state for *_, state in comments_again(
+        other, "8 comments.")], moved)
+    due("the words are marked where they stand now", marks(other),
+        "🦢🦢 Th [4, found] grey  herons [1, moved]   st [2, found] ood [7, moved]"
+        " the lock [6, moved] Reiher [3, found] st [2, found]")
+    picture(other, "comments-moved")
+
+
+def lost_comments(browser, other):
+    rewrite(browser, "Two swans.", "public", 3)
+    due("what is lost for a reader of all", open_lost(browser, "4 comments."), [
+        ["Ardea cinerea.", "… grey herons …"], ["The old lock.", "… the lock …"],
+        ["All of them.", "… grey herons stood …"], ["No egret, surely.", "… white egret …"]])
+    due("for others also a comment on what they can't read", open_lost(other, "5 comments.")[-1],
+        ["He did know.", "… harbour master …"])
+    picture(other, "comments-lost")
+    other.press("#lost .card:last-child a")
+    comments(other, "It isn't there, or isn't shown to you. (404 absent)")
+    rewrite(browser, "Two swans.", "viewer-desk", 4)
+    other.press("#lost .card:first-child a")
+    comments(other, "It was deleted, or isn't shown to you any more. (410 gone)")
+    due("nothing of it is shown", other.texts("#texts p") + other.texts("#comments .card"), [])
+    due("a comment on the whole of a hidden annotation", open_lost(other, "9 comments.")[4],
+        ["Who wrote this?", STATES["whole"]])
+    picture(other, "annotation-hidden")
+    due("its owner's comments are there", len(comments_again(browser, "8 comments.")), 8)
+
+
+def many_comments(browser):
+    due("the first page", len(choose(browser, 2, "a b c", "22 comments.")), 20)
+    browser.press("#more-comments")
+    browser.until(lambda: len(browser.texts("#comments .card")) == 22)
+    due("the second page", [card[1] for card in comments(browser, "22 comments.")[-2:]],
+        ["… u …", "… v …"])
+    due("all are marked", len(browser.texts("#texts mark")), 22)
+    due("there is no third", hidden(browser, "#more-comments"), True)
+
+
 def refused_readers(browser):
     connect(browser, "nobody-has-this-token")
     told(browser, "The token is no reader's. Check it, or leave it out to read as anybody."
@@ -292,6 +429,13 @@ def dark_phone(browser):
     due("a phone's width is enough",
         browser.run("return document.documentElement.scrollWidth"), 390)
     picture(browser, "phone")
+    choose(browser, 2, "a b c", "22 comments.")
+    due("a phone's width is enough for comments",
+        browser.run("return document.documentElement.scrollWidth"), 390)
+    browser.run("document.querySelector('#comments-part').scrollIntoView()")
+    picture(browser, "phone-comments")
+    open_log(browser, 2)
+    search(browser, "sandpiper")
     browser.run("document.querySelector('#search-part').scrollIntoView()")
     picture(browser, "phone-search")
     browser.told("Emulation.setEmulatedMedia",
@@ -313,6 +457,7 @@ def main():
         member(browser)
         other.open("file://" + PAGE)
         note(browser, other)
+        comments_on_annotations(browser, other)
         refused_readers(browser)
         keyboard_alone(browser)
         dark_phone(browser)

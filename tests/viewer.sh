@@ -1,10 +1,11 @@
 #!/usr/bin/env bash
 # Drives the page examples/viewer/index.html in headless Chromium against a served reading room, by
 # a file and from another origin: what an anonymous reader and a member of a closed group find, a
-# note that is written, found, changed and deleted, hostile texts, refusals, the keyboard alone, a
-# phone's width, and the dark. It keeps a picture of each step in a folder, which may be given, and
-# which its first line names. ANNO is the program, by default the built one. It is no part of the
-# gate. Ends with 0 where all is as it is due.
+# note that is written, found, changed and deleted, comments whose words stand where they stood, or
+# elsewhere, or nowhere, hostile texts, refusals, the keyboard alone, a phone's width, and the dark.
+# It keeps a picture of each step in a folder, which may be given, and which its first line names.
+# ANNO is the program, by default the built one. It is no part of the gate. Ends with 0 where all is
+# as it is due.
 set -eu
 top=$(cd "$(dirname "$0")/.." && pwd)
 if [ -z "${ANNO-}" ]; then
@@ -25,7 +26,8 @@ port=$((20000 + RANDOM % 10000))
 at=http://127.0.0.1:$port
 lines=$top/examples/reading-room/lines
 "$ANNO" "$work/room.db" import <"$lines" >/dev/null
-"$ANNO" "$work/room.db" import <"$top/tests/viewer.lines" >/dev/null
+# Comments name annotations by the server's IRIs, which begin with its address.
+sed "s|{base}|$at|g" "$top/tests/viewer.lines" | "$ANNO" "$work/room.db" import >/dev/null
 # A browser keeps up to six connections, and each of them has a worker for as long.
 "$ANNO" "$work/room.db" serve "$at" 20 "$port" 64 0 2>/dev/null &
 server=$!
