@@ -27,11 +27,13 @@ METHODS = {"ReadOnly": "GET, HEAD, OPTIONS", "WriteOnly": "OPTIONS, PUT, DELETE"
 KINDS = {"/readers/{reader}": ("Reader", None, "NUMBER_READS"),
          "/manifests/{manifest}": ("Manifest", "READS_NOTHING", "MANIFEST_READS"),
          "/annotations/{owner}/{name}": ("Note", "READS_NOTHING", "NOTE_READS"),
+         "/annotations/{owner}/{name}/anchors": ("Anchors", "PAGE_READS", None),
          "/search/{manifest}": ("Search", "SEARCH_PARAMETERS", None),
          "/autocomplete/{manifest}": ("Complete", "ASK_PARAMETERS", None),
          "/manifests/{manifest}/canvases/{canvas}": ("Canvas", "CANVAS_READS", None),
          "/manifests/{manifest}/annotations/": ("Container", "CONTAINER_READS", None),
-         "/changes": ("Changes", "CHANGES_READS", None)}
+         "/manifests/{manifest}/orphans": ("Orphans", "PAGE_READS", None),
+         "/changes": ("Changes", "PAGE_READS", None)}
 # The codes that only lines have, and the one of the reply that memory ran out.
 OF_LINES = {"line", "input"}
 OF_MEMORY = {"memory"}
@@ -362,8 +364,9 @@ READS = ["/manifests/log", "/manifests/map", "/manifests/none", "/manifests/-",
          "/manifests/log/canvases/41", "/manifests/log/annotations/",
          "/manifests/log/annotations/?iris=1", "/manifests/log/annotations/?page=2",
          "/manifests/log/annotations/?page=1&iris=1", "/manifests/log/annotations/?iris=2",
-         "/manifests/log/annotations/?page=0", "/search/log", "/search/log?q=heron",
-         "/search/log?q=ink&motivation=commenting&user=x&page=1&extra=1",
+         "/manifests/log/annotations/?page=0", "/manifests/log/orphans", "/manifests/none/orphans",
+         "/manifests/log/orphans?page=2", "/manifests/log/orphans?page=x", "/search/log",
+         "/search/log?q=heron", "/search/log?q=ink&motivation=commenting&user=x&page=1&extra=1",
          "/search/log?q=a&page=999", "/search/log?q=a&q=b", "/search/log?date=2024",
          "/search/none?q=a", "/search/log?q=%FF",
          "/autocomplete/log?q=st", "/autocomplete/log?q=st&min=2&page=1", "/autocomplete/log",
@@ -379,13 +382,15 @@ def check_room(document):
                 document.check("the room", method, target, *ask(method, target, token))
     _, _, page = ask("GET", "/search/log")
     note = urllib.parse.urlsplit(json.loads(page)["items"][0]["id"]).path
-    document.check("the room", "GET", note, *ask("GET", note))
+    for target in [note, note + "/anchors", note + "/anchors?page=2", note + "/anchors?page=0"]:
+        document.check("the room", "GET", target, *ask("GET", target))
     for prefer in ["http://www.w3.org/ns/ldp#PreferMinimalContainer",
                    "http://www.w3.org/ns/oa#PreferContainedIRIs"]:
         target = "/manifests/log/annotations/"
         document.check("the room", "GET", target,
                        *ask("GET", target, Prefer=f'return=representation;include="{prefer}"'))
-    for path in ["/changes", "/readers/ines", "/search/log", note, "/manifests/log/annotations/"]:
+    for path in ["/changes", "/readers/ines", "/search/log", note, note + "/anchors",
+                 "/manifests/log/annotations/", "/manifests/log/orphans"]:
         document.check("the room", "OPTIONS", path, *ask("OPTIONS", path))
         document.check("the room", "PATCH", path, *ask("PATCH", path))
     check_writes(document)

@@ -47,12 +47,13 @@ def free_port():
 
 
 class Server:
-    """A process of `serve`. `wrap` are words before the program's name."""
+    """A process of `serve`. `wrap` are words before the program's name, and `size` how many items a
+    page has."""
 
-    def __init__(self, program, store, workers=8, wrap=(), environment=None, pass_fds=()):
+    def __init__(self, program, store, workers=8, wrap=(), environment=None, pass_fds=(), size=10):
         self.port = free_port()
         self.process = subprocess.Popen(
-            [*wrap, program, store, "serve", BASE, "10", str(self.port), str(workers), "0"],
+            [*wrap, program, store, "serve", BASE, str(size), str(self.port), str(workers), "0"],
             stdin=subprocess.DEVNULL, stdout=subprocess.PIPE, stderr=subprocess.PIPE,
             env=environment, pass_fds=pass_fds,
         )
