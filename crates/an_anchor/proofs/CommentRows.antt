@@ -114,14 +114,14 @@ row-no_manifest = refl
 
 -- ---- steps
 
-row-steps : anchors_cost site (view (transcription (codes "two grey herons") ∷ comment ∷ [])) (codes "mara") (codes "t1") 1 ≡ 2
+row-steps : anchors_cost (view (transcription (codes "two grey herons") ∷ comment ∷ [])) (codes "mara") (codes "t1") ≡ 2
 unfolding comments_on_literals
 row-steps = refl
 
-row-no_steps : anchors_cost site (view (comment ∷ [])) (codes "mara") (codes "t1") 1 ≡ 0
+row-no_steps : anchors_cost (view (comment ∷ [])) (codes "mara") (codes "t1") ≡ 0
 unfolding comments_on_literals
 row-no_steps = refl
 
-row-steps_of_orphans : orphans_cost site (view (transcription (codes "two swans") ∷ comment ∷ [])) (codes "m1") 1 ≡ 2
+row-steps_of_orphans : orphans_cost (view (transcription (codes "two swans") ∷ comment ∷ [])) (codes "m1") ≡ 2
 unfolding comments_on_literals
 row-steps_of_orphans = refl

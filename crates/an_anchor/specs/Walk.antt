@@ -7,7 +7,6 @@ use Rattle.serde_json.specs.Data.{Data, number, unsigned, Members, member, no_me
 use Rattle.serde_json.specs.View.{items_of}
 use Rattle.an_base.specs.Write.{item_commas}
 use Rattle.an_iri.specs.Names.{names_in}
-use Rattle.an_model.specs.Bodies.{texts_of}
 use Rattle.an_model.specs.declared.kept.KeptTarget.{KeptTarget}
 use Rattle.an_state.specs.View.{View}
 use Rattle.an_list.specs.Page.{page_count}
@@ -63,7 +62,7 @@ abbrev pub texts_at : List ℕ → View → List ℕ → Option (List (List ℕ)
 texts_at base view iri = option_and_then (texts_in view) (names_in base iri)
 
 abbrev pub IsKnown : List ℕ → View → Known → Type 0
-IsKnown base view known = option_map texts_of known.note ≡ texts_at base view known.source
+IsKnown base view known = known.texts ≡ texts_at base view known.source
 
 -- the comment is lost in the texts of what it is about
 abbrev pub is_lost : List ℕ → View → Comment → Bool

@@ -48,11 +48,9 @@ pub fn anchors<T: Look, L: Ledger>(
     ensures answer { Gives (λ body. body) ReadError.Memory result (anchors_of site.now
         (view_of (T.state look.now) (identity who.now)) owner.now name.now page) }
     ensures steps { Takes ReadError.Memory result steps.old steps.new
-        (anchors_cost site.now (view_of (T.state look.now) (identity who.now)) owner.now
-        name.now page) }
+        (anchors_cost (view_of (T.state look.now) (identity who.now)) owner.now name.now) }
     ensures steps_most { steps.new ≤ steps.old
-        + anchors_cost site.now (view_of (T.state look.now) (identity who.now)) owner.now
-        name.now page }
+        + anchors_cost (view_of (T.state look.now) (identity who.now)) owner.now name.now }
     ensures steps_least { steps.old ≤ steps.new }
 {
     match shown_note(look, who, owner, name) {
@@ -171,11 +169,11 @@ fn count_comments<T: Look, L: Ledger>(
     ensures steps_least { steps.old ≤ steps.new }
 {
     let iri = note_iri(alloc, base, owner, name)?;
-    let note = live.tree.note(alloc)?;
+    let texts = live.tree.texts(alloc)?;
     let asked = Asked {
         base,
         iri: iri.as_str(),
-        texts: note.texts(),
+        texts: texts.as_slice(),
         window,
     };
     count_on(alloc, look, who, live.manifest, &asked, steps)

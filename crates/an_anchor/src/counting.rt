@@ -114,8 +114,8 @@ fn count_note(
 {
     let count = count_about(kept.targets(), asked.iri);
     if asked.window.meets(counted.total, count) {
-        let note = kept.note(alloc)?;
-        let counted = count_targets(alloc, counted, row, note.targets(), asked)?;
+        let targets = kept.whole_targets(alloc)?;
+        let counted = count_targets(alloc, counted, row, targets.as_slice(), asked)?;
         Ok(counted)
     } else {
         let counted = pass_by(counted, count)?;

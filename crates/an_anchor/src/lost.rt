@@ -4,25 +4,24 @@ ghost use Rattle.std.specs.List.Sorted.{IsPermutation};
 ghost use Rattle.an_model.specs.Bodies.{texts_of};
 ghost use Rattle.an_policy.specs.Audience.{identity};
 ghost use Rattle.an_state.specs.View.{view_of};
-ghost use Rattle.an_anchor.specs.Comments.{is_lost_in, is_orphan, live_in};
+ghost use Rattle.an_anchor.specs.Comments.{is_lost_in, is_orphan, texts_in};
 ghost use Rattle.an_anchor.specs.Walk.{IsJudged, IsKnown, is_lost, texts_at};
 
 use crate::anchored::AnchorState;
 use crate::comment::Comment;
 use crate::resolving::resolve;
-use an_base::{Name, Text};
+use an_base::{List, Name, Text};
 use an_iri::names_in;
-use an_model::Note;
 use an_policy::Who;
 use an_state::{Look, NoteRow, shown_note};
 use std::alloc::{AllocError, Global};
 
-/// An annotation that was looked up: the IRI by which it was, and what it says, where the caller
-/// may read it.
+/// An annotation that was looked up: the IRI by which it was, and its texts, where the caller may
+/// read it.
 #[derive(Drop)]
 struct Known {
     source: Text,
-    note: Option<Note>,
+    texts: Option<List<Text>>,
 }
 
 /// Whether each of the comments is lost in the texts of what it is about. They are judged in the
@@ -104,13 +103,12 @@ fn judge<T: Look>(
 
 /// Whether the comment is lost in the texts of what it is about.
 fn is_lost_in(alloc: Global, known: &Known, comment: &Comment) -> Result<bool, AllocError>
-    ensures { IfOk result (λ lost. lost
-        ≡ is_lost_in (option_map texts_of known.now.note) comment.now) }
+    ensures { IfOk result (λ lost. lost ≡ is_lost_in known.now.texts comment.now) }
 {
-    match &known.note {
-        Some(note) => {
+    match &known.texts {
+        Some(texts) => {
             let selectors = comment.target.selectors.as_slice();
-            Ok(is_orphan(resolve(alloc, note.texts(), selectors)?.state))
+            Ok(is_orphan(resolve(alloc, texts.as_slice(), selectors)?.state))
         }
         None => Ok(true),
     }
@@ -154,49 +152,50 @@ fn look_up<T: Look>(
         (IsKnown base.now (view_of (T.state look.now) (identity who.now))) }
     ensures source { IfOk result (λ known. known.source ≡ source.now) }
 {
-    let note = note_at(alloc, look, who, base, source)?;
+    let texts = texts_at(alloc, look, who, base, source)?;
     let source = Text::new(alloc, source)?;
-    Ok(Known { source, note })
+    Ok(Known { source, texts })
 }
 
-/// What the annotation of this IRI says, where the caller may read it.
-fn note_at<T: Look>(
+/// The texts of the annotation of this IRI, where the caller may read it.
+fn texts_at<T: Look>(
     alloc: Global,
     look: &T,
     who: &Who<'_>,
     base: &str,
     iri: &str,
-) -> Result<Option<Note>, AllocError>
-    ensures { IfOk result (λ note. option_map texts_of note
+) -> Result<Option<List<Text>>, AllocError>
+    ensures { IfOk result (λ texts. texts
         ≡ texts_at base.now (view_of (T.state look.now) (identity who.now)) iri.now) }
 {
     match names_in(alloc, base, iri)? {
-        Some((owner, name)) => note_of(alloc, look, who, &owner, &name),
+        Some((owner, name)) => texts_of(alloc, look, who, &owner, &name),
         None => Ok(None),
     }
 }
 
-fn note_of<T: Look>(
+fn texts_of<T: Look>(
     alloc: Global,
     look: &T,
     who: &Who<'_>,
     owner: &Name,
     name: &Name,
-) -> Result<Option<Note>, AllocError>
-    ensures { IfOk result (λ note. note ≡ option_map (λ live. live.tree)
-        (live_in (view_of (T.state look.now) (identity who.now)) owner.now name.now)) }
+) -> Result<Option<List<Text>>, AllocError>
+    ensures { IfOk result (λ texts. texts
+        ≡ texts_in (view_of (T.state look.now) (identity who.now)) (owner.now, name.now)) }
 {
     match shown_note(look, who, owner, name) {
-        Some(row) => row_note(alloc, row),
+        Some(row) => row_texts(alloc, row),
         None => Ok(None),
     }
 }
 
-fn row_note(alloc: Global, row: &NoteRow) -> Result<Option<Note>, AllocError>
-    ensures { IfOk result (λ note. note ≡ option_map (λ live. live.tree) row.now.live) }
+fn row_texts(alloc: Global, row: &NoteRow) -> Result<Option<List<Text>>, AllocError>
+    ensures { IfOk result (λ texts. texts
+        ≡ option_map (λ live. texts_of live.tree) row.now.live) }
 {
     match row.live() {
-        Some(live) => Ok(Some(live.tree.note(alloc)?)),
+        Some(live) => Ok(Some(live.tree.texts(alloc)?)),
         None => Ok(None),
     }
 }

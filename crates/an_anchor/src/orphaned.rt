@@ -44,11 +44,9 @@ pub fn orphans<T: Look, L: Ledger>(
     ensures answer { Gives (λ body. body) ReadError.Memory result (orphans_of site.now
         (view_of (T.state look.now) (identity who.now)) manifest.now page) }
     ensures steps { Takes ReadError.Memory result steps.old steps.new
-        (orphans_cost site.now (view_of (T.state look.now) (identity who.now)) manifest.now
-        page) }
+        (orphans_cost (view_of (T.state look.now) (identity who.now)) manifest.now) }
     ensures steps_most { steps.new ≤ steps.old
-        + orphans_cost site.now (view_of (T.state look.now) (identity who.now)) manifest.now
-        page }
+        + orphans_cost (view_of (T.state look.now) (identity who.now)) manifest.now }
     ensures steps_least { steps.old ≤ steps.new }
 {
     match shown_manifest(look, who, manifest) {

@@ -92,8 +92,8 @@ fn push_from(
         ++ filter (is_comment base.now) (numbered row.now 0 (targets_of kept.now))) }
 {
     if has_comment(alloc, kept.targets(), base)? {
-        let note = kept.note(alloc)?;
-        push_targets(alloc, comments, row, note.targets(), base)
+        let targets = kept.whole_targets(alloc)?;
+        push_targets(alloc, comments, row, targets.as_slice(), base)
     } else {
         Ok(())
     }

@@ -1,6 +1,6 @@
 -- No answer depends on to whom else annotations are shown: each is made of annotations without their
 -- inner groups as it is of those with them.
-use Rattle.std.proofs.Common.{◌≡◌, ℕ, ◌+◌, Bool, true, false, List, [], ◌∷◌, ◌++◌, length, map, filter, refl, sym, ap, ap₂, ◌∙◌}
+use Rattle.std.proofs.Common.{◌≡◌, ℕ, ◌+◌, ◌||◌, Bool, true, false, List, [], ◌∷◌, ◌++◌, length, map, filter, refl, sym, ap, ap₂, ◌∙◌}
 use Rattle.std.specs.Prelude.{flat_map, Option, Some, None, option_and_then, option_map, ok_or}
 use Rattle.std.specs.List.{filter_map}
 use Rattle.std.proofs.lemmas.List.{drop-map, length-map, take-map}
@@ -9,7 +9,10 @@ use Rattle.serde_json.specs.View.{items_of}
 use Rattle.an_base.specs.declared.span.Prefer.{Prefer}
 use Rattle.an_base.specs.Outcome.{or_refuse, passes}
 use Rattle.an_complete.specs.Ask.{AskRecord}
-use Rattle.an_complete.specs.Complete.{asked_notes, asked_terms, complete_of, filters_of}
+use Rattle.an_complete.specs.Complete.{asked_notes, asked_notes_on, asked_terms, asked_terms_on, complete_of, filters_of}
+use Rattle.an_gather.specs.Chosen.{chosen, gather_complete_of, gather_search_of, gather_whole}
+use Rattle.an_gather.specs.Gather.{GatherAskRecord, GatherRecord}
+use Rattle.an_search.specs.Gathered.{hits_on, is_on_one}
 use Rattle.an_pages.specs.Bodies.{annotation_of_view, manifest_of_view, missing_note, note_body}
 use Rattle.an_pages.specs.Canvas.{canvas_in, canvas_page_of, canvas_whole, is_row_about, notes_about, presentation_context}
 use Rattle.an_pages.specs.Container.{container_body, container_of, container_page_of, container_whole, iri_item, items_on, notes_on, own_text}
@@ -25,9 +28,9 @@ use Rattle.an_list.specs.declared.error.ReadError.TheVariants.{Absent}
 use Rattle.an_model.specs.Bodies.{texts_of}
 use Rattle.an_query.specs.Query.{QueryRecord}
 use Rattle.an_iri.specs.Names.{names_in}
-use Rattle.an_search.specs.Search.{found_text, hits, search_of, whole_of}
+use Rattle.an_search.specs.Search.{found_text, hits, hits_where, search_of, whole_of}
 use Rattle.an_list.specs.Site.{Site}
-use Rattle.an_search.specs.Wanted.{matches, wanted_of}
+use Rattle.an_search.specs.Wanted.{given_pieces, matches, wanted_of}
 use Rattle.an_list.specs.declared.page.Whole.{Whole}
 use Rattle.an_search.specs.declared.wanted.Wanted.{Wanted}
 use Rattle.an_selectors.specs.declared.region.Xywh.{Xywh}
@@ -133,6 +136,30 @@ asked-same view manifest ask =
 
 complete-same : (site : Site) (view : View) (manifest : List ℕ) (ask : AskRecord) → complete_of site (blotted_view view) manifest ask ≡ complete_of site view manifest ask
 complete-same site view manifest ask = rw (asked-same view manifest ask) refl
+
+-- those that pass a test and are wanted
+where-same : (test : NoteState → Bool) → ((row : NoteState) → test (blotted row) ≡ test row) → (view : View) (wanted : Wanted)
+    → hits_where test (blotted_view view) wanted ≡ map blotted (hits_where test view wanted)
+where-same test same view wanted =
+    ap (filter (matches wanted)) (chosen-alike test same view.notes) ∙ chosen-alike (matches wanted) (matches-same wanted) (filter test view.notes)
+
+on-one-same : (manifests : List (List ℕ)) (row : NoteState) → is_on_one manifests (blotted row) ≡ is_on_one manifests row
+on-one-same [] row = refl
+on-one-same (manifest ∷ manifests) row = ap₂ (λ a b. a || b) (on-alike manifest row) (on-one-same manifests row)
+
+gather-search-same : (site : Site) (view : View) (gather : GatherRecord) → gather_search_of site (blotted_view view) gather ≡ gather_search_of site view gather
+unfolding hits_on
+gather-search-same site view gather =
+    let manifests = chosen view (given_pieces gather.manifests) in
+    rw (where-same (is_on_one manifests) (on-one-same manifests) view (wanted_of gather.query))
+    (found-same site (gather_whole site.base gather) gather.query (hits_where (is_on_one manifests) view (wanted_of gather.query)))
+
+gather-complete-same : (site : Site) (view : View) (gather : GatherAskRecord) → gather_complete_of site (blotted_view view) gather ≡ gather_complete_of site view gather
+unfolding gather_complete_of asked_terms_on
+gather-complete-same site view gather =
+    let manifests = chosen view (given_pieces gather.manifests) in
+    let filters = filters_of gather.ask in
+    rw (where-same (is_on_one manifests) (on-one-same manifests) view filters, flat-same terms_of_row terms-same (asked_notes_on view manifests filters)) refl
 
 -- ---- one annotation, and those on a canvas and in a container
 
@@ -251,6 +278,9 @@ shown-same site view prefer read.Changes = refl
 shown-same site view prefer (read.ChangesPage page) = refl
 shown-same site view prefer (read.Anchors owner name page) = rw (anchors-same site view owner name page) refl
 shown-same site view prefer (read.Orphans manifest page) = rw (orphans-same site view manifest page) refl
+shown-same site view prefer read.Collection = refl
+shown-same site view prefer (read.GatherSearch gather) = rw (gather-search-same site view gather) refl
+shown-same site view prefer (read.GatherComplete ask) = rw (gather-complete-same site view ask) refl
 
 pub untold : GroupsUntold
 untold site view prefer what =

@@ -35,6 +35,9 @@ use Rattle.an_list.specs.declared.error.ReadError.{ReadError}
 use Rattle.an_list.specs.declared.error.ReadError.TheVariants as error
 use Rattle.an_complete.specs.Complete.{complete_of}
 use Rattle.an_complete.specs.Cost.{complete_cost}
+use Rattle.an_gather.specs.Chosen.{gather_complete_of, gather_search_of}
+use Rattle.an_gather.specs.Collection.{collection_of}
+use Rattle.an_gather.specs.Cost.{gather_complete_cost, gather_search_cost}
 use Rattle.an_routes.specs.Routes.{read_methods}
 use Rattle.an_answers.specs.declared.answers.Shown.{Shown}
 use Rattle.an_routes.specs.declared.kinds.Read.{Read}
@@ -105,10 +108,18 @@ reading_of site view prefer (read.ChangesPage page) =
     reading media.Changes extra.Absent (changes_page_of site view page) 0
 reading_of site view prefer (read.Anchors owner name page) =
     reading media.Json extra.Absent
-    (anchors_of site view owner name page) (anchors_cost site view owner name page)
+    (anchors_of site view owner name page) (anchors_cost view owner name)
 reading_of site view prefer (read.Orphans manifest page) =
     reading media.Json extra.Absent
-    (orphans_of site view manifest page) (orphans_cost site view manifest page)
+    (orphans_of site view manifest page) (orphans_cost view manifest)
+reading_of site view prefer read.Collection =
+    reading media.Manifest extra.Absent (Ok (collection_of site view)) 0
+reading_of site view prefer (read.GatherSearch gather) =
+    reading media.Search extra.Absent
+    (gather_search_of site view gather) (gather_search_cost site view gather)
+reading_of site view prefer (read.GatherComplete ask) =
+    reading media.Search extra.Absent
+    (Ok (gather_complete_of site view ask)) (gather_complete_cost view ask)
 
 abbrev pub shown_of : Site → View → Prefer → Read → Result Shown Code
 shown_of site view prefer read = (reading_of site view prefer read).shown

@@ -16,6 +16,7 @@ use an_anchor::{anchors, orphans};
 use an_base::{Bytes, Name, Prefer, Steps};
 use an_code::Code;
 use an_complete::complete;
+use an_gather::{collection, gather_complete, gather_search};
 use an_http::{Allow, Extra, Media, Reply, Status, refusal_reply};
 use an_iri::{manifest_iri, note_iri, reader_iri};
 use an_list::{ReadError, Site};
@@ -191,6 +192,18 @@ fn shown_to<T: Look, L: Ledger>(
         Read::Orphans { manifest, page } => {
             let body = orphans(alloc, look, who, manifest, *page, site, steps);
             shown_with(Media::Json, Extra::Absent, body)
+        }
+        Read::Collection => {
+            let body = collection(alloc, look, who, site);
+            shown_with(Media::Manifest, Extra::Absent, body)
+        }
+        Read::GatherSearch { gather } => {
+            let body = gather_search(alloc, look, who, gather, site, steps);
+            shown_with(Media::Search, Extra::Absent, body)
+        }
+        Read::GatherComplete { ask } => {
+            let body = gather_complete(alloc, look, who, ask, site, steps);
+            shown_with(Media::Search, Extra::Absent, body)
         }
     }
 }

@@ -1,4 +1,5 @@
-//! What holds of every answer and of every harvest. Each law is the contract of a function that does nothing.
+//! What holds of every answer and of every harvest. Each law is the contract of a function that
+//! does nothing.
 ghost use Rattle.std.specs.Prelude.{◌≡◌, ℕ, Bool, IsTrue, List, None, Some, is_none};
 ghost use Rattle.std.specs.Prelude.{if◌then◌else◌};
 ghost use Rattle.an_base.specs.declared.span.Prefer.{Prefer};

@@ -18,8 +18,8 @@ use std::thread::Threads;
 
 /// Does what the words say, as `run` does, over cells in memory. They are told before the run and
 /// after it, so its status says exactly what they stood for: with the one for damage they stand for
-/// no state, and the cell that it names is the first damaged one; with any other that a run has once
-/// its store is open, they stand for a state.
+/// no state, and the cell that it names is the first damaged one; with any other that a run has
+/// once its store is open, they stand for a state.
 pub fn run_in_memory<
     R: Threads + Wait + Sync,
     L: Link,

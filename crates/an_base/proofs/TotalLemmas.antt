@@ -17,7 +17,7 @@ use Rattle.std.proofs.lemmas.Map.Lookups.{exact_bytes}
 use Rattle.std.proofs.lemmas.Map.Text.{is_eq-slice_cmp}
 use Rattle.std.proofs.lemmas.Slice.Eq.{bytes_eq-Decides}
 use Rattle.an_base.specs.TextSet.{Ascend, ascending, has_text}
-use Rattle.an_base.specs.Totals.{Adds, capped, counted, counted_from, total_among, totals_of, with_prefix, with_total}
+use Rattle.an_base.specs.Totals.{Adds, capped, counted, counted_all, counted_from, total_among, totals_of, with_prefix, with_total}
 use Rattle.an_base.specs.declared.span.TermTotal.{TermTotal}
 use Rattle.an_base.proofs.NumberedLemmas.{drop_at}
 use Rattle.an_base.proofs.TextSetLemmas.{ascend-texts}
@@ -230,6 +230,18 @@ pub adds-from : (prefix : List ℕ) (old new list : List TermTotal) → new ≡ 
     → (others : List (List ℕ)) → list ≡ totals_of others → Adds old new (with_prefix prefix others)
 adds-from prefix old new list is others whole terms before =
     is ∙ ap₂ (λ a b. counted_from prefix a b) before whole ∙ counted-passed (λ t. starts_with nat_eq t prefix) terms others
+
+all-kept : {A : Type 0} (xs : List A) → filter (λ _. true) xs ≡ xs
+all-kept [] = refl
+all-kept (x ∷ xs) = ap (λ ys. x ∷ ys) (all-kept xs)
+
+-- totals that are added whole
+pub adds-all : (old new totals : List TermTotal) → new ≡ counted_all old totals → (terms : List (List ℕ)) → totals ≡ totals_of terms → Adds old new terms
+adds-all old new totals is terms whole before others =
+    is ∙ ap₂ (λ a b. fold add_entry a b) others whole
+    ∙ ap (fold add_entry (totals_of before)) (sym (all-kept (totals_of terms)))
+    ∙ counted-passed (λ _. true) before terms
+    ∙ ap (λ more. totals_of (before ++ more)) (all-kept terms)
 
 pub fold-nothing : (sums : List TermTotal) (es fs : List TermTotal) → es ≡ fs → fold add_entry sums es ≡ fold add_entry sums fs
 fold-nothing sums es fs same = ap (fold add_entry sums) same

@@ -61,3 +61,7 @@ abbrev pub counted_from : List ℕ → List TermTotal → List TermTotal → Lis
 counted_from prefix totals more =
     fold (λ sums e. counted sums e.term e.total) totals
     (filter (λ e. starts_with nat_eq e.term prefix) more)
+
+-- the same for each of the totals
+abbrev pub counted_all : List TermTotal → List TermTotal → List TermTotal
+counted_all totals more = fold (λ sums e. counted sums e.term e.total) totals more

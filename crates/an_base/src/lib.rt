@@ -20,7 +20,7 @@ pub use moment::{
     Moment, MomentError, moment_of, moment_text, moment_texts_are_ascii, moment_texts_are_unique,
     moments_are_told, moments_read_back,
 };
-pub use name::{Name, NameError, name_in};
+pub use name::{Name, NameError, is_name, name_in};
 pub use object::{with_member, without_member};
 pub use shared::Shared;
 pub use span::{Prefer, Span, TermTotal};

@@ -1,6 +1,6 @@
 ghost use Rattle.std.specs.Prelude.{◌≡◌, IfOk, IsTrue, not, position};
 ghost use Rattle.an_base.specs.Outcome.{Gives, first_of};
-ghost use Rattle.an_base.specs.Name.{is_name_sign, name_in, name_refusals};
+ghost use Rattle.an_base.specs.Name.{is_name, is_name_sign, name_in, name_refusals};
 
 use crate::copy::TryCopy;
 use crate::shared::Shared;
@@ -104,6 +104,13 @@ pub fn name_in(alloc: Global, text: &str) -> Result<Option<Name>, AllocError>
             Ok(None)
         },
     }
+}
+
+/// Whether a text is a name. Takes no memory.
+pub fn is_name(text: &str) -> bool
+    ensures name { result ≡ is_name text.now }
+{
+    refusal_of(text).is_none()
 }
 
 fn shared_text(alloc: Global, text: &str) -> Result<Shared<Text>, AllocError>

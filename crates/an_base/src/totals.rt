@@ -1,6 +1,6 @@
 ghost use Rattle.std.specs.Prelude.{◌≡◌, ◌+◌, ◌∷◌, [], List, ℕ, IfOk, OnOk, string_cmp, unwrap_or};
 ghost use Rattle.std.specs.BTreeMap.{get, insert_entry};
-ghost use Rattle.an_base.specs.Totals.{Adds, capped, counted, counted_from, totals_of};
+ghost use Rattle.an_base.specs.Totals.{Adds, capped, counted, counted_all, counted_from, totals_of};
 ghost use Rattle.an_base.specs.Totals.{with_prefix};
 
 use crate::span::TermTotal;
@@ -57,6 +57,14 @@ impl TermTotals {
         self.count_from(list, prefix)
     }
 
+    /// Adds totals, each term as often as they say. Where memory runs out, some of them are added.
+    pub fn add_totals(&mut self, totals: &[TermTotal]) -> Result<(), AllocError>
+        ensures added { OnOk result ((terms : List (List ℕ)) → totals.now ≡ totals_of terms
+            → Adds self.old self.new terms) }
+    {
+        self.count_all(totals)
+    }
+
     /// The totals, ascending by the bytes of the terms.
     pub fn into_vec(self) -> Result<Vec<TermTotal>, AllocError>
         ensures totals { IfOk result (λ totals. totals.items ≡ self) }
@@ -93,6 +101,16 @@ impl TermTotals {
                 return Ok(());
             }
             self.count(list.term(place), list.total(place))?;
+        }
+        Ok(())
+    }
+
+    /// Each term occurs so many times more as its total says.
+    fn count_all(&mut self, totals: &[TermTotal]) -> Result<(), AllocError>
+        ensures { OnOk result (self.new ≡ counted_all self.old totals.now) }
+    {
+        for total in totals {
+            self.count(total.term.as_str(), total.total)?;
         }
         Ok(())
     }

@@ -7,9 +7,9 @@ use an_base::{List, Text};
 use an_selectors::{Selector, read_selector};
 use std::alloc::{AllocError, Global};
 
-/// What each list of selectors comes to in the texts, which stand before the bar, with ` / ` between
-/// them. Lists have ` ; ` between them, and the trees of their selectors ` & `; `none` is a list
-/// without any: `a heron / herons | {..} & {..} ; none`.
+/// What each list of selectors comes to in the texts, which stand before the bar, with ` / `
+/// between them. Lists have ` ; ` between them, and the trees of their selectors ` & `; `none` is a
+/// list without any: `a heron / herons | {..} & {..} ; none`.
 pub fn anchors(alloc: Global, argument: &str) -> Result<String, RowError> {
     let (texts, asked) = two_parts(argument)?;
     let texts = texts_in(alloc, texts)?;

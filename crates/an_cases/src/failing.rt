@@ -1,5 +1,5 @@
-//! Requests at a desk and at a store of one seat, whose keeper fails a call; and one at the first of
-//! two seats.
+//! Requests at a desk and at a store of one seat, whose keeper fails a call; and one at the first
+//! of two seats.
 ghost use Rattle.std.specs.Prelude.{◌≡◌, ◌<◌, length};
 
 use crate::play::{fresh_link, with_lines};

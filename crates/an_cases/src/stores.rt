@@ -29,8 +29,9 @@ impl Stores {
 
 /// Of a closed store a row is `open`, `new`, which puts an empty one in its place, `cells`, which
 /// shows them all, `put 1 0 | {}`, which puts a cell, or `faults`, which counts the calls of its
-/// keeper that failed. Of an open one it is `close`, a look at its state, as `length 1`, `row 1 0` or `changes
-/// 1 0 | {}`, `import TEXT`, whose lines end in `\n`, or `session TEXT`, whose lines end in `\r\n`.
+/// keeper that failed. Of an open one it is `close`, a look at its state, as `length 1`, `row 1 0`
+/// or `changes 1 0 | {}`, `import TEXT`, whose lines end in `\n`, or `session TEXT`, whose lines
+/// end in `\r\n`.
 impl Answers for Stores {
     fn answer(&mut self, alloc: Global, argument: &str) -> Result<String, RowError> {
         match argument {

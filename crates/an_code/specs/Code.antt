@@ -3,8 +3,8 @@ use Rattle.std.specs.Prelude.{ℕ, List, codes}
 use Rattle.an_code.specs.declared.code.Code.{Code}
 use Rattle.an_code.specs.declared.code.Code.TheVariants.{Line, Input, Absent, Group, Date}
 use Rattle.an_code.specs.declared.code.Code.TheVariants.{Target, Route, Method, Bytes, Twice}
-use Rattle.an_code.specs.declared.code.Code.TheVariants.{VersionForm, Manifest, Keeper, Page}
-use Rattle.an_code.specs.declared.code.Code.TheVariants.{NoPage, Min, Iris, Xywh, Prefix}
+use Rattle.an_code.specs.declared.code.Code.TheVariants.{VersionForm, Manifest, Manifests, Keeper}
+use Rattle.an_code.specs.declared.code.Code.TheVariants.{Page, NoPage, Min, Iris, Xywh, Prefix}
 use Rattle.an_code.specs.declared.code.Code.TheVariants.{ReaderToken, ReaderRole, ReaderUser}
 use Rattle.an_code.specs.declared.code.Code.TheVariants.{ReaderGroups, Json, NotWhole, Deep}
 use Rattle.an_code.specs.declared.code.Code.TheVariants.{NoteType, NoteTarget, NoteBody}
@@ -31,6 +31,7 @@ parameter_text parameter.Page = codes "page"
 parameter_text parameter.Min = codes "min"
 parameter_text parameter.Iris = codes "iris"
 parameter_text parameter.Xywh = codes "xywh"
+parameter_text parameter.Manifests = codes "manifests"
 
 abbrev pub code_text : Code → List ℕ
 code_text Line = codes "line"
@@ -42,6 +43,7 @@ code_text Bytes = codes "bytes"
 code_text (Twice name) = codes "twice"
 code_text VersionForm = codes "version"
 code_text Manifest = codes "manifest"
+code_text (Manifests at) = codes "manifests"
 code_text (Date at) = codes "date"
 code_text Page = codes "page"
 code_text (NoPage pages) = codes "page"

@@ -25,6 +25,8 @@ pub enum Code {
     VersionForm,
     /// The manifest of an annotation is missing or no name.
     Manifest,
+    /// This piece of the manifests that are searched, from 0, is no name.
+    Manifests { at: usize },
     /// This piece of a date, from 0, isn't two moments joined by `/`.
     Date { at: usize },
     /// The page isn't decimal from 1 to 999,999,999.
@@ -125,6 +127,7 @@ impl Code {
             Code::Twice { .. } => "twice",
             Code::VersionForm => "version",
             Code::Manifest => "manifest",
+            Code::Manifests { .. } => "manifests",
             Code::Date { .. } => "date",
             Code::Page => "page",
             Code::NoPage { .. } => "page",

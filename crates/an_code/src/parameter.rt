@@ -27,6 +27,8 @@ pub enum Parameter {
     Iris,
     /// A region of a canvas.
     Xywh,
+    /// The manifests whose annotations are searched.
+    Manifests,
 }
 
 impl Parameter {
@@ -46,6 +48,7 @@ impl Parameter {
             Parameter::Min => "min",
             Parameter::Iris => "iris",
             Parameter::Xywh => "xywh",
+            Parameter::Manifests => "manifests",
         }
     }
 }

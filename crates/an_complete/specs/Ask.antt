@@ -13,7 +13,7 @@ use Rattle.an_code.specs.declared.parameter.Parameter.TheVariants as parameter
 use Rattle.an_complete.specs.declared.ask.QueryAskError.{QueryAskError}
 use Rattle.an_complete.specs.declared.ask.QueryAskError.TheVariants as refusal
 
--- the values that were given, and the names of no parameter of a completion
+-- the values that were given, and the names of no parameter that is read
 pub record AskRecord : Type 0 where
   pub q : List ℕ
   pub min : Option ℕ
@@ -34,25 +34,25 @@ ask_parameters =
 abbrev pub has_prefix : Option (List ℕ) → Bool
 has_prefix q = passes (λ value. nat_lt 0 (length (term_of value))) q
 
--- why pairs give no query, in the order of the refusals
-abbrev pub ask_refusals : List Pair → List (Option QueryAskError)
-ask_refusals pairs =
-    option_map refusal.Twice (twice_of ask_parameters pairs)
+-- why pairs give no query where these parameters are read, in the order of the refusals
+abbrev pub ask_refusals : List Parameter → List Pair → List (Option QueryAskError)
+ask_refusals reads pairs =
+    option_map refusal.Twice (twice_of reads pairs)
     ∷ when (not (has_prefix (value_of parameter.Q pairs))) refusal.NoPrefix
     ∷ when (is_bad_number (value_of parameter.Min pairs)) refusal.Min
     ∷ option_map refusal.Date (bad_date (value_of parameter.Date pairs)) ∷ []
 
--- the query that pairs give
-abbrev pub ask_in : List Pair → AskRecord
-ask_in pairs = record {
+-- the query that pairs give where these parameters are read
+abbrev pub ask_in : List Parameter → List Pair → AskRecord
+ask_in reads pairs = record {
   q = unwrap_or (value_of parameter.Q pairs) [];
   min = option_and_then number_in (value_of parameter.Min pairs);
   filters = filters_in pairs;
-  ignored = others_of ask_parameters pairs;
+  ignored = others_of reads pairs;
 }
 
 -- the query that a text is, or the first refusal
 unfoldable pub ask_of : List ℕ → Result AskRecord QueryAskError
 ask_of text =
     or_refuse refusal.Bytes (pairs_of text) (λ pairs.
-    unless (first_of (ask_refusals pairs)) (ask_in pairs))
+    unless (first_of (ask_refusals ask_parameters pairs)) (ask_in ask_parameters pairs))

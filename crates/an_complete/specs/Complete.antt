@@ -16,9 +16,11 @@ use Rattle.an_base.specs.declared.span.TermTotal.{TermTotal}
 use Rattle.an_query.specs.Filters.{filter_parameters}
 use Rattle.an_query.specs.Form.{form_of}
 use Rattle.an_list.specs.Page.{texts_beside}
-use Rattle.an_search.specs.Search.{search_context}
+use Rattle.an_search.specs.Gathered.{is_on_one}
+use Rattle.an_search.specs.Search.{hits_where, search_context}
 use Rattle.an_list.specs.Site.{Site}
-use Rattle.an_search.specs.Wanted.{matches, wanted_by}
+use Rattle.an_search.specs.Wanted.{wanted_by}
+use Rattle.an_code.specs.declared.parameter.Parameter.{Parameter}
 use Rattle.an_code.specs.declared.parameter.Parameter.TheVariants as parameter
 use Rattle.an_search.specs.declared.wanted.Wanted.{Wanted}
 use Rattle.an_complete.specs.Ask.{AskRecord}
@@ -33,7 +35,11 @@ filters_of ask = wanted_by None ask.filters
 
 -- the annotations of the view on the manifest that the filters let pass, in their order
 abbrev pub asked_notes : View → List ℕ → Wanted → List NoteState
-asked_notes view manifest filters = filter (matches filters) (filter (is_on manifest) view.notes)
+asked_notes view manifest filters = hits_where (is_on manifest) view filters
+
+-- the same on these manifests
+abbrev pub asked_notes_on : View → List (List ℕ) → Wanted → List NoteState
+asked_notes_on view manifests filters = hits_where (is_on_one manifests) view filters
 
 -- a term occurs often enough: once, where no number is given
 abbrev pub is_enough : Option ℕ → TermTotal → Bool
@@ -48,6 +54,11 @@ first_terms min terms = take 100 (filter (is_enough min) terms)
 unfoldable pub asked_terms : View → List ℕ → AskRecord → List TermTotal
 asked_terms view manifest ask =
     first_terms ask.min (totals_in (term_of ask.q) (asked_notes view manifest (filters_of ask)))
+
+-- the same in the annotations on these manifests
+unfoldable pub asked_terms_on : View → List (List ℕ) → AskRecord → List TermTotal
+asked_terms_on view manifests ask =
+    first_terms ask.min (totals_in (term_of ask.q) (asked_notes_on view manifests (filters_of ask)))
 
 -- ---- the page
 
@@ -66,11 +77,15 @@ terms_page iri ignored terms =
     (member (codes "items") (array (items_of (map term_tree terms)))
     (member (codes "type") (string (codes "TermPage")) no_members)))))
 
--- the parameters that were given, as a form writes them
+-- the parameters of a completion
+abbrev pub given_parameters : AskRecord → List (Parameter × Option (List ℕ))
+given_parameters ask =
+    (parameter.Q, Some ask.q)
+    ∷ (parameter.Min, option_map decimal ask.min) ∷ filter_parameters ask.filters
+
+-- those that were given, as a form writes them
 unfoldable pub ask_form : AskRecord → List ℕ
-ask_form ask =
-    form_of ((parameter.Q, Some ask.q)
-    ∷ (parameter.Min, option_map decimal ask.min) ∷ filter_parameters ask.filters)
+ask_form ask = form_of (given_parameters ask)
 
 -- the page's IRI: BASE/autocomplete/MANIFEST?PARAMETERS
 abbrev pub ask_iri : List ℕ → List ℕ → AskRecord → List ℕ

@@ -1,6 +1,7 @@
 -- How many steps a completion takes. A step is one fetch of an annotation's row. The caller's view
 -- tells the number, so that nothing hidden does.
 use Rattle.std.specs.Prelude.{ℕ, List, length, filter, is_some, if◌then◌else◌}
+use Rattle.std.specs.List.{sum_by}
 use Rattle.an_state.specs.View.{View, is_on, manifest_in}
 use Rattle.an_search.specs.Wanted.{wants_nothing}
 use Rattle.an_search.specs.declared.wanted.Wanted.{Wanted}
@@ -15,6 +16,14 @@ filter_cost view manifest filters =
 
 abbrev pub terms_cost : View → List ℕ → AskRecord → ℕ
 terms_cost view manifest ask = filter_cost view manifest (filters_of ask)
+
+-- the same on several manifests
+abbrev pub filter_cost_on : View → Wanted → List (List ℕ) → ℕ
+filter_cost_on view filters manifests =
+    sum_by (λ manifest. filter_cost view manifest filters) manifests
+
+abbrev pub terms_cost_on : View → List (List ℕ) → AskRecord → ℕ
+terms_cost_on view manifests ask = filter_cost_on view (filters_of ask) manifests
 
 -- the steps of a completion: none without the manifest
 abbrev pub complete_cost : View → List ℕ → AskRecord → ℕ

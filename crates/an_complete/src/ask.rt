@@ -34,7 +34,7 @@ pub struct Ask {
     /// How often a term occurs at least: from 1 to 999,999,999.
     pub min: Option<u32>,
     pub filters: Filters,
-    /// The names of no parameter of a completion, each where it first came.
+    /// The names of no parameter that is read, each where it first came.
     pub ignored: List<Text>,
 }
 
@@ -95,7 +95,7 @@ impl Ask {
         &self.filters
     }
 
-    /// The names of no parameter of a completion.
+    /// The names of no parameter that is read.
     pub fn ignored(&self) -> &[Text]
         ensures value { result.now ≡ self.now.ignored }
     {
@@ -110,19 +110,21 @@ pub fn read_ask(alloc: Global, text: &str) -> Result<Ask, QueryAskError>
     ensures ask { Gives (λ ask. ask) QueryAskError.Memory result (ask_of text.now) }
 {
     match query_pairs(alloc, text) {
-        Ok(Some(pairs)) => ask_in(alloc, pairs.as_slice()),
+        Ok(Some(pairs)) => ask_in(alloc, &ASK_PARAMETERS, pairs.as_slice()),
         Ok(None) => Err(QueryAskError::Bytes),
         Err(_) => Err(QueryAskError::Memory),
     }
 }
 
-fn ask_in(alloc: Global, pairs: &[Pair]) -> Result<Ask, QueryAskError>
-    ensures { Gives (λ ask. ask) QueryAskError.Memory result
-        (unless (first_of (ask_refusals pairs.now)) (ask_in pairs.now)) }
+/// The query that pairs give where these parameters are read, or the first of the refusals but for
+/// `Bytes`.
+pub fn ask_in(alloc: Global, reads: &[Parameter], pairs: &[Pair]) -> Result<Ask, QueryAskError>
+    ensures ask { Gives (λ ask. ask) QueryAskError.Memory result
+        (unless (first_of (ask_refusals reads.now pairs.now)) (ask_in reads.now pairs.now)) }
 {
-    match refusal_in(alloc, pairs) {
+    match refusal_in(alloc, reads, pairs) {
         Ok(Some(refusal)) => Err(refusal),
-        Ok(None) => match filled(alloc, pairs) {
+        Ok(None) => match filled(alloc, reads, pairs) {
             Ok(ask) => Ok(ask),
             Err(_) => Err(QueryAskError::Memory),
         },
@@ -131,10 +133,14 @@ fn ask_in(alloc: Global, pairs: &[Pair]) -> Result<Ask, QueryAskError>
 }
 
 /// The first refusal of the pairs.
-fn refusal_in(alloc: Global, pairs: &[Pair]) -> Result<Option<QueryAskError>, AllocError>
-    ensures { IfOk result (λ refusal. refusal ≡ first_of (ask_refusals pairs.now)) }
+fn refusal_in(
+    alloc: Global,
+    reads: &[Parameter],
+    pairs: &[Pair],
+) -> Result<Option<QueryAskError>, AllocError>
+    ensures { IfOk result (λ refusal. refusal ≡ first_of (ask_refusals reads.now pairs.now)) }
 {
-    match twice_in(&ASK_PARAMETERS, pairs) {
+    match twice_in(reads, pairs) {
         Some(name) => Ok(Some(QueryAskError::Twice { name })),
         None => if has_prefix(alloc, value_in(Parameter::Q, pairs))? {
             Ok(bad_limits(pairs))
@@ -174,15 +180,15 @@ fn bad_limits(pairs: &[Pair]) -> Option<QueryAskError>
 
 /// The query that the pairs give.
 #[tactic(auto, using(crate::proofs::AskLemmas::has_ranges))]
-fn filled(alloc: Global, pairs: &[Pair]) -> Result<Ask, AllocError>
-    requires { first_of (ask_refusals pairs.now) ≡ None }
-    ensures { IfOk result (λ ask. ask ≡ ask_in pairs.now) }
+fn filled(alloc: Global, reads: &[Parameter], pairs: &[Pair]) -> Result<Ask, AllocError>
+    requires { first_of (ask_refusals reads.now pairs.now) ≡ None }
+    ensures { IfOk result (λ ask. ask ≡ ask_in reads.now pairs.now) }
 {
     Ok(Ask {
         q: prefix_in(alloc, pairs)?,
         min: min_in(pairs),
         filters: filters_in(pairs)?,
-        ignored: others_in(alloc, &ASK_PARAMETERS, pairs)?,
+        ignored: others_in(alloc, reads, pairs)?,
     })
 }
 

@@ -1,16 +1,17 @@
-ghost use Rattle.std.specs.Prelude.{◌≡◌, ◌+◌, ◌≤◌, IfOk, OnOk};
+ghost use Rattle.std.specs.Prelude.{◌≡◌, ◌+◌, ◌≤◌, IfOk, IsTrue, OnOk};
 ghost use Rattle.serde_json.specs.Written.{compact_text};
 ghost use Rattle.an_base.specs.Outcome.{Gives};
 ghost use Rattle.an_policy.specs.Audience.{identity};
 ghost use Rattle.an_state.specs.View.{view_of};
-ghost use Rattle.an_complete.specs.Complete.{ask_iri, asked_terms, complete_of, filters_of};
-ghost use Rattle.an_complete.specs.Complete.{terms_page};
-ghost use Rattle.an_complete.specs.Cost.{complete_cost, terms_cost};
+ghost use Rattle.an_search.specs.Gathered.{each_once, lent_names};
+ghost use Rattle.an_complete.specs.Complete.{ask_iri, asked_terms, asked_terms_on, complete_of};
+ghost use Rattle.an_complete.specs.Complete.{filters_of, terms_page};
+ghost use Rattle.an_complete.specs.Cost.{complete_cost, terms_cost, terms_cost_on};
 ghost use Rattle.an_list.specs.Cost.{Takes};
 
 use crate::ask::Ask;
 use crate::page::{ask_iri, terms_text};
-use crate::totals::{asked_totals, first_terms};
+use crate::totals::{asked_totals, first_terms, totals_on};
 use an_base::{Bytes, Name, Steps, TermTotal};
 use an_list::{ReadError, Site};
 use an_policy::Who;
@@ -93,6 +94,39 @@ pub fn asked_terms<T: Look, L: Ledger>(
     let prefix = term_of(alloc, ask.q())?;
     let filters = filters_of(alloc, ask)?;
     let totals = asked_totals(alloc, look, who, manifest, prefix.as_str(), &filters, steps)?;
+    first_terms(alloc, ask.min(), totals)
+}
+
+/// The terms that a completion gives in the annotations on these manifests, each of which is named
+/// once and which the caller may read, each term with its total.
+pub fn asked_terms_on<T: Look, L: Ledger>(
+    alloc: Global,
+    look: &T,
+    who: &Who<'_>,
+    manifests: &[&Name],
+    ask: &Ask,
+    steps: &mut Steps<L>,
+) -> Result<Vec<TermTotal>, AllocError>
+    requires once { IsTrue (each_once (lent_names manifests.now)) }
+    ensures terms { IfOk result (λ terms. terms.items ≡ asked_terms_on
+        (view_of (T.state look.now) (identity who.now)) (lent_names manifests.now) ask.now) }
+    ensures steps { OnOk result (steps.new ≡ steps.old + terms_cost_on
+        (view_of (T.state look.now) (identity who.now)) (lent_names manifests.now) ask.now) }
+    ensures steps_most { steps.new ≤ steps.old + terms_cost_on
+        (view_of (T.state look.now) (identity who.now)) (lent_names manifests.now) ask.now }
+    ensures steps_least { steps.old ≤ steps.new }
+{
+    let prefix = term_of(alloc, ask.q())?;
+    let filters = filters_of(alloc, ask)?;
+    let totals = totals_on(
+        alloc,
+        look,
+        who,
+        manifests,
+        prefix.as_str(),
+        &filters,
+        steps,
+    )?;
     first_terms(alloc, ask.min(), totals)
 }
 

@@ -7,8 +7,9 @@
 //! ```
 #![tactic(auto)]
 
-pub use ask::{Ask, QueryAskError, read_ask};
-pub use completion::{asked_terms, complete};
+pub use ask::{Ask, QueryAskError, ask_in, read_ask};
+pub use completion::{asked_terms, asked_terms_on, complete};
+pub use page::{append_ask, terms_text};
 
 mod ask;
 mod completion;

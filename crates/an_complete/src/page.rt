@@ -1,4 +1,5 @@
-ghost use Rattle.std.specs.Prelude.{◌≡◌, ◌++◌, codes, decimal, map, option_map, string_bytes, IfOk};
+ghost use Rattle.std.specs.Prelude.{◌≡◌, ◌++◌, codes, decimal, fold, map, option_map};
+ghost use Rattle.std.specs.Prelude.{string_bytes, IfOk, OnOk};
 ghost use Rattle.serde_json.specs.Data.{string};
 ghost use Rattle.serde_json.specs.View.{items_of};
 ghost use Rattle.serde_json.specs.Written.{compact_text};
@@ -6,7 +7,9 @@ ghost use Rattle.an_base.specs.Write.{item_commas, item_text, member_text};
 ghost use Rattle.an_list.specs.Page.{texts_beside};
 ghost use Rattle.an_search.specs.Search.{search_context};
 ghost use Rattle.an_list.specs.PageText.{text_if};
-ghost use Rattle.an_complete.specs.Complete.{ask_form, ask_iri, term_tree, terms_page};
+ghost use Rattle.an_query.specs.Form.{with_given};
+ghost use Rattle.an_complete.specs.Complete.{ask_form, ask_iri, given_parameters, term_tree};
+ghost use Rattle.an_complete.specs.Complete.{terms_page};
 
 use crate::ask::Ask;
 use an_base::{
@@ -40,12 +43,21 @@ pub(crate) fn ask_iri(
 fn ask_form(alloc: Global, ask: &Ask) -> Result<String, AllocError>
     ensures { IfOk result (λ form. string_bytes form ≡ ask_form ask.now) }
 {
-    let min = min_text(alloc, ask.min())?;
     let mut form = Serializer::new(String::new(alloc));
-    form.append_pair(Parameter::Q.text(), ask.q())?;
-    append_given(&mut form, Parameter::Min, min.as_ref())?;
-    append_filters(&mut form, ask.filters())?;
+    append_ask(alloc, &mut form, ask)?;
     Ok(form.finish())
+}
+
+/// Writes the parameters of a completion that were given behind a form.
+pub fn append_ask(alloc: Global, form: &mut Serializer, ask: &Ask) -> Result<(), AllocError>
+    ensures written { OnOk result (form.new ≡ record form.old {
+      form = fold with_given form.old.form (given_parameters ask.now);
+    }) }
+{
+    let min = min_text(alloc, ask.min())?;
+    form.append_pair(Parameter::Q.text(), ask.q())?;
+    append_given(form, Parameter::Min, min.as_ref())?;
+    append_filters(form, ask.filters())
 }
 
 /// The number as it was given.
@@ -59,7 +71,7 @@ fn min_text(alloc: Global, min: Option<u32>) -> Result<Option<Text>, AllocError>
 }
 
 /// The text of the page of this IRI with these terms, its members in the order of their names.
-pub(crate) fn terms_text(
+pub fn terms_text(
     alloc: Global,
     iri: &str,
     ignored: &[Text],

@@ -1,5 +1,5 @@
 ghost use Rattle.std.specs.Prelude.{◌≡◌, ◌+◌, ◌≤◌, List, [], ◌∷◌, ◌++◌, filter, length, slice_get};
-ghost use Rattle.std.specs.Prelude.{IfOk, OnOk};
+ghost use Rattle.std.specs.Prelude.{IfOk, IsTrue, OnOk};
 ghost use Rattle.std.specs.List.{filter_map};
 ghost use Rattle.an_policy.specs.Audience.{identity};
 ghost use Rattle.an_state.specs.State.{NoteState};
@@ -7,8 +7,9 @@ ghost use Rattle.an_state.specs.Terms.{totals_in};
 ghost use Rattle.an_state.specs.View.{view_of};
 ghost use Rattle.an_search.specs.Known.{AreKnown};
 ghost use Rattle.an_search.specs.Wanted.{matches};
-ghost use Rattle.an_complete.specs.Complete.{asked_notes, first_terms, is_enough};
-ghost use Rattle.an_complete.specs.Cost.{filter_cost};
+ghost use Rattle.an_search.specs.Gathered.{each_once, lent_names};
+ghost use Rattle.an_complete.specs.Complete.{asked_notes, asked_notes_on, first_terms, is_enough};
+ghost use Rattle.an_complete.specs.Cost.{filter_cost, filter_cost_on};
 
 use an_base::{Name, Steps, TermTotal, TermTotals};
 use an_policy::Who;
@@ -46,6 +47,34 @@ pub(crate) fn asked_totals<T: Look, L: Ledger>(
         let places = look.readable(alloc, who, manifest)?;
         count(alloc, look, places.as_slice(), prefix, filters, steps)
     }
+}
+
+/// The same in the annotations on these manifests, each of which is named once.
+pub(crate) fn totals_on<T: Look, L: Ledger>(
+    alloc: Global,
+    look: &T,
+    who: &Who<'_>,
+    manifests: &[&Name],
+    prefix: &str,
+    filters: &Wanted,
+    steps: &mut Steps<L>,
+) -> Result<Vec<TermTotal>, AllocError>
+    requires once { IsTrue (each_once (lent_names manifests.now)) }
+    ensures totals { IfOk result (λ totals. totals.items ≡ totals_in prefix.now
+        (asked_notes_on (view_of (T.state look.now) (identity who.now)) (lent_names manifests.now)
+        filters.now)) }
+    ensures steps { OnOk result (steps.new ≡ steps.old + filter_cost_on
+        (view_of (T.state look.now) (identity who.now)) filters.now (lent_names manifests.now)) }
+    ensures steps_most { steps.new ≤ steps.old + filter_cost_on
+        (view_of (T.state look.now) (identity who.now)) filters.now (lent_names manifests.now) }
+    ensures steps_least { steps.old ≤ steps.new }
+{
+    let mut totals = TermTotals::new(alloc);
+    for manifest in manifests {
+        let more = asked_totals(alloc, look, who, manifest, prefix, filters, steps)?;
+        totals.add_totals(more.as_slice())?;
+    }
+    totals.into_vec()
 }
 
 /// The same of the annotations at these places.

@@ -26,7 +26,7 @@ pub fn export<T: Look, L: Ledger>(
         (λ text. text ≡ exported (view_of (T.state look.now) (identity who.now))) }
     ensures steps { OnOk result (steps.new ≡ steps.old + length (T.state look.now).notes + 1) }
 {
-    let out = push_manifests(Vec::new(alloc), look, who)?;
+    let out = push_manifests(alloc, Vec::new(alloc), look, who)?;
     let out = push_notes(out, look, who, steps)?;
     Ok(Bytes::from_vec(out))
 }

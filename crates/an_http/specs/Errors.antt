@@ -22,6 +22,7 @@ member_of (code.NoteMotivation at) = member.At at
 member_of (code.NoteSelector at) = member.At at
 member_of (code.ManifestCanvas at) = member.At at
 member_of (code.Version current) = member.Current current
+member_of (code.Manifests at) = member.At at
 member_of (code.Date at) = member.At at
 member_of (code.Twice name) = member.Name name
 member_of (code.NoPage pages) = member.Pages pages

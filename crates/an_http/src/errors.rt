@@ -56,6 +56,7 @@ fn member_of(code: Code) -> Member
         Code::NoteSelector { at } => Member::At(at),
         Code::ManifestCanvas { at } => Member::At(at),
         Code::Version { current } => Member::Current(current),
+        Code::Manifests { at } => Member::At(at),
         Code::Date { at } => Member::At(at),
         Code::Twice { name } => Member::Name(name),
         Code::NoPage { pages } => Member::Pages(pages),

@@ -42,6 +42,19 @@ complete_iri base name = base ++ (codes "/autocomplete/" ++ name)
 abbrev pub orphans_iri : List ℕ → List ℕ → List ℕ
 orphans_iri base name = base ++ (codes "/manifests/" ++ (name ++ codes "/orphans"))
 
+-- ---- of all manifests
+
+-- the collection of them
+abbrev pub collection_iri : List ℕ → List ℕ
+collection_iri base = base ++ codes "/collection"
+
+-- the service that searches the annotations on them, and the one that completes their words
+abbrev pub gather_search_iri : List ℕ → List ℕ
+gather_search_iri base = base ++ codes "/gather/search"
+
+abbrev pub gather_complete_iri : List ℕ → List ℕ
+gather_complete_iri base = base ++ codes "/gather/autocomplete"
+
 -- ---- of changes and marks
 
 -- the stream of changes

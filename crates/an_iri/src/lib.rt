@@ -7,7 +7,9 @@
 
 ghost use Rattle.std.specs.Prelude.{◌≡◌, IfOk, string_bytes};
 ghost use Rattle.an_iri.specs.Iris.{anchors_iri, canvas_iri, canvas_page_iri, changes_iri};
-ghost use Rattle.an_iri.specs.Iris.{complete_iri, container_iri, manifest_iri, mark_iri, note_iri};
+ghost use Rattle.an_iri.specs.Iris.{collection_iri, complete_iri, container_iri};
+ghost use Rattle.an_iri.specs.Iris.{gather_complete_iri, gather_search_iri, manifest_iri, mark_iri};
+ghost use Rattle.an_iri.specs.Iris.{note_iri};
 ghost use Rattle.an_iri.specs.Iris.{orphans_iri, reader_iri, search_iri};
 
 pub use names::{names_in, note_iris_are_unique, note_iris_read_back};
@@ -101,6 +103,27 @@ pub fn complete_iri(alloc: Global, base: &str, name: &str) -> Result<String, All
     ensures iri { IfOk result (λ iri. string_bytes iri ≡ complete_iri base.now name.now) }
 {
     format!(in alloc; "{base}/autocomplete/{name}")
+}
+
+/// The IRI of the collection of all manifests.
+pub fn collection_iri(alloc: Global, base: &str) -> Result<String, AllocError>
+    ensures iri { IfOk result (λ iri. string_bytes iri ≡ collection_iri base.now) }
+{
+    format!(in alloc; "{base}/collection")
+}
+
+/// The IRI of the service that searches the annotations on all manifests.
+pub fn gather_search_iri(alloc: Global, base: &str) -> Result<String, AllocError>
+    ensures iri { IfOk result (λ iri. string_bytes iri ≡ gather_search_iri base.now) }
+{
+    format!(in alloc; "{base}/gather/search")
+}
+
+/// The IRI of the service that completes words of the annotations on all manifests.
+pub fn gather_complete_iri(alloc: Global, base: &str) -> Result<String, AllocError>
+    ensures iri { IfOk result (λ iri. string_bytes iri ≡ gather_complete_iri base.now) }
+{
+    format!(in alloc; "{base}/gather/autocomplete")
 }
 
 /// The IRI of the stream of changes.

@@ -51,9 +51,11 @@ impl<R: Keyed + Drop> Rows<R> {
         }
     }
 
-    /// The rows in their order.
+    /// The rows in their order; no two rows have one key.
+    #[tactic(auto, using(crate::proofs::DistinctLemmas::distinct_rows))]
     pub fn as_slice(&self) -> &[R]
         ensures rows { result.now ≡ self.now.rows }
+        ensures distinct { IsTrue (keys_are_distinct R.key self.now.rows) }
     {
         self.rows.as_slice()
     }

@@ -14,9 +14,9 @@ use Rattle.an_state.specs.State.{State, NoteState, note_key, note_row, keys_are_
 use Rattle.an_state.specs.View.{is_on}
 use Rattle.an_state.specs.declared.entry.Row.{Row}
 use Rattle.an_state.specs.declared.entry.Row.TheVariants as kept
-use Rattle.an_state.proofs.DistinctLemmas.{notes-distinct}
+use Rattle.an_state.proofs.DistinctLemmas.{distinct-filter, notes-distinct}
 use Rattle.an_state.proofs.ViewLemmas.{one_shown}
-use Rattle.an_laws.proofs.RowLemmas.{distinct-filter, none-behind}
+use Rattle.an_laws.proofs.RowLemmas.{none-behind}
 
 -- ---- rows that are put one after another
 

@@ -12,10 +12,10 @@ use Rattle.an_state.specs.View.{audience_of_note}
 use Rattle.an_state.specs.State.{State, NoteState, note_key, note_row, keys_are_distinct, is_distinct}
 use Rattle.an_state.specs.View.{is_on}
 use Rattle.an_state.specs.declared.activity.Activity.{Activity}
-use Rattle.an_state.proofs.DistinctLemmas.{notes-distinct}
+use Rattle.an_state.proofs.DistinctLemmas.{distinct-filter, notes-distinct}
 use Rattle.an_state.proofs.ViewLemmas.{one_shown}
 use Rattle.an_laws.specs.Coherent.{activities_of, Chain, has_any}
-use Rattle.an_laws.proofs.RowLemmas.{distinct-filter, one_of}
+use Rattle.an_laws.proofs.RowLemmas.{one_of}
 use Rattle.an_laws.proofs.BurialLemmas.{as_left, left_state, note_row-left}
 use Rattle.an_laws.proofs.LeadLemmas.{key_at, LeadsAt, Leads}
 

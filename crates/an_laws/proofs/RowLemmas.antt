@@ -1,8 +1,8 @@
--- Rows of distinct keys: what stands behind a row that has a key, and some of the rows.
-use Rattle.std.proofs.Common.{◌≡◌, Bool, true, false, List, [], ◌∷◌, inl, inr, refl, subst, ◌∙◌}
+-- Rows of distinct keys: what stands behind a row that has a key, and those that have one.
+use Rattle.std.proofs.Common.{◌≡◌, true, false, List, [], ◌∷◌, inl, inr, refl, subst, ◌∙◌}
 use Rattle.std.specs.Prelude.{filter, find, option_to_list}
 use Rattle.std.specs.List.{list_any}
-use Rattle.std.proofs.lemmas.Bool.{cases_Bool, and_parts, and_from, or_parts, or_from, not-true, not_from_false, cond-false, cond_both}
+use Rattle.std.proofs.lemmas.Bool.{cases_Bool, and_parts, or_parts, not-true, cond-false}
 use Rattle.an_keyed.specs.Key.{Key, same_key}
 use Rattle.an_keyed.proofs.KeyLemmas.{same_key-true}
 use Rattle.an_state.specs.State.{keys_are_distinct}
@@ -13,25 +13,6 @@ module _ {R : Type 0} (key : R → Key) where
       → list_any (λ other. same_key (key other) wanted) rows ≡ false
   none-behind row wanted rows is distinct =
       subst (λ k. list_any (λ other. same_key (key other) k) rows ≡ false) (same_key-true (key row) wanted is) (not-true _ (and_parts _ _ distinct).0)
-
-  -- a key that no row has is no key of some of them
-  none-filter : (test : R → Bool) (wanted : Key) (rows : List R) → list_any (λ other. same_key (key other) wanted) rows ≡ false
-      → list_any (λ other. same_key (key other) wanted) (filter test rows) ≡ false
-  none-filter test wanted [] none = refl
-  none-filter test wanted (row ∷ rows) none =
-      let parts = or_parts _ _ none in
-      cond_both (test row) (row ∷ filter test rows) (filter test rows) (λ l. list_any (λ other. same_key (key other) wanted) l ≡ false)
-      (λ h. or_from _ _ parts.0 (none-filter test wanted rows parts.1))
-      (λ h. none-filter test wanted rows parts.1)
-
-  -- some of rows of distinct keys have distinct keys
-  pub distinct-filter : (test : R → Bool) (rows : List R) → keys_are_distinct key rows ≡ true → keys_are_distinct key (filter test rows) ≡ true
-  distinct-filter test [] distinct = refl
-  distinct-filter test (row ∷ rows) distinct =
-      let parts = and_parts _ _ distinct in
-      cond_both (test row) (row ∷ filter test rows) (filter test rows) (λ l. keys_are_distinct key l ≡ true)
-      (λ h. and_from _ _ (not_from_false _ (none-filter test (key row) rows (not-true _ parts.0))) (distinct-filter test rows parts.1))
-      (λ h. distinct-filter test rows parts.1)
 
   -- where none has the key there is none
   none_of : (wanted : Key) (rows : List R) → list_any (λ row. same_key (key row) wanted) rows ≡ false → filter (λ row. same_key (key row) wanted) rows ≡ []

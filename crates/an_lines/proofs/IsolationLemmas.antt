@@ -11,7 +11,6 @@ use Rattle.an_lines.specs.Find.{asked_turn, prints, reply_line, turn_of}
 use Rattle.an_lines.specs.Isolation.{ReaderSeesAlike}
 use Rattle.an_lines.specs.declared.asked.Asked.{Asked}
 use Rattle.an_lines.specs.declared.asked.Asked.TheVariants as asked
-use Rattle.an_routes.specs.declared.kinds.Read.{Read}
 
 module _ (site : Site) (s t : State) where
   asked_alike : (found : Result Asked Code) → ReaderSeesAlike s t found → asked_turn site s found ≡ asked_turn site t found

@@ -13,6 +13,9 @@ use an_routes::{Read, Route, RouteError, command_of, route};
 use an_state::Command;
 use std::alloc::{AllocError, Global};
 
+/// What a form prints whose name is no live reader's.
+pub(crate) const NO_READER: &str = "no reader\n";
+
 /// What a line asks. It is by a reader, or by nobody's name.
 #[derive(Debug, Drop)]
 pub(crate) enum Asked {

@@ -8,7 +8,7 @@ ghost use Rattle.an_policy.specs.Audience.{identity};
 ghost use Rattle.an_lines.specs.Export.{export_report, view_named};
 ghost use Rattle.an_lines.specs.Status.{ReadsLittle, TellsReport};
 
-use crate::asked::by_of;
+use crate::asked::{NO_READER, by_of};
 use crate::status::Status;
 use crate::told::tell_report;
 use crate::turn::reader;
@@ -34,7 +34,7 @@ pub fn export<L: Link, K: Keeper>(alloc: Global, link: &mut L, desk: &Desk<K>, b
 {
     match exported(alloc, desk.look(), by) {
         Ok(Some(text)) => tell_report(link, Status::Done, text.as_slice()),
-        Ok(None) => tell_report(link, Status::NoReader, "no reader\n".as_bytes()),
+        Ok(None) => tell_report(link, Status::NoReader, NO_READER.as_bytes()),
         Err(_) => Status::Memory,
     }
 }

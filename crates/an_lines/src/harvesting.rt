@@ -18,8 +18,9 @@ ghost use Rattle.an_lines.specs.Harvest.{page_refused};
 ghost use Rattle.an_lines.specs.Status.{ReadsLittle};
 ghost use Rattle.an_lines.specs.Told.{IsTold};
 
-use crate::asked::by_of;
+use crate::asked::{NO_READER, by_of};
 use crate::lines::Report;
+use crate::seen_look::SeenLook;
 use crate::status::Status;
 use crate::stop::{TOO_LONG, refusal_line};
 use crate::told::tell_report;
@@ -123,7 +124,7 @@ fn harvested_by<T: Look>(
             if is_too_long(look, site, &who) {
                 page_refused(alloc)
             } else {
-                objects_told(alloc, look, site, caller)
+                objects_told(alloc, look, who, site, caller)
             }
         }
         None => no_reader(alloc),
@@ -143,10 +144,12 @@ fn is_too_long<T: Look>(look: &T, site: &Site, who: &Who<'_>) -> bool
     paging.pages() > MOST_PAGES
 }
 
-/// The objects of a harvest are printed.
+/// The objects of a harvest are printed. The changes that the caller sees are kept meanwhile, so
+/// that no page of them is looked for from the first change on.
 fn objects_told<T: Look>(
     alloc: Global,
     look: &T,
+    who: Who<'_>,
     site: &Site,
     caller: &Caller,
 ) -> Result<Report, AllocError>
@@ -159,7 +162,8 @@ fn objects_told<T: Look>(
         × (record { status = report.status; text = report.text.items } ≡ objects_told objects)) }
     ensures told { IfOk result (λ report. IsTold report.status) }
 {
-    match harvest_look(alloc, look, site, caller, &Known::new(alloc)) {
+    let kept = SeenLook::new(alloc, look, who)?;
+    match harvest_look(alloc, &kept, site, caller, &Known::new(alloc)) {
         Ok(found) => Ok(Report {
             status: Status::Done,
             text: object_lines(alloc, found.objects())?,
@@ -214,6 +218,6 @@ fn no_reader(alloc: Global) -> Result<Report, AllocError>
 {
     Ok(Report {
         status: Status::NoReader,
-        text: Vec::from_slice(alloc, "no reader\n".as_bytes())?,
+        text: Vec::from_slice(alloc, NO_READER.as_bytes())?,
     })
 }

@@ -25,6 +25,7 @@ mod importing;
 mod input;
 mod line;
 mod lines;
+mod seen_look;
 mod split;
 mod status;
 mod stop;

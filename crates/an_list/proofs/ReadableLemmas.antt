@@ -24,7 +24,7 @@ length-places test place (row ∷ rows) =
 -- ---- rows at places
 
 -- the rows behind others, at the places where a test passes, are those that pass it
-rows_at_places : {A : Type 0} (test : A → Bool) (before rows : List A) → filter_map (slice_get (before ++ rows)) (places_from test (length before) rows) ≡ filter test rows
+pub rows_at_places : {A : Type 0} (test : A → Bool) (before rows : List A) → filter_map (slice_get (before ++ rows)) (places_from test (length before) rows) ≡ filter test rows
 rows_at_places test before [] = refl
 rows_at_places {A = A} test before (row ∷ rows) =
     let places = places_from test (length before + 1) rows in

@@ -6,6 +6,7 @@ use Rattle.serde_json.specs.Written.{compact_text}
 use Rattle.an_base.specs.Cut.{cut, members_in}
 use Rattle.an_base.specs.Write.{name_text}
 use Rattle.an_manifest.specs.declared.cut.Cut.{Cut}
+use Rattle.an_manifest.specs.declared.cut.Part.{Part}
 use Rattle.an_manifest.specs.declared.cut.SheetCuts.{SheetCuts}
 
 -- the items of an array are cut out behind its bracket; another value behind the colon before it
@@ -49,6 +50,13 @@ unfoldable pub cuts_at : List ℕ → Data → Cut
 cuts_at name tree =
     cut_if name (length (compact_text tree)) (cut name (members_in tree)) (get name tree)
 
+-- where a member stands in an object's text, or would stand
+abbrev pub part_at : List ℕ → Data → Part
+part_at name tree = record {
+  below = (cuts_at name tree).below;
+  above = (cuts_at name tree).above;
+}
+
 -- the cuts of each canvas around its annotations
 abbrev pub canvas_cuts : Items → List Cut
 canvas_cuts no_items = []
@@ -60,5 +68,6 @@ sheet_cuts tree = record {
   context = cut (codes "@context") (members_in tree);
   id = cut (codes "id") (members_in tree);
   items = cuts_at (codes "items") tree;
+  label = part_at (codes "label") tree;
   service = cuts_at (codes "service") tree;
 }

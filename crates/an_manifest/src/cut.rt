@@ -6,7 +6,7 @@ ghost use Rattle.std.specs.Arc.{arc_slice_items};
 ghost use Rattle.an_base.specs.Cut.{below, members_in};
 ghost use Rattle.an_base.specs.Write.{commas};
 ghost use Rattle.an_manifest.specs.Cuts.{first_cut, last_cut, no_cut, cut_if, cuts_at, canvas_cuts};
-ghost use Rattle.an_manifest.specs.Cuts.{sheet_cuts};
+ghost use Rattle.an_manifest.specs.Cuts.{part_at, sheet_cuts};
 
 use an_base::{push_members, push_name, push_value};
 use serde_json::Value;
@@ -29,6 +29,15 @@ pub struct Cut {
     pub above: usize,
 }
 
+/// Where a member stands in the text of an object.
+#[derive(Clone, Copy, Debug)]
+pub struct Part {
+    /// Behind the members whose names stand before it.
+    pub below: usize,
+    /// Before the members whose names stand behind it.
+    pub above: usize,
+}
+
 /// Where the text of a manifest is cut.
 #[derive(Clone, Copy, Debug)]
 pub struct SheetCuts {
@@ -38,6 +47,8 @@ pub struct SheetCuts {
     pub id: usize,
     /// Around its canvases.
     pub items: Cut,
+    /// Around its label.
+    pub label: Part,
     /// Around its services.
     pub service: Cut,
 }
@@ -50,11 +61,13 @@ pub(crate) fn sheet_cuts(alloc: Global, tree: &Value) -> Result<SheetCuts, Alloc
     let context = text_before(alloc, tree, "@context")?.len();
     let id = text_before(alloc, tree, "id")?.len();
     let items = cuts_at(alloc, tree, "items")?;
+    let label = part_at(alloc, tree, "label")?;
     let service = cuts_at(alloc, tree, "service")?;
     Ok(SheetCuts {
         context,
         id,
         items,
+        label,
         service,
     })
 }
@@ -84,6 +97,18 @@ fn cuts_at(alloc: Global, tree: &Value, name: &str) -> Result<Cut, AllocError>
         Some(value) => cut_around(alloc, size, before, name, value),
         None => Ok(cut_at(size, before.len())),
     }
+}
+
+/// Where a member stands in an object's text, or would stand.
+fn part_at(alloc: Global, tree: &Value, name: &str) -> Result<Part, AllocError>
+    requires whole { has_float (view tree.now) ≡ false }
+    ensures part { IfOk result (λ part. part ≡ part_at name.now (view tree.now)) }
+{
+    let cut = cuts_at(alloc, tree, name)?;
+    Ok(Part {
+        below: cut.below,
+        above: cut.above,
+    })
 }
 
 /// The cuts where a member would stand.

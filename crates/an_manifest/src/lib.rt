@@ -7,7 +7,7 @@
 //! ```
 #![tactic(auto)]
 
-pub use cut::{Cut, SheetCuts};
+pub use cut::{Cut, Part, SheetCuts};
 pub use kept::KeptSheet;
 pub use sheet::{Sheet, SheetError, manifest_refusal, read_manifest};
 

@@ -5,15 +5,16 @@ ghost use Rattle.an_base.specs.Cut.{members_in};
 ghost use Rattle.an_base.specs.TextSet.{ascending, has_text};
 ghost use Rattle.an_base.specs.Totals.{totals_of};
 ghost use Rattle.an_base.specs.Tree.{is_tree};
-ghost use Rattle.an_model.specs.Bodies.{iris_of, note_terms};
+ghost use Rattle.an_model.specs.Bodies.{iris_of, note_terms, texts_of};
 ghost use Rattle.an_model.specs.Note.{is_bare, motivations_of, note_refusal};
 ghost use Rattle.an_model.specs.Cuts.{HasCuts};
 ghost use Rattle.an_model.specs.Targets.{kept_target, targets_of};
 
+use crate::body::read_texts;
 use crate::cuts::{CutText, NoteCuts, cut_text};
 use crate::note::{Note, note_over};
 use crate::occurrence::NoteOccurrence;
-use crate::target::Target;
+use crate::target::{Target, read_targets};
 use an_base::{KeptTree, List, TermList, TermTotals, Text, TextSet, Tree, TryCopy};
 use an_selectors::Xywh;
 use serde_json::Value;
@@ -82,6 +83,22 @@ impl KeptNote {
         let tree = self.tree.to_value(alloc)?;
         let note = note_over(alloc, Tree::new(tree))?;
         Ok(note)
+    }
+
+    /// The plain texts of its bodies, in order, read back without their words.
+    pub fn texts(&self, alloc: Global) -> Result<List<Text>, AllocError>
+        ensures texts { IfOk result (λ texts. texts ≡ texts_of self.now) }
+    {
+        let tree = self.tree.to_value(alloc)?;
+        read_texts(alloc, &tree)
+    }
+
+    /// Its targets, in their order, read back with their selectors.
+    pub fn whole_targets(&self, alloc: Global) -> Result<List<Target>, AllocError>
+        ensures targets { IfOk result (λ targets. targets ≡ targets_of self.now) }
+    {
+        let tree = self.tree.to_value(alloc)?;
+        read_targets(alloc, &tree)
     }
 
     /// The tree, read back.

@@ -161,8 +161,8 @@ fn room_in(lists: &mut Vec<ClassPostings>, class: usize, more: usize) -> Result<
     }
 }
 
-/// Takes the memory for one list, where there is none: most terms have one class, for which a vector
-/// that grows would take four times as much. Where it runs out, the put of the list says so.
+/// Takes the memory for one list, where there is none: most terms have one class, for which a
+/// vector that grows would take four times as much. Where it runs out, the put of the list says so.
 fn room_for_first(lists: &mut Vec<ClassPostings>)
     ensures lists { lists.new.items ≡ lists.old.items }
 {

@@ -2,7 +2,7 @@
 //! often the term occurs in them.
 //!
 //! ```text
-//! postings.room_add(&manifest, "heron", 2, 1)  Ok(()): a place more has room, or it is out of memory
+//! postings.room_add(&manifest, "heron", 2, 1)  Ok(()): a place more has room; Err: out of memory
 //! postings.add(&manifest, "heron", 2, 7, 3)    the row at 7 has the term three times
 //! postings.places(alloc, &manifest, "heron", &[2])  Ok([7])
 //! postings.total(&manifest, "heron", &[2])     3

@@ -104,9 +104,9 @@ impl ManifestPostings {
         }
     }
 
-    /// Takes the place out of the list of a term in a class, and so many times from its count; where
-    /// no memory stays, what is of no use any more is given back as by `let_go`. Whether no term is
-    /// left. It takes no memory.
+    /// Takes the place out of the list of a term in a class, and so many times from its count;
+    /// where no memory stays, what is of no use any more is given back as by `let_go`. Whether no
+    /// term is left. It takes no memory.
     pub fn take_out(
         &mut self,
         term: &str,

@@ -2,7 +2,7 @@
 //! state behind each beginning of it, and the seats from which readers look.
 //!
 //! ```text
-//! seat.look()        Ok(shown), which waits for nobody: what is published, or Err(seat) once closed
+//! seat.look()        Ok(shown), without waiting: what is published, or Err(seat) once closed
 //! shown.snapshot()   the state behind all writes that the seat sees
 //! shown.leave()      the seat again
 //! ```

@@ -35,7 +35,7 @@ fn pair_of(parameter: Parameter, pairs: &[Pair]) -> Option<&Pair>
 }
 
 /// A copy of the value that is given to a parameter, where it first comes.
-pub(crate) fn copied_value(parameter: Parameter, pairs: &[Pair]) -> Result<Option<Text>, AllocError>
+pub fn copied_value(parameter: Parameter, pairs: &[Pair]) -> Result<Option<Text>, AllocError>
     ensures value { IfOk result (λ value. value ≡ value_of parameter pairs.now) }
 {
     match value_in(parameter, pairs) {

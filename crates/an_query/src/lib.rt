@@ -10,9 +10,9 @@
 pub use dates::{DateRange, bad_date, range_of};
 pub use filters::{Filters, append_filters, filters_in};
 pub use form::append_given;
-pub use given::{is_bad_number, number_in, others_in, twice_in, value_in};
+pub use given::{copied_value, is_bad_number, number_in, others_in, twice_in, value_in};
 pub use pairs::{Pair, escaped_text, query_pairs, text_of};
-pub use query::{Query, QueryError, SEARCH_PARAMETERS, read_query};
+pub use query::{Query, QueryError, SEARCH_PARAMETERS, query_in, read_query};
 
 mod dates;
 mod filters;

@@ -113,8 +113,10 @@ pub fn read_query(alloc: Global, reads: &[Parameter], text: &str) -> Result<Quer
     }
 }
 
-fn query_in(alloc: Global, reads: &[Parameter], pairs: &[Pair]) -> Result<Query, QueryError>
-    ensures { Gives (λ query. query) QueryError.Memory result
+/// The query that pairs give where these parameters are read, or the first of the refusals but for
+/// `Bytes`.
+pub fn query_in(alloc: Global, reads: &[Parameter], pairs: &[Pair]) -> Result<Query, QueryError>
+    ensures query { Gives (λ query. query) QueryError.Memory result
         (unless (first_of (query_refusals reads.now pairs.now)) (query_in reads.now pairs.now)) }
 {
     match refusal_in(reads, pairs) {

@@ -6,6 +6,7 @@ use Rattle.an_code.specs.declared.parameter.Parameter.{Parameter}
 use Rattle.an_code.specs.declared.parameter.Parameter.TheVariants.{Version, Manifest, Group, Page}
 use Rattle.an_code.specs.declared.parameter.Parameter.TheVariants.{Iris, Xywh}
 use Rattle.an_complete.specs.Ask.{ask_parameters}
+use Rattle.an_gather.specs.Gather.{gather_ask_parameters, gather_parameters}
 use Rattle.an_http.specs.declared.reply.Allow.{Allow}
 use Rattle.an_http.specs.declared.reply.Allow.TheVariants.{Full, ReadOnly, WriteOnly}
 use Rattle.an_query.specs.Given.{number_in}
@@ -44,6 +45,9 @@ row_of kind.Container = row ReadOnly (Page ∷ Iris ∷ []) []
 row_of kind.Changes = row ReadOnly page_reads []
 row_of kind.Anchors = row ReadOnly page_reads []
 row_of kind.Orphans = row ReadOnly page_reads []
+row_of kind.Collection = row ReadOnly [] []
+row_of kind.GatherSearch = row ReadOnly gather_parameters []
+row_of kind.GatherComplete = row ReadOnly gather_ask_parameters []
 
 abbrev pub methods_of : Kind → Allow
 methods_of kind = (row_of kind).methods
@@ -68,6 +72,9 @@ kind_of (path.Container manifest) = kind.Container
 kind_of path.Changes = kind.Changes
 kind_of (path.Anchors owner name) = kind.Anchors
 kind_of (path.Orphans manifest) = kind.Orphans
+kind_of path.Collection = kind.Collection
+kind_of path.GatherSearch = kind.GatherSearch
+kind_of path.GatherComplete = kind.GatherComplete
 
 -- ---- the path of segments: the words that are said first, and the names behind them
 
@@ -75,6 +82,18 @@ kind_of (path.Orphans manifest) = kind.Orphans
 abbrev pub changes_path : List (List ℕ) → Option Path
 changes_path [] = Some path.Changes
 changes_path _ = None
+
+-- `/collection`
+abbrev pub collection_path : List (List ℕ) → Option Path
+collection_path [] = Some path.Collection
+collection_path _ = None
+
+-- `/gather/search` and `/gather/autocomplete`
+abbrev pub gather_path : List (List ℕ) → Option Path
+gather_path (part ∷ []) =
+    if bytes_eq part (codes "search") then Some path.GatherSearch
+    else (if bytes_eq part (codes "autocomplete") then Some path.GatherComplete else None)
+gather_path _ = None
 
 -- the name that segments are, if they are one alone
 abbrev pub name_alone : List (List ℕ) → Option (List ℕ)
@@ -142,4 +161,6 @@ path_of (kind ∷ rest) =
     else (if bytes_eq kind (codes "annotations") then note_path rest
     else (if bytes_eq kind (codes "search") then named_path path.Search rest
     else (if bytes_eq kind (codes "autocomplete") then named_path path.Complete rest
-    else (if bytes_eq kind (codes "changes") then changes_path rest else None)))))
+    else (if bytes_eq kind (codes "changes") then changes_path rest
+    else (if bytes_eq kind (codes "collection") then collection_path rest
+    else (if bytes_eq kind (codes "gather") then gather_path rest else None)))))))

@@ -8,6 +8,11 @@ use Rattle.an_code.specs.declared.code.Code.TheVariants as code
 use Rattle.an_complete.specs.Ask.{AskRecord, ask_of}
 use Rattle.an_complete.specs.declared.ask.QueryAskError.{QueryAskError}
 use Rattle.an_complete.specs.declared.ask.QueryAskError.TheVariants as no_ask
+use Rattle.an_gather.specs.Gather.{GatherAskRecord, GatherRecord, gather_ask_of, gather_of}
+use Rattle.an_gather.specs.declared.ask.GatherAskError.{GatherAskError}
+use Rattle.an_gather.specs.declared.ask.GatherAskError.TheVariants as no_gather_ask
+use Rattle.an_gather.specs.declared.gather.GatherError.{GatherError}
+use Rattle.an_gather.specs.declared.gather.GatherError.TheVariants as no_gather
 use Rattle.an_http.specs.declared.method.Method.{Method}
 use Rattle.an_http.specs.declared.method.Method.TheVariants.{Get, Head, Options, Put, Delete}
 use Rattle.an_http.specs.declared.reply.Allow.{Allow}
@@ -110,6 +115,21 @@ ask_refused no_ask.Memory = unrouted.Memory
 abbrev pub completed : List ℕ → Result AskRecord QueryAskError → Result Read Unrouted
 completed manifest = result_map_both (read.Complete manifest) ask_refused
 
+abbrev pub gather_refused : GatherError → Unrouted
+gather_refused (no_gather.Manifests at) = unrouted.Query (code.Manifests at)
+gather_refused (no_gather.Query error) = query_refused error
+
+abbrev pub gather_ask_refused : GatherAskError → Unrouted
+gather_ask_refused (no_gather_ask.Manifests at) = unrouted.Query (code.Manifests at)
+gather_ask_refused (no_gather_ask.Ask error) = ask_refused error
+
+-- a search and a completion on several manifests
+abbrev pub gathered : Result GatherRecord GatherError → Result Read Unrouted
+gathered = result_map_both read.GatherSearch gather_refused
+
+abbrev pub gather_completed : Result GatherAskRecord GatherAskError → Result Read Unrouted
+gather_completed = result_map_both read.GatherComplete gather_ask_refused
+
 -- what is read by what is given, or the refusal of that
 abbrev pub read_by : Result (List Pair) Code → (List Pair → Result Read Code)
     → Result Read Unrouted
@@ -171,6 +191,10 @@ read_at (path.Anchors owner name) query =
     page_read (read.Anchors owner name) (given_of (row_of kind.Anchors).get query)
 read_at (path.Orphans manifest) query =
     page_read (read.Orphans manifest) (given_of (row_of kind.Orphans).get query)
+read_at path.Collection query =
+    shown read.Collection (given_of (row_of kind.Collection).get query)
+read_at path.GatherSearch query = gathered (gather_of query)
+read_at path.GatherComplete query = gather_completed (gather_ask_of query)
 
 -- ---- all routes
 
@@ -220,6 +244,9 @@ read_kind read.Changes = kind.Changes
 read_kind (read.ChangesPage page) = kind.Changes
 read_kind (read.Anchors owner name page) = kind.Anchors
 read_kind (read.Orphans manifest page) = kind.Orphans
+read_kind read.Collection = kind.Collection
+read_kind (read.GatherSearch gather) = kind.GatherSearch
+read_kind (read.GatherComplete ask) = kind.GatherComplete
 
 abbrev pub read_methods : Read → Allow
 read_methods read = methods_of (read_kind read)

@@ -5,6 +5,7 @@ use crate::paths::Kind;
 use an_base::Name;
 use an_code::Code;
 use an_complete::Ask;
+use an_gather::{Gather, GatherAsk};
 use an_http::Allow;
 use an_policy::{Group, Inner};
 use an_query::Query;
@@ -63,6 +64,16 @@ pub enum Read {
     Orphans {
         manifest: Name,
         page: u32,
+    },
+    /// The manifests that the caller may read (IIIF Presentation API 3.0, section 5.1).
+    Collection,
+    /// The annotations on several manifests that a query asks for.
+    GatherSearch {
+        gather: Gather,
+    },
+    /// The terms of the annotations on several manifests that begin with a prefix.
+    GatherComplete {
+        ask: GatherAsk,
     },
 }
 
@@ -156,6 +167,9 @@ impl Read {
             Read::ChangesPage { .. } => Kind::Changes,
             Read::Anchors { .. } => Kind::Anchors,
             Read::Orphans { .. } => Kind::Orphans,
+            Read::Collection => Kind::Collection,
+            Read::GatherSearch { .. } => Kind::GatherSearch,
+            Read::GatherComplete { .. } => Kind::GatherComplete,
         }
     }
 }

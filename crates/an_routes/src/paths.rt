@@ -1,6 +1,7 @@
 //! The paths of the server: the table of their kinds, and the path of a target's segments.
 ghost use Rattle.std.specs.Prelude.{◌≡◌, IfOk, option_and_then};
-ghost use Rattle.an_routes.specs.Paths.{anchors_path, canvas_path, changes_path, container_path};
+ghost use Rattle.an_routes.specs.Paths.{anchors_path, canvas_path, changes_path};
+ghost use Rattle.an_routes.specs.Paths.{collection_path, container_path, gather_path};
 ghost use Rattle.an_routes.specs.Paths.{kind_of, manifest_part, manifest_path, methods_of};
 ghost use Rattle.an_routes.specs.Paths.{name_alone, named_path, note_part, note_path, object_kind};
 ghost use Rattle.an_routes.specs.Paths.{orphans_path, path_of, row_of};
@@ -37,6 +38,12 @@ pub(crate) enum Kind {
     Anchors,
     /// `/manifests/M/orphans`
     Orphans,
+    /// `/collection`
+    Collection,
+    /// `/gather/search`
+    GatherSearch,
+    /// `/gather/autocomplete`
+    GatherComplete,
 }
 
 impl Kind {
@@ -55,6 +62,9 @@ impl Kind {
             Kind::Changes => Allow::ReadOnly,
             Kind::Anchors => Allow::ReadOnly,
             Kind::Orphans => Allow::ReadOnly,
+            Kind::Collection => Allow::ReadOnly,
+            Kind::GatherSearch => Allow::ReadOnly,
+            Kind::GatherComplete => Allow::ReadOnly,
         }
     }
 }
@@ -107,6 +117,9 @@ pub(crate) enum Path {
     Changes,
     Anchors { owner: Name, name: Name },
     Orphans { manifest: Name },
+    Collection,
+    GatherSearch,
+    GatherComplete,
 }
 
 impl Path {
@@ -122,6 +135,9 @@ impl Path {
             Path::Changes => Kind::Changes,
             Path::Anchors { .. } => Kind::Anchors,
             Path::Orphans { .. } => Kind::Orphans,
+            Path::Collection => Kind::Collection,
+            Path::GatherSearch => Kind::GatherSearch,
+            Path::GatherComplete => Kind::GatherComplete,
         }
     }
 }
@@ -159,6 +175,8 @@ fn path_of(alloc: Global, segments: &[Text]) -> Result<Option<Path>, AllocError>
             "search" => search_path(alloc, rest),
             "autocomplete" => complete_path(alloc, rest),
             "changes" => Ok(changes_path(rest)),
+            "collection" => Ok(collection_path(rest)),
+            "gather" => Ok(gather_path(rest)),
             _ => Ok(None),
         },
         [] => Ok(None),
@@ -171,6 +189,30 @@ fn changes_path(rest: &[Text]) -> Option<Path>
 {
     match rest {
         [] => Some(Path::Changes),
+        _ => None,
+    }
+}
+
+/// `/collection`
+fn collection_path(rest: &[Text]) -> Option<Path>
+    ensures { result ≡ collection_path rest.now }
+{
+    match rest {
+        [] => Some(Path::Collection),
+        _ => None,
+    }
+}
+
+/// `/gather/search` and `/gather/autocomplete`
+fn gather_path(rest: &[Text]) -> Option<Path>
+    ensures { result ≡ gather_path rest.now }
+{
+    match rest {
+        [part] => match part.as_str() {
+            "search" => Some(Path::GatherSearch),
+            "autocomplete" => Some(Path::GatherComplete),
+            _ => None,
+        },
         _ => None,
     }
 }

@@ -1,6 +1,7 @@
 ghost use Rattle.std.specs.Prelude.{◌≡◌, [], IfOk, Ok, Some};
 ghost use Rattle.an_base.specs.Outcome.{Gives};
 ghost use Rattle.an_complete.specs.Ask.{ask_of};
+ghost use Rattle.an_gather.specs.Gather.{gather_ask_of, gather_of};
 ghost use Rattle.an_query.specs.Query.{query_of};
 ghost use Rattle.an_routes.specs.Paths.{page_reads, row_of};
 ghost use Rattle.an_routes.specs.Query.{given_of};
@@ -8,7 +9,8 @@ ghost use Rattle.an_routes.specs.Routes.{changes_read, container_at, container_r
 ghost use Rattle.an_routes.specs.Routes.{manifest_put, note_put, put_with, put_of, deletion};
 ghost use Rattle.an_routes.specs.Routes.{deletion_of, written, put_at, delete_at, searched};
 ghost use Rattle.an_routes.specs.Routes.{query_refused, completed, ask_refused, shown};
-ghost use Rattle.an_routes.specs.Routes.{object_read, page_asked, read_at, reading};
+ghost use Rattle.an_routes.specs.Routes.{gather_ask_refused, gather_completed, gather_refused};
+ghost use Rattle.an_routes.specs.Routes.{gathered, object_read, page_asked, read_at, reading};
 ghost use Rattle.an_routes.specs.Routes.{meant_at, route_at, route_to, route_of};
 ghost use Rattle.an_routes.specs.declared.paths.Kind.TheVariants as kind;
 
@@ -25,6 +27,7 @@ use crate::target::target_parts;
 use an_base::Name;
 use an_code::Code;
 use an_complete::{QueryAskError, read_ask};
+use an_gather::{GatherAskError, GatherError, read_gather, read_gather_ask};
 use an_http::Method;
 use an_query::{Pair, QueryError, SEARCH_PARAMETERS, read_query};
 use an_state::Object;
@@ -131,6 +134,9 @@ fn read_at(alloc: Global, path: Path, query: &str) -> Result<Read, Unrouted>
             let page = page_in(alloc, query)?;
             Ok(Read::Orphans { manifest, page })
         }
+        Path::Collection => shown(alloc, Read::Collection, query),
+        Path::GatherSearch => gathered(alloc, query),
+        Path::GatherComplete => gather_completed(alloc, query),
     }
 }
 
@@ -299,6 +305,45 @@ fn ask_refused(error: QueryAskError) -> Unrouted
         QueryAskError::Date { at } => Unrouted::Query(Code::Date { at }),
         QueryAskError::Bytes => Unrouted::Query(Code::Bytes),
         QueryAskError::Memory => Unrouted::Memory,
+    }
+}
+
+/// A search on several manifests, or the first refusal of its query.
+fn gathered(alloc: Global, query: &str) -> Result<Read, Unrouted>
+    ensures { Gives (λ read. read) Unrouted.Memory result (gathered (gather_of query.now)) }
+{
+    match read_gather(alloc, query) {
+        Ok(gather) => Ok(Read::GatherSearch { gather }),
+        Err(error) => Err(gather_refused(error)),
+    }
+}
+
+fn gather_refused(error: GatherError) -> Unrouted
+    ensures { result ≡ gather_refused error }
+{
+    match error {
+        GatherError::Manifests { at } => Unrouted::Query(Code::Manifests { at }),
+        GatherError::Query(error) => query_refused(error),
+    }
+}
+
+/// A completion on several manifests, or the first refusal of its query.
+fn gather_completed(alloc: Global, query: &str) -> Result<Read, Unrouted>
+    ensures { Gives (λ read. read) Unrouted.Memory result
+        (gather_completed (gather_ask_of query.now)) }
+{
+    match read_gather_ask(alloc, query) {
+        Ok(ask) => Ok(Read::GatherComplete { ask }),
+        Err(error) => Err(gather_ask_refused(error)),
+    }
+}
+
+fn gather_ask_refused(error: GatherAskError) -> Unrouted
+    ensures { result ≡ gather_ask_refused error }
+{
+    match error {
+        GatherAskError::Manifests { at } => Unrouted::Query(Code::Manifests { at }),
+        GatherAskError::Ask(error) => ask_refused(error),
     }
 }
 

@@ -1,16 +1,16 @@
 ghost use Rattle.std.specs.Prelude.{◌≡◌, ◌++◌, ◌∷◌, [], map, option_and_then, option_map, IfErr, IfOk};
 ghost use Rattle.std.specs.Option.{ok_or};
-ghost use Rattle.serde_json.specs.Data.{string};
 ghost use Rattle.serde_json.specs.View.{items_view, view};
 ghost use Rattle.an_base.specs.Outcome.{Gives};
-ghost use Rattle.an_base.specs.Write.{item_commas, item_text, member_text};
+ghost use Rattle.an_base.specs.Write.{item_commas, member_text};
 ghost use Rattle.an_policy.specs.Inner.{inner_of};
 ghost use Rattle.an_rows.specs.Format.{group_texts, inner_in, inner_tree, text_items};
 ghost use Rattle.an_rows.specs.Format.{texts_from, texts_of};
 
 use crate::format::Format;
+use crate::members::push_item;
 use crate::refusal::RowError;
-use an_base::{push_array_member, push_comma, push_text, push_text_member};
+use an_base::{push_array_member, push_text_member};
 use an_policy::{Inner, inner_of, inner_text, inner_texts};
 use serde_json::Value;
 use std::alloc::{AllocError, Global};
@@ -161,13 +161,5 @@ fn items_of(alloc: Global, texts: &[&str]) -> Result<Vec<u8>, AllocError>
     for text in texts {
         out = push_item(out, text)?;
     }
-    Ok(out)
-}
-
-fn push_item(out: Vec<u8>, text: &str) -> Result<Vec<u8>, AllocError>
-    ensures { IfOk result (λ v. v.items ≡ out.items ++ item_text (string text.now)) }
-{
-    let out = push_comma(out)?;
-    let out = push_text(out, text)?;
     Ok(out)
 }

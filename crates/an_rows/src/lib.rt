@@ -3,7 +3,7 @@
 //!
 //! ```text
 //! let now = Format::Second;
-//! row_text(alloc, now, &row)                  Ok(bytes): the JSON text that stands in the row's cell
+//! row_text(alloc, now, &row)                  Ok(bytes): the JSON text that stands in its cell
 //! read_row(alloc, now, table, key, &bytes)    Ok(row) again, or Err(RowError::..): it is damaged
 //! ```
 //!

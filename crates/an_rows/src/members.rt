@@ -126,15 +126,16 @@ fn name_items(alloc: Global, names: &[Name]) -> Result<Vec<u8>, AllocError>
 {
     let mut out = Vec::new(alloc);
     for name in names {
-        out = push_name_item(out, name)?;
+        out = push_item(out, name.as_str())?;
     }
     Ok(out)
 }
 
-fn push_name_item(out: Vec<u8>, name: &Name) -> Result<Vec<u8>, AllocError>
-    ensures text { IfOk result (λ v. v.items ≡ out.items ++ item_text (string name.now)) }
+/// Writes a text as an item of an array, behind a comma.
+pub(crate) fn push_item(out: Vec<u8>, text: &str) -> Result<Vec<u8>, AllocError>
+    ensures text { IfOk result (λ v. v.items ≡ out.items ++ item_text (string text.now)) }
 {
     let out = push_comma(out)?;
-    let out = push_text(out, name.as_str())?;
+    let out = push_text(out, text)?;
     Ok(out)
 }

@@ -13,8 +13,8 @@ use std::alloc::{AllocError, Global};
 
 /// The changes that turn the cells of the book's state from the first format into the second: the
 /// cell that names the format, the live annotations and the activities are put anew, in their
-/// places. A keeper does all of its changes or none, so they are one list, which holds the new texts
-/// of all these rows at once: about as much memory as their cells take in the keeper.
+/// places. A keeper does all of its changes or none, so they are one list, which holds the new
+/// texts of all these rows at once: about as much memory as their cells take in the keeper.
 #[tactic(auto, unfolding(crate::specs::Migration::migration))]
 pub fn migration(alloc: Global, book: &Book) -> Result<Vec<Change>, AllocError>
     ensures changes { IfOk result (λ v. v.items ≡ migration book.now.state) }

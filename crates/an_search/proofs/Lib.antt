@@ -1,4 +1,5 @@
 pub mod FoundLemmas
+pub mod GatheredLemmas
 pub mod PlaceLemmas
 pub mod HitLemmas
 pub mod HeldLemmas

@@ -1,6 +1,7 @@
 pub mod Search
 pub mod Found
 pub mod Cost
+pub mod Gathered
 pub mod Wanted
 pub mod Ordered
 pub mod Known

@@ -1,5 +1,7 @@
 -- A search in the annotations on a manifest (IIIF Content Search API 2.0).
-use Rattle.std.specs.Prelude.{ℕ, List, ◌∷◌, filter, codes, is_some, if◌then◌else◌, Result, Err}
+use Rattle.std.specs.Prelude.{ℕ, Bool, List, ◌∷◌, filter, codes, is_some, if◌then◌else◌}
+use Rattle.std.specs.Prelude.{Option, Result, Err}
+use Rattle.an_code.specs.declared.parameter.Parameter.{Parameter}
 use Rattle.an_code.specs.declared.parameter.Parameter.TheVariants as parameter
 use Rattle.an_iri.specs.Iris.{search_iri}
 use Rattle.an_state.specs.State.{NoteState}
@@ -17,16 +19,23 @@ use Rattle.an_search.specs.declared.wanted.Wanted.{Wanted}
 
 -- ---- what is found
 
--- the annotations of the view on the manifest that are wanted, in their order
+-- the annotations of the view that pass a test and are wanted, in their order
+abbrev pub hits_where : (NoteState → Bool) → View → Wanted → List NoteState
+hits_where test view wanted = filter (matches wanted) (filter test view.notes)
+
+-- those on the manifest
 unfoldable pub hits : View → List ℕ → Wanted → List NoteState
-hits view manifest wanted = filter (matches wanted) (filter (is_on manifest) view.notes)
+hits view manifest wanted = hits_where (is_on manifest) view wanted
 
 -- ---- the answer
 
--- the parameters of a query that choose what is found, as a form
+-- the parameters of a query that choose what is found
+abbrev pub query_parameters : QueryRecord → List (Parameter × Option (List ℕ))
+query_parameters query = (parameter.Q, query.q) ∷ filter_parameters query.filters
+
+-- the same as a form
 abbrev pub query_form : QueryRecord → List ℕ
-query_form query =
-    form_of ((parameter.Q, query.q) ∷ filter_parameters query.filters)
+query_form query = form_of (query_parameters query)
 
 -- the context of searches
 abbrev pub search_context : List ℕ

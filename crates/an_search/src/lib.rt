@@ -6,12 +6,14 @@
 //! ```
 #![tactic(auto)]
 
+pub use gathered::search_on;
 pub use known::{Known, Last, known_first};
 pub use pieces::Pieces;
 pub use ranges::Ranges;
-pub use searching::{SEARCH_CONTEXT, found_total, search};
-pub use wanted::{Wanted, matches, matches_after, wanted_by, wants_nothing};
+pub use searching::{SEARCH_CONTEXT, append_query, found_total, search};
+pub use wanted::{Wanted, given_pieces, matches, matches_after, wanted_by, wants_nothing};
 
+mod gathered;
 mod hits;
 mod known;
 mod pieces;

@@ -1,5 +1,5 @@
 ghost use Rattle.std.specs.Prelude.{◌≡◌, ◌+◌, ◌≤◌, List, length, string_bytes};
-ghost use Rattle.std.specs.Prelude.{IfOk, OnOk};
+ghost use Rattle.std.specs.Prelude.{IfOk, OnOk, fold};
 ghost use Rattle.an_base.specs.Outcome.{Gives};
 ghost use Rattle.an_policy.specs.Audience.{identity};
 ghost use Rattle.an_state.specs.State.{NoteState};
@@ -8,7 +8,8 @@ ghost use Rattle.an_list.specs.Cost.{Takes, page_cost};
 ghost use Rattle.an_search.specs.Cost.{find_cost, search_cost, shown_cost};
 ghost use Rattle.an_list.specs.Listed.{StandAt};
 ghost use Rattle.an_search.specs.Search.{found_text, hits, query_form, search_of};
-ghost use Rattle.an_search.specs.Search.{whole_of};
+ghost use Rattle.an_query.specs.Form.{with_given};
+ghost use Rattle.an_search.specs.Search.{query_parameters, whole_of};
 ghost use Rattle.an_search.specs.Wanted.{wanted_of, wanted_terms};
 
 use crate::hits::hit_places;
@@ -113,7 +114,7 @@ fn search_shown<T: Look, L: Ledger>(
 
 /// The page that a query asks for of what was found at these places, which is served in pages as
 /// `whole`.
-fn page_at<T: Look, L: Ledger>(
+pub(crate) fn page_at<T: Look, L: Ledger>(
     alloc: Global,
     look: &T,
     whole: &Whole,
@@ -159,7 +160,16 @@ fn query_form(alloc: Global, query: &Query) -> Result<String, AllocError>
     ensures { IfOk result (λ form. string_bytes form ≡ query_form query.now) }
 {
     let mut form = Serializer::new(String::new(alloc));
-    append_given(&mut form, Parameter::Q, query.q())?;
-    append_filters(&mut form, query.filters())?;
+    append_query(&mut form, query)?;
     Ok(form.finish())
+}
+
+/// Writes behind a form the parameters of a query that choose what is found.
+pub fn append_query(form: &mut Serializer, query: &Query) -> Result<(), AllocError>
+    ensures written { OnOk result (form.new ≡ record form.old {
+      form = fold with_given form.old.form (query_parameters query.now);
+    }) }
+{
+    append_given(form, Parameter::Q, query.q())?;
+    append_filters(form, query.filters())
 }

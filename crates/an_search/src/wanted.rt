@@ -155,8 +155,8 @@ fn ordered_pieces(alloc: Global, given: Option<&Text>) -> Result<Pieces, AllocEr
 }
 
 /// The pieces of a value that may be given, between its spaces.
-fn given_pieces(alloc: Global, given: Option<&Text>) -> Result<List<Text>, AllocError>
-    ensures { IfOk result (λ pieces. pieces ≡ given_pieces (option_copied given.entry)) }
+pub fn given_pieces(alloc: Global, given: Option<&Text>) -> Result<List<Text>, AllocError>
+    ensures pieces { IfOk result (λ pieces. pieces ≡ given_pieces (option_copied given.entry)) }
 {
     match given {
         Some(value) => pieces_of(alloc, value.as_str()),

@@ -1,9 +1,9 @@
 -- The places of a quote are those of its three parts in one, and what the walk over these keeps.
 use Rattle.std.proofs.Common.{◌≡◌, ℕ, zero, suc, ◌+◌, ◌-◌, ◌<◌, ◌≤◌, ◌⊎◌, inl, inr, Bool, true, false, cond, eqb, List, [], ◌∷◌, ◌++◌, length, map, filter, take, drop, refl, sym, ap, ◌∙◌, append_assoc, append-nil, length-append, arith}
-use Rattle.std.proofs.lemmas.Bool.{cond-true, cond-false, and_left, and_right, and_parts, and_from, false_from_ne_true, ne_eqb, cases_lt}
+use Rattle.std.proofs.lemmas.Bool.{cond-true, cond-false, eq-eqb, and_left, and_right, and_parts, and_from, false_from_ne_true, ne_eqb, cases_lt}
 use Rattle.std.proofs.lemmas.List.{take-append-drop, drop-drop, drop-take, drop_at, take_at, length-drop, length-take}
 use Rattle.std.proofs.lemmas.List.Elements.{filter-append}
-use Rattle.std.proofs.lemmas.Str.{chars-append}
+use Rattle.std.proofs.lemmas.Str.{chars-append, IsUtf8-append}
 use Rattle.std.specs.List.{starts_with, ends_with, range_with_len}
 use Rattle.std.specs.Str.{chars, IsUtf8}
 use Rattle.an_base.specs.declared.span.Span.{Span}
@@ -11,7 +11,7 @@ use Rattle.an_selectors.specs.declared.cut.Point.{Point}
 use Rattle.an_selectors.specs.Places.{is_place, span_from, places_of_quote}
 use Rattle.an_selectors.specs.Walk.{StandsAt, StandsNowhere, IsNext, IsAfter, span_behind, spans_of}
 use Rattle.an_selectors.proofs.CutLemmas.{take_add}
-use Rattle.an_selectors.proofs.WalkLemmas.{starts_parts, starts_from, ends_parts, ends_from, stands_there, needle_fits}
+use Rattle.an_selectors.proofs.WalkLemmas.{starts_parts, starts_from, ends_parts, ends_from, stands_there, needle_fits, longer-nowhere}
 
 -- ---- ranges
 
@@ -239,3 +239,26 @@ module _ (needle text : List ℕ) (before width : ℕ) where
     pub HasCome-end : StandsNowhere (chars needle) (chars text) (point.number + 1) (length (chars text)) → more ≡ spans_of (chars needle) before width (chars text)
     HasCome-end nowhere =
         sym (append-nil more) ∙ ap (λ t. more ++ t) (sym (spans_from-none (point.number + 1) nowhere)) ∙ so_far-pushed
+
+-- ---- a text that is too short
+
+-- where the parts are longer than the text the quote has no place
+pub places-longer : (exact prefix suffix text : List ℕ) → IsUtf8 exact → IsUtf8 prefix → IsUtf8 suffix → IsUtf8 text
+    → length text < length prefix + (length exact + length suffix) → (found : List Span) → found ≡ []
+    → found ≡ places_of_quote (chars exact) (chars prefix) (chars suffix) (chars text)
+unfolding places_of_quote
+places-longer exact prefix suffix text e p s u longer found none = by_width (cases_lt 0 (length (chars exact)))
+  where
+    whole : List ℕ
+    whole = prefix ++ (exact ++ suffix)
+
+    by_width : (0 < length (chars exact)) ⊎ (length (chars exact) ≤ 0) → found ≡ places_of_quote (chars exact) (chars prefix) (chars suffix) (chars text)
+    by_width (inl some) =
+        let more : length text < length whole = omega (arith, longer, length-append prefix (exact ++ suffix), length-append exact suffix) in
+        let utf8 = IsUtf8-append prefix (exact ++ suffix) p (IsUtf8-append exact suffix e s) in
+        spans_none whole text (length (chars prefix)) (length (chars exact)) found none (longer-nowhere whole text utf8 u more)
+        ∙ ap (λ needle. spans_of needle (length (chars prefix)) (length (chars exact)) (chars text)) (chars_whole whole exact prefix suffix p e refl)
+        ∙ places_of_quote-whole (chars exact) (chars prefix) (chars suffix) (chars text) some
+    by_width (inr nothing) =
+        let zero : length (chars exact) ≡ 0 = omega (arith, nothing) in
+        none ∙ sym (cond-true _ _ _ (eq-eqb _ _ zero))

@@ -70,6 +70,12 @@ lacks-stands needle text k v u lacks =
     ∙ ap encode_utf8_all (starts_parts (drop k (chars text)) (chars needle) is) ∙ encodes-append (chars needle) rest
     ∙ ap (λ t. t ++ encode_utf8_all rest) (encodes-chars needle v)))
 
+-- a needle that is longer than the text stands nowhere in it
+pub longer-nowhere : (needle text : List ℕ) → IsUtf8 needle → IsUtf8 text → length text < length needle → StandsNowhere (chars needle) (chars text) 0 (length (chars text))
+longer-nowhere needle text v u longer j low high =
+    let at = length (encode_utf8_all (take j (chars text))) in
+    lacks-stands needle text j v u (λ rest e. omega (arith, length-drop at text, ap length e ∙ length-append needle rest))
+
 -- the byte at which a code point begins, before a byte at which the text may be cut
 begins_before : (text : List ℕ) (k at : ℕ) → IsUtf8 text → IsCharBoundary text at → k < length (chars (take at text)) → length (encode_utf8_all (take k (chars text))) < at
 begins_before text k at u boundary below =

@@ -1,4 +1,4 @@
-ghost use Rattle.std.specs.Prelude.{◌≡◌, ◌+◌, ◌<◌, ◌≤◌, length, IfOk, chars};
+ghost use Rattle.std.specs.Prelude.{◌≡◌, ◌+◌, ◌<◌, ◌≤◌, length, true, IfOk, chars};
 ghost use Rattle.an_selectors.specs.Places.{places_of, places_of_quote, places_of_position};
 ghost use Rattle.an_selectors.specs.Walk.{spans_of};
 
@@ -36,7 +36,8 @@ pub fn places(alloc: Global, text: &str, selector: &Selector) -> Result<Vec<Span
     }
 }
 
-/// The places of a quote are those of its three parts in one.
+/// The places of a quote are those of its three parts in one. A text that is shorter than one of
+/// them has none: so the walk over many short texts costs no walk over a long quote for each.
 fn places_of_quote(
     alloc: Global,
     text: &str,
@@ -48,12 +49,24 @@ fn places_of_quote(
         ≡ places_of_quote (chars exact.now) (chars prefix.now) (chars suffix.now)
         (chars text.now)) }
 {
+    if is_shorter(text, exact, prefix, suffix) {
+        return Ok(Vec::new(alloc));
+    }
     let width = char_count(exact);
     if width == 0 {
         return Ok(Vec::new(alloc));
     }
     let whole = format!(in alloc; "{prefix}{exact}{suffix}")?;
     spans_of(alloc, text, whole.as_str(), char_count(prefix), width)
+}
+
+/// Whether a text has fewer bytes than one of the parts of a quote.
+fn is_shorter(text: &str, exact: &str, prefix: &str, suffix: &str) -> bool
+    ensures { result ≡ true
+        → length text.now < length prefix.now + (length exact.now + length suffix.now) }
+{
+    let length = text.len();
+    length < exact.len() || length < prefix.len() || length < suffix.len()
 }
 
 /// Walks from each point where the whole of a quote stands to the next.

@@ -9,7 +9,7 @@ use Rattle.an_base.specs.Items.{many_if}
 use Rattle.an_base.specs.Tree.{ascend, names, one_or_many}
 use Rattle.an_base.specs.Write.{name_text, member_text, commas, item_text, item_commas, behind}
 use Rattle.an_base.proofs.WriteLemmas.{object_text, array_text}
-use Rattle.an_manifest.specs.Cuts.{first_cut, last_cut, cut_if, cuts_at}
+use Rattle.an_manifest.specs.Cuts.{first_cut, last_cut, cut_if, cuts_at, part_at}
 use Rattle.an_served.specs.ManifestParts.{beyond, led, piece, IsCutAt}
 use Rattle.an_served.proofs.PieceLemmas.{piece_seam}
 use Rattle.an_served.proofs.SplitLemmas.{commas-joined, split-absent, split-found}
@@ -147,6 +147,25 @@ module _ (name : List ℕ) (members : Members) (some : 0 < length (commas member
         back = part (x ++ (n ++ t)) [] (beyond name members) (length x + length n + length t) (length text - 1) grouped
             (omega (arith, length-append x (n ++ t), named)) (omega (arith, size, sizes, inner, named));
       }
+
+  -- the text of a member that is there, behind a comma
+  found_part : ascend (names members) ≡ true → (value : Data) → get_member name members ≡ Some value
+      → piece text (length x) (length x + length (name_text name) + length (compact_text value)) ≡ member_text name value
+  unfolding member_text
+  found_part order value found =
+      let n = name_text name in
+      let t = compact_text value in
+      let parted : commas members ≡ x ++ ((n ++ t) ++ z) =
+      ap commas (split-found name value members order found) ∙ commas-joined (below name members) (member name value (beyond name members)) in
+      part x z (member name value no_members) (length x) (length x + length n + length t)
+      (parted ∙ ap (λ m. x ++ (m ++ z)) (sym (append-nil (n ++ t)))) refl
+      (omega (arith, length-append n t, ap length (append-nil (n ++ t))))
+      ∙ append-nil (n ++ t)
+
+  pub member_part : ascend (names members) ≡ true → (value : Data) → get_member name members ≡ Some value
+      → piece text (part_at name (object members)).below (part_at name (object members)).above ≡ member_text name value
+  unfolding cuts_at
+  member_part order value found = rw found (found_part order value found)
 
   holds_for : ascend (names members) ≡ true → (found : Option Data) → get_member name members ≡ found → IsCutAt name (object members) (cut_if name (length text) (length x) found)
   holds_for order None e = holds-absent order e

@@ -9,3 +9,4 @@ pub mod PushLemmas
 pub mod WrittenLemmas
 pub mod NoteLemmas
 pub mod NoteTreeLemmas
+pub mod LabelLemmas

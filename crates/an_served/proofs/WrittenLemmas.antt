@@ -1,5 +1,5 @@
 -- What is written of a manifest that is kept.
-use Rattle.std.proofs.Common.{◌≡◌, ℕ, List, ◌++◌, codes, slice_range, refl, sym, ap, ◌∙◌, subst, append_assoc}
+use Rattle.std.proofs.Common.{◌≡◌, ℕ, List, ◌++◌, codes, slice_range, Some, refl, sym, ap, ◌∙◌, subst, append_assoc}
 use Rattle.serde_json.specs.Data.{Data, array, object, string}
 use Rattle.serde_json.specs.Find.{get}
 use Rattle.serde_json.specs.Written.{compact_text}
@@ -7,12 +7,12 @@ use Rattle.serde_json.proofs.OnLiterals.{serde_json_on_literals}
 use Rattle.an_base.specs.Cut.{members_in}
 use Rattle.an_base.specs.Items.{many_if, trees_in}
 use Rattle.an_base.specs.Write.{item_text, item_commas, member_text, commas}
-use Rattle.an_manifest.specs.Cuts.{cuts_at, sheet_cuts}
+use Rattle.an_manifest.specs.Cuts.{cuts_at, part_at, sheet_cuts}
 use Rattle.an_served.specs.ManifestParts.{led, piece, IsCutAt, heading_text, ending_text}
 use Rattle.an_iri.specs.Iris.{manifest_iri}
 use Rattle.an_served.specs.Manifest.{with_last, search_service, dressed_canvases, contexts, dressed}
 use Rattle.an_manifest.specs.Manifest.{canvases_in}
-use Rattle.an_served.proofs.CutLemmas.{holds}
+use Rattle.an_served.proofs.CutLemmas.{holds, member_part}
 use Rattle.an_manifest.proofs.ReadyLemmas.{IsSheet}
 use Rattle.an_served.proofs.ManifestLemmas.{served_members, served_commas, dressed-members}
 use Rattle.an_served.proofs.SheetLemmas.{HeadingWritten, EndingWritten, heading_written, ending_written}
@@ -44,6 +44,12 @@ module _ (tree : Data) (sheet : IsSheet tree) where
   pub items_text : led (slice_range (compact_text tree) (sheet_cuts tree).items.first (sheet_cuts tree).items.last) ≡ item_commas (canvases_in tree)
   unfolding piece
   items_text = items_cut.values ∙ ap (λ found. item_commas (many_if found)) (ap (get (codes "items")) sheet.ready.is ∙ sheet.found)
+
+  pub label_written : (label : Data) → get (codes "label") tree ≡ Some label
+      → piece (compact_text tree) (sheet_cuts tree).label.below (sheet_cuts tree).label.above ≡ member_text (codes "label") label
+  label_written =
+      subst (λ t. (label : Data) → get (codes "label") t ≡ Some label → piece (compact_text t) (part_at (codes "label") t).below (part_at (codes "label") t).above ≡ member_text (codes "label") label)
+      (sym sheet.ready.is) (member_part (codes "label") sheet.ready.members sheet.ready.some sheet.ready.order)
 
   pub whole_written : (base name out a b c : List ℕ) → a ≡ out ++ heading_text (members_in tree) (array contexts) (string (manifest_iri base name))
       → b ≡ a ++ member_text (codes "items") (array (dressed_canvases base name 1 (canvases_in tree)))

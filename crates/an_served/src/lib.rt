@@ -10,7 +10,7 @@
 #![tactic(auto)]
 
 pub use laws::{canvas_ids_stay, other_members_stay};
-pub use manifest::push_manifest;
+pub use manifest::{CONTEXTS, push_label, push_manifest};
 pub use manifest_tree::dress_manifest;
 pub use note::{push_dressed, push_shown};
 pub use note_tree::dress;

@@ -1,6 +1,7 @@
 ghost use Rattle.std.specs.Prelude.{◌≡◌, ◌+◌, ◌<◌, ◌≤◌, ◌++◌, codes, length, slice_range, take};
-ghost use Rattle.std.specs.Prelude.{drop, true, IfOk};
+ghost use Rattle.std.specs.Prelude.{drop, true, IfOk, IsTrue, Some, is_some};
 ghost use Rattle.serde_json.specs.Data.{Data, Items, Members, array, object, string};
+ghost use Rattle.serde_json.specs.Find.{get};
 ghost use Rattle.serde_json.specs.Written.{compact_text};
 ghost use Rattle.an_base.specs.Cut.{members_in};
 ghost use Rattle.an_base.specs.Items.{trees_in};
@@ -19,7 +20,7 @@ use an_manifest::{Cut, KeptSheet};
 use std::alloc::{AllocError, Global};
 
 /// The contexts of a served manifest, each behind a comma.
-const CONTEXTS: &str =
+pub const CONTEXTS: &str =
     r#","http://iiif.io/api/search/2/context.json","http://iiif.io/api/presentation/3/context.json""#;
 
 /// Writes the text by which the manifest of this name is served: that of the tree which
@@ -43,6 +44,18 @@ pub fn push_manifest(
     let out = push_ending(alloc, out, sheet, base, name)?;
     let out = close_members(out, start)?;
     Ok(out)
+}
+
+/// Writes the label of a manifest as a member, behind a comma (IIIF Presentation API 3.0, section
+/// 3.1). Its text is copied.
+pub fn push_label(out: Vec<u8>, sheet: &KeptSheet) -> Result<Vec<u8>, AllocError>
+    ensures text { IfOk result (λ v. (label : Data) → get (codes "label") sheet.now ≡ Some label
+        → v.items ≡ out.items ++ member_text (codes "label") label) }
+    ensures label { IsTrue (is_some (get (codes "label") sheet.now)) }
+{
+    let text = sheet.text();
+    let label = sheet.cuts().label;
+    push_piece(out, text, label.below, label.above)
 }
 
 /// Writes the members before the canvases, with the contexts and the IRI.

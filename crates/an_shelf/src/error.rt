@@ -37,8 +37,8 @@ impl From<KeepError> for OpenError {
     }
 }
 
-/// Why a write isn't reported as done. A refusal and a failure of the keeper leave the state and the
-/// cells as they were. Where memory ran out the write may be kept, and then waits to be shown.
+/// Why a write isn't reported as done. A refusal and a failure of the keeper leave the state and
+/// the cells as they were. Where memory ran out the write may be kept, and then waits to be shown.
 #[derive(Clone, Copy, Debug, PartialEq, Eq)]
 pub enum WriteError {
     /// The machine refused it.

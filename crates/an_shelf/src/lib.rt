@@ -4,7 +4,7 @@
 //! ```text
 //! Desk::open(alloc, MemKeeper::new(cells))        Ok(desk), where the cells stand for a state
 //!     Err(NotOpened { why, keeper })              else, with the first damaged cell
-//! desk.write(alloc, moment, &caller, command)     Ok(WriteReply { version: 1, .. }), and it is kept
+//! desk.write(alloc, moment, &caller, command)     Ok(WriteReply { version: 1, .. }): it is kept
 //! ```
 #![tactic(auto)]
 

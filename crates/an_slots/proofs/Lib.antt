@@ -1,6 +1,7 @@
 pub mod ChangeLemmas
 pub mod ClassedLemmas
 pub mod GatheredLemmas
+pub mod MergeLemmas
 pub mod MergedLemmas
 pub mod NestLemmas
 pub mod PartLemmas

@@ -2,9 +2,12 @@
 //!
 //! ```text
 //! is_among(&[2, 5, 9], 5)   true
+//! merge(alloc, &[2, 5], &[5, 9])   Ok([2, 5, 9])
 //! ```
 #![tactic(auto)]
 
 pub use classes::is_among;
+pub use joined::merge;
 
 mod classes;
+mod joined;

@@ -3,7 +3,7 @@
 //! ```text
 //! snapshot.apply(&entry)  Ok(()): the state with the entry; Err: out of memory, and nothing changes
 //! snapshot.count()        1: how many entries were applied, also those that didn't fit
-//! snapshot.readable(alloc, &who, &manifest)  Ok(places of the annotations that the caller may read)
+//! snapshot.readable(alloc, &who, &manifest)  Ok(places of annotations that the caller may read)
 //! ```
 #![tactic(auto)]
 

@@ -1,5 +1,6 @@
 pub mod SeenLemmas
 pub mod ViewLemmas
+pub mod WalkLemmas
 pub mod ChangeLemmas
 pub mod DistinctLemmas
 pub mod OpenLemmas

@@ -1,6 +1,6 @@
 //! Tries the keeper over SQLite: what its calls answer over a connection in memory, what a store
-//! over a file finds again, and what a store keeps where one of its disks stops at any of its calls,
-//! and crashes.
+//! over a file finds again, and what a store keeps where one of its disks stops at any of its
+//! calls, and crashes.
 #![tactic(auto)]
 
 mod calls;
@@ -50,8 +50,9 @@ fn play_input<R: Input + Print + AllocGlobal + Threads>(
     Ok(wrong == 0)
 }
 
-/// What comes of a case: of lines that are imported twice, over a file too, of lines that are written while a disk
-/// stops, of a manifest with many annotations that is deleted, or of calls of a keeper.
+/// What comes of a case: of lines that are imported twice, over a file too, of lines that are
+/// written while a disk stops, of a manifest with many annotations that is deleted, or of calls of
+/// a keeper.
 fn answer<R: Threads>(
     rt: &R,
     host: &HostRuntime,

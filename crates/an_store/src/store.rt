@@ -76,8 +76,8 @@ impl<K: Keeper, J: Naming> Store<K, J> {
         MutexGuard::unlock(guard);
     }
 
-    /// Ends the store, and gives the keeper. Where it tells its cells, they are those of the state of
-    /// a legal list of writes that goes on from the one that the seat saw.
+    /// Ends the store, and gives the keeper. Where it tells its cells, they are those of the state
+    /// of a legal list of writes that goes on from the one that the seat saw.
     pub fn close<R: Wait>(self, rt: &R, seat: &mut Seat) -> K
         requires seat { seat.old.book ≡ J.book }
         ensures seat { seat.new ≡ record seat.old { seen = seat.new.seen } }

@@ -14,9 +14,9 @@ use std::alloc::{AllocError, Global};
 use std::sync::Wait;
 use std::thread::Threads;
 
-/// Plays a run at an empty store, to whose door links with these inputs come, none for an input that
-/// is empty. Answers with the status, and how each connection ended; what is written to such a link
-/// only contracts see.
+/// Plays a run at an empty store, to whose door links with these inputs come, none for an input
+/// that is empty. Answers with the status, and how each connection ended; what is written to such a
+/// link only contracts see.
 pub(crate) fn play_sure<R: Threads + Wait + Sync>(
     rt: &R,
     alloc: Global,

@@ -43,3 +43,12 @@ fn first_moment() -> Moment {
         None => unreachable!(),
     }
 }
+
+/// The second of the clock that never goes back, from some beginning on, or 0 where it can't be
+/// read.
+pub fn second_now<R: time::Clock>(rt: &R) -> u64 {
+    match rt.monotonic() {
+        Ok(since) => since.as_secs(),
+        Err(_) => 0,
+    }
+}

@@ -42,7 +42,7 @@ pub fn run_at<
     path: &str,
     start: U,
     link: &mut L,
-    door: &mut TcpDoor<Host<'_, R>>,
+    door: &mut TcpDoor<'_, Host<'_, R>>,
     clock: &C,
 ) -> Ran<SqlKeeper<FileStore<FileFrom<U>>>>
     requires unbound { door.old.tally.port ≡ 0 }
@@ -106,7 +106,8 @@ fn has_store(form: &Form) -> bool
     }
 }
 
-/// Does what the words say at the store of this keeper, whose progress is reported meanwhile.
+/// Does what the words say at the store of this keeper, whose progress is reported meanwhile, and
+/// what a server did at its end.
 fn run_kept<
     R: Threads + Wait + Net<Listener = TcpListener, Stream = TcpStream> + Sync,
     S: Alter + Drop + Send,
@@ -118,7 +119,7 @@ fn run_kept<
     words: &[String],
     keeper: SqlKeeper<S>,
     link: &mut L,
-    door: &mut TcpDoor<Host<'_, R>>,
+    door: &mut TcpDoor<'_, Host<'_, R>>,
     clock: &C,
 ) -> Ran<SqlKeeper<S>>
     requires unbound { door.old.tally.port ≡ 0 }
@@ -137,6 +138,7 @@ fn run_kept<
 {
     let told = ToldKeeper::over(host, keeper, are_writes_told(host, words));
     let Ran { status, keeper } = run(rt, host.alloc(), words, told, link, door, clock);
+    door.report_end(Some(keeper.commits()));
     Ran {
         status,
         keeper: keeper.into_keeper(),

@@ -7,6 +7,7 @@
 //! ```
 #![tactic(auto)]
 
+mod account;
 mod clock;
 mod filed;
 mod host;
@@ -15,6 +16,7 @@ mod std_link;
 mod tcp_door;
 mod tcp_link;
 
+use account::Account;
 use an_app::{Ran, Status, run};
 use an_keep::SureKeeper;
 use clock::RealClock;
@@ -79,7 +81,8 @@ fn run_filed<R: Threads + Wait + Net<Listener = TcpListener, Stream = TcpStream>
     path: &str,
 ) -> Status {
     let mut link = StdLink::new(host.reader(), io::writer(host));
-    let mut door = TcpDoor::new(Host::new(rt, host));
+    let account = Account::new(host);
+    let mut door = TcpDoor::new(Host::new(rt, host), &account);
     let clock = RealClock::new(host);
     let Ran { status, keeper } = run_at(
         rt, host, words, path, Unknown, &mut link, &mut door, &clock,
@@ -100,7 +103,8 @@ fn run_in_memory<R: Threads + Wait + Net<Listener = TcpListener, Stream = TcpStr
 ) -> Status {
     let keeper = SureKeeper::new(Vec::new(host.alloc()));
     let mut link = StdLink::new(host.reader(), io::writer(host));
-    let mut door = TcpDoor::new(Host::new(rt, host));
+    let account = Account::new(host);
+    let mut door = TcpDoor::new(Host::new(rt, host), &account);
     let clock = RealClock::new(host);
     let Ran { status, keeper: _ } = run(
         rt,
@@ -111,5 +115,6 @@ fn run_in_memory<R: Threads + Wait + Net<Listener = TcpListener, Stream = TcpStr
         &mut door,
         &clock,
     );
+    door.report_end(None);
     status
 }

@@ -7,13 +7,14 @@ ghost use Rattle.an_keep.specs.Keeper.{Stays, StaysOrBegins, Turns};
 ghost use Rattle.an_keep.specs.declared.cell.Cell.{Cell};
 ghost use Rattle.an_sqlite.specs.Connecting.{HoldsCells, IsClean, IsOpen, IsSettled, came_in, told_in};
 
+use crate::clock::second_now;
 use an_keep::{Cell, Change, KeepError, Keeper};
 use an_sqlite::SqlKeeper;
 use sqlite::Alter;
-use std::time::{SystemTime, UNIX_EPOCH};
 
 /// The keeper over a database, which says on standard error how far a long work at it is, once a
-/// second from the second second on. It promises what the keeper inside promises.
+/// second from the second second on, and counts the commits. It promises what the keeper inside
+/// promises.
 #[derive(Drop)]
 pub struct ToldKeeper<S: Alter + Drop> {
     keeper: SqlKeeper<S>,
@@ -33,10 +34,16 @@ impl<S: Alter + Drop> ToldKeeper<S> {
                 host: *host,
                 are_writes_told,
                 cells: 0,
-                writes: 0,
+                commits: 0,
                 told: now.saturating_add(1),
             },
         }
+    }
+
+    /// How many commits were kept: one for each write that was, and one where the cells of the
+    /// first format were turned into today's.
+    pub fn commits(&self) -> u64 {
+        self.progress.commits
     }
 
     /// The keeper inside, as the last call left it.
@@ -93,7 +100,7 @@ impl<S: Alter + Drop> Keeper for ToldKeeper<S> {
         ensures faults_kept { self.old.keeper.faults ≤ self.new.keeper.faults }
     {
         let done = self.keeper.commit(changes);
-        self.progress.tell_write();
+        self.progress.count_commit(done.is_ok());
         done
     }
 
@@ -125,7 +132,7 @@ impl<S: Alter + Drop> Keeper for ToldKeeper<S> {
             → Rises self.old.keeper.faults self.new.keeper.faults }
         ensures faults_kept { self.old.keeper.faults ≤ self.new.keeper.faults }
     {
-        self.progress.tell_cell();
+        self.progress.count_cell();
         self.keeper.first()
     }
 
@@ -154,7 +161,7 @@ impl<S: Alter + Drop> Keeper for ToldKeeper<S> {
             → Rises self.old.keeper.faults self.new.keeper.faults }
         ensures faults_kept { self.old.keeper.faults ≤ self.new.keeper.faults }
     {
-        self.progress.tell_cell();
+        self.progress.count_cell();
         self.keeper.next_after(tab, key)
     }
 }
@@ -165,12 +172,12 @@ struct Progress {
     host: HostRuntime,
     are_writes_told: bool,
     cells: u64,
-    writes: u64,
+    commits: u64,
     told: u64,
 }
 
 impl Progress {
-    fn tell_cell(&mut self) {
+    fn count_cell(&mut self) {
         self.cells = self.cells.saturating_add(1);
         if self.is_time() {
             let cells = self.cells;
@@ -178,11 +185,13 @@ impl Progress {
         }
     }
 
-    fn tell_write(&mut self) {
-        self.writes = self.writes.saturating_add(1);
+    fn count_commit(&mut self, is_kept: bool) {
+        if is_kept {
+            self.commits = self.commits.saturating_add(1);
+        }
         if self.are_writes_told && self.is_time() {
-            let writes = self.writes;
-            let _ = eprintln!(&self.host; "{writes} lines are done so far");
+            let commits = self.commits;
+            let _ = eprintln!(&self.host; "{commits} lines are done so far");
         }
     }
 
@@ -194,16 +203,5 @@ impl Progress {
             self.told = now;
         }
         is_later
-    }
-}
-
-/// The second of the system's clock, or 0 where it can't be read.
-fn second_now(host: &HostRuntime) -> u64 {
-    match SystemTime::now(host) {
-        Ok(now) => match now.duration_since(UNIX_EPOCH) {
-            Ok(since) => since.as_secs(),
-            Err(_) => 0,
-        },
-        Err(_) => 0,
     }
 }

@@ -1,5 +1,6 @@
 ghost use Rattle.std.specs.Prelude.{◌≡◌};
 
+use crate::account::Account;
 use crate::host::Binder;
 use crate::tcp_link::TcpLink;
 use an_door::{Accepted, Door, DoorFault, SessionKind, Tally};
@@ -9,20 +10,24 @@ use std::time::Duration;
 
 /// A port of this machine at which connections come in.
 #[derive(Drop)]
-pub struct TcpDoor<B: Binder + Drop> {
+pub struct TcpDoor<'a, B: Binder + Drop> {
     binder: B,
+    account: &'a Account,
     listener: Option<TcpListener>,
     tally: Tally,
     faults: u64,
+    // The second in which it was bound.
+    begun: u64,
 }
 
-impl<B: Binder + Drop> TcpDoor<B> {
+impl<'a, B: Binder + Drop> TcpDoor<'a, B> {
     /// A door that isn't bound yet.
-    pub fn new(binder: B) -> TcpDoor<B>
+    pub fn new(binder: B, account: &'a Account) -> TcpDoor<'a, B>
         ensures unbound { result.tally.port ≡ 0 }
     {
         TcpDoor {
             binder,
+            account,
             listener: None,
             tally: Tally {
                 accepted: 0,
@@ -32,12 +37,22 @@ impl<B: Binder + Drop> TcpDoor<B> {
                 most: 0,
             },
             faults: 0,
+            begun: 0,
+        }
+    }
+
+    /// Says what was served, where it was bound, at a store that kept so many commits, where it
+    /// keeps any.
+    pub fn report_end(&self, commits: Option<u64>) {
+        if self.tally.port != 0 {
+            self.account
+                .report_end(self.begun, self.tally.finished, commits);
         }
     }
 }
 
-impl<B: Binder + Drop, K: SessionKind> Door<K> for TcpDoor<B> {
-    type Link = TcpLink;
+impl<'a, B: Binder + Drop, K: SessionKind> Door<K> for TcpDoor<'a, B> {
+    type Link = TcpLink<'a>;
 
     ghost use Rattle.std.specs.Prelude.{false};
     ghost use Rattle.std.proofs.Common.{rules};
@@ -56,6 +71,7 @@ impl<B: Binder + Drop, K: SessionKind> Door<K> for TcpDoor<B> {
         match self.binder.listen(port) {
             Ok(listener) => {
                 self.listener = Some(listener);
+                self.begun = self.account.second();
                 self.tally.port = port;
                 self.tally.most = most;
                 Ok(())
@@ -67,8 +83,9 @@ impl<B: Binder + Drop, K: SessionKind> Door<K> for TcpDoor<B> {
         }
     }
 
-    fn accept(&mut self) -> Result<Accepted<TcpLink>, DoorFault> {
+    fn accept(&mut self) -> Result<Accepted<TcpLink<'a>>, DoorFault> {
         if self.tally.most != 0 && self.tally.accepted >= u64::from(self.tally.most) {
+            report_last(self.account, self.tally);
             self.tally.ended = true;
             self.listener = None;
             return Ok(Accepted::Ended);
@@ -76,7 +93,7 @@ impl<B: Binder + Drop, K: SessionKind> Door<K> for TcpDoor<B> {
         match stream_of(&self.binder, &self.listener) {
             Some(stream) => {
                 self.tally.accepted = self.tally.accepted.saturating_add(1);
-                Ok(Accepted::Link(TcpLink::new(stream)))
+                Ok(Accepted::Link(TcpLink::new(stream, self.account)))
             }
             None => {
                 self.faults = self.faults.saturating_add(1);
@@ -85,13 +102,20 @@ impl<B: Binder + Drop, K: SessionKind> Door<K> for TcpDoor<B> {
         }
     }
 
-    fn finish(&mut self, link: TcpLink, _ended: Ended) {
+    fn finish(&mut self, link: TcpLink<'a>, _ended: Ended) {
         drop(link);
         self.tally.finished = self.tally.finished.saturating_add(1);
     }
 
     fn tally(&self) -> Tally {
         self.tally
+    }
+}
+
+/// Says that no connection is taken any more, the first time that it is asked for one more.
+fn report_last(account: &Account, tally: Tally) {
+    if !tally.ended {
+        account.report_last(tally.accepted);
     }
 }
 

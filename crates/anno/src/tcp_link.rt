@@ -1,20 +1,26 @@
 ghost use Rattle.std.specs.Prelude.{◌≡◌, ◌≤◌, length, IfSome};
 
+use crate::account::{Account, Outcome};
 use an_world::{Link, LinkFault};
 use std::io::{ErrorKind, Read, Write};
 use std::net::{Shutdown, TcpStream};
 
-/// A connection. It counts each call that fails, and tells no bytes.
+/// A connection. It counts each call that fails, and tells no bytes. Each reply comes to it whole,
+/// and what a write left of one comes again: so a write that takes all of what it is given ends a
+/// reply, and the next write begins with a status.
 #[derive(Drop)]
-pub struct TcpLink {
+pub struct TcpLink<'a> {
     // None once it is closed, so that its descriptor is free before the link is handed in.
     stream: Option<TcpStream>,
     read_faults: u64,
     write_faults: u64,
+    account: &'a Account,
+    // Of the reply that is written in part, where there is one.
+    begun: Option<Outcome>,
 }
 
-impl TcpLink {
-    pub fn new(stream: TcpStream) -> TcpLink
+impl<'a> TcpLink<'a> {
+    pub fn new(stream: TcpStream, account: &'a Account) -> TcpLink<'a>
         ensures read_faults { result.read_faults ≡ 0 }
         ensures write_faults { result.write_faults ≡ 0 }
     {
@@ -22,11 +28,13 @@ impl TcpLink {
             stream: Some(stream),
             read_faults: 0,
             write_faults: 0,
+            account,
+            begun: None,
         }
     }
 }
 
-impl Link for TcpLink {
+impl<'a> Link for TcpLink<'a> {
     ghost use Rattle.std.specs.Prelude.{None, false};
     ghost use Rattle.std.proofs.Common.{rules};
 
@@ -56,6 +64,7 @@ impl Link for TcpLink {
     fn write(&mut self, from: &[u8]) -> Result<usize, LinkFault> {
         match write_some(&self.stream, from) {
             Some(count) => if count > 0 {
+                self.begun = wrote(self.account, self.begun, from, count);
                 Ok(count)
             } else {
                 self.write_faults = self.write_faults.saturating_add(1);
@@ -72,11 +81,26 @@ impl Link for TcpLink {
         match &self.stream {
             Some(stream) => {
                 let _ = stream.shutdown(Shutdown::Both);
+                self.account.close();
             }
             None => {}
         }
         self.stream = None;
     }
+}
+
+/// Counts the reply whose last bytes these are, where a write took all of them. Else it is written
+/// in part, and its outcome comes back.
+fn wrote(account: &Account, begun: Option<Outcome>, from: &[u8], count: usize) -> Option<Outcome> {
+    let outcome = match begun {
+        Some(outcome) => outcome,
+        None => Outcome::of(from),
+    };
+    if count < from.len() {
+        return Some(outcome);
+    }
+    account.reply(outcome);
+    None
 }
 
 /// How often a call that a signal interrupted is made again.

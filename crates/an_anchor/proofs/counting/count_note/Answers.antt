@@ -10,7 +10,7 @@ use Rattle.an_anchor.proofs.counting.count_note.Goals as goal
 pub returns-in_ok-counted : goal.returns-in_ok-counted
 returns-in_ok-counted c =
     let asked = c.args.asked.now in
-    let targets = c.targets-then-meets.ensures.value ∙ ap targets_of c.in_ok-note.ensures.value in
+    let targets = c.as_slice.ensures.value ∙ c.in_ok-targets.ensures.targets in
     record {
       counted = λ comments has.
           subst (λ targets. HasCounted (anchor_item asked.base.now asked.texts.now) asked.window (comments ++ filter (is_about asked.iri.now) (numbered c.args.row.now 0 targets)) c.in_ok-counted.counted) targets

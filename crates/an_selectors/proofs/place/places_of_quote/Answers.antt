@@ -3,14 +3,18 @@ use Rattle.std.proofs.lemmas.Bool.{cond-true, eq-eqb}
 use Rattle.std.specs.Str.{chars}
 use Rattle.an_selectors.specs.Places.{places_of_quote}
 use Rattle.an_selectors.specs.Walk.{spans_of}
-use Rattle.an_selectors.proofs.PlaceLemmas.{chars_whole, places_of_quote-whole}
+use Rattle.an_selectors.proofs.PlaceLemmas.{chars_whole, places_of_quote-whole, places-longer}
 use Rattle.an_selectors.proofs.place.places_of_quote.Goals as goal
+
+pub returns-then-is_shorter : goal.returns-then-is_shorter
+returns-then-is_shorter c =
+    places-longer _ _ _ _ c.utf8.exact c.utf8.prefix c.utf8.suffix c.utf8.text (c.is_shorter.ensures c.if-is_shorter.true) _ c.new.ensures.items
 
 pub returns-then-width-eq0 : goal.returns-then-width-eq0
 unfolding places_of_quote
 returns-then-width-eq0 c =
     let none : length (chars c.args.exact.now) ≡ 0 = omega (arith, c.char_count-width.ensures.count) in
-    c.new.ensures.items ∙ sym (cond-true _ _ _ (eq-eqb _ _ none))
+    c.new-then-width-eq0.ensures.items ∙ sym (cond-true _ _ _ (eq-eqb _ _ none))
 
 pub spans_of-requires-clause-within : goal.spans_of-requires-clause-within
 spans_of-requires-clause-within c =

@@ -1,0 +1,4 @@
+pub mod NameLemmas
+pub mod ChosenLemmas
+pub mod LabelLemmas
+pub mod PieceLemmas

@@ -1,0 +1,4 @@
+pub mod Gather
+pub mod Chosen
+pub mod Cost
+pub mod Collection
