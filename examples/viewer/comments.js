@@ -74,12 +74,13 @@ function commentCard({ item, comment }, index, texts) {
 // The items of a page of the server's list with their comments, but for those gone meanwhile.
 async function withComments(items) {
   const iris = [...new Set(items.map(item => item.comment))];
-  const trees = new Map(await Promise.all(iris.map(async iri => [iri, await commentAt(iri)])));
+  const trees = new Map(await Promise.all(iris.map(async iri => [iri, await treeAt(iri)])));
   return items.map(item => ({ item, comment: trees.get(item.comment) }))
     .filter(({ comment }) => comment !== null);
 }
 
-async function commentAt(iri) {
+// What is there, or null where it was deleted or hidden meanwhile.
+async function treeAt(iri) {
   try {
     return await ask(pathOf(iri));
   } catch (error) {

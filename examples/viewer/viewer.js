@@ -7,6 +7,7 @@ const state = {
   server: "", token: "", reader: "",
   base: "",            // how the server's IRIs begin, which may differ from its address
   manifests: new Map(),  // IRI of a manifest that is there -> its label, or null while unknown
+  canvases: new Map(),   // IRI of a manifest that was read for a search of all -> its canvases' ids
   numbers: new Map(),    // IRI of an annotation -> its number, by the changes that were seen
   stream: { page: 1, seen: 0 },  // how far the changes were read: the page, and items of it
   manifest: null, canvas: null,  // what is shown: the tree, and a canvas's number from 1
@@ -125,6 +126,7 @@ async function startStream() {
   const stream = await ask("/changes");
   state.base = String(stream.id).replace(/\/changes$/, "");
   state.manifests.clear();
+  state.canvases = new Map();
   state.numbers.clear();
   state.stream = { page: 1, seen: 0 };
   await followStream();
@@ -143,6 +145,7 @@ async function followStream() {
 
 function takeChange({ type, object }) {
   if (object.type === "Manifest") {
+    state.canvases.delete(object.id);
     if (type === "Delete") state.manifests.delete(object.id);
     else if (!state.manifests.has(object.id)) state.manifests.set(object.id, null);
   } else {
@@ -195,14 +198,13 @@ function showManifests() {
       "aria-current": state.manifest?.id === iri ? "true" : null }, text ?? nameOf(iri)))));
 }
 
-// Manifests can be large, so labels of the first ones alone are fetched for the list.
+// Manifests can be large; the collection of them has their labels only.
 async function fetchLabels() {
-  const unknown = [...state.manifests.keys()].filter(iri => state.manifests.get(iri) === null);
-  for (const iri of unknown.slice(0, 20)) {
-    const tree = await ask(pathOf(iri));
-    state.manifests.set(iri, label(tree.label, nameOf(iri)));
-    showManifests();
+  const { items } = await ask("/collection");
+  for (const item of items.filter(({ id }) => state.manifests.has(id))) {
+    state.manifests.set(item.id, label(item.label, nameOf(item.id)));
   }
+  showManifests();
 }
 
 async function openManifest(name) {
@@ -405,13 +407,18 @@ async function search(page) {
   const query = new URLSearchParams({ q: at("search").elements.q.value, page });
   const found = await ask(`/search/${manifestPart()}?${query}`);
   const marks = marksBy(found);
-  const cards = found.items.map(note => hitCard(note, marks.get(note.id) ?? []));
+  const cards = found.items.map(note =>
+    hitCard(note, marks.get(note.id) ?? [], whereLink(note)));
   if (page === 1) at("hits").replaceChildren();
   at("hits").append(...cards);
-  const total = found.partOf?.total ?? found.items.length;
-  at("total").textContent = total === 1 ? "1 annotation fits." : `${total} annotations fit.`;
+  at("total").textContent = fitting(found);
   at("more-hits").hidden = !found.next;
   at("more-hits").onclick = () => attempt(() => search(page + 1));
+}
+
+function fitting(found) {
+  const total = found.partOf?.total ?? found.items.length;
+  return total === 1 ? "1 annotation fits." : `${total} annotations fit.`;
 }
 
 // The words that were found, by the annotation in which they stand.
@@ -424,9 +431,9 @@ function marksBy(found) {
   return marks;
 }
 
-function hitCard(note, marks) {
+function hitCard(note, marks, where) {
   const lines = marks.length ? marks.map(markLine) : [element("p", {}, textOf(note))];
-  return element("li", { class: "card" }, ...lines, whereLink(note),
+  return element("li", { class: "card" }, ...lines, where,
     element("p", { class: "faint" }, about(note)));
 }
 
@@ -628,6 +635,7 @@ async function connect() {
   state.reader = reader.value.trim();
   state.manifest = state.canvas = null;
   for (const part of PARTS) at(part).hidden = true;
+  closeGathered();
   tell("Reading the changes ...");
   await startStream();
   at("room").hidden = false;
