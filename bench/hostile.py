@@ -155,6 +155,9 @@ def searches():
                 + filled("&user=x", again("x"), "+" + CREATOR, third)
                 + filled("&date=" + RANGE, again(RANGE), f"+{MINUTE}/{MINUTE}", third))
     yield Row("motivations, users and dates at once", combined, SWAN)
+    gathered = "/gather/search?q=swan&manifests=m1"
+    yield Row("manifests that nobody has", filled(gathered, numbered("x")), gathered)
+    yield Row("a manifest again and again", filled(gathered, again("m1")), gathered)
     yield Row("names that are ignored", SWAN + "".join(f"&{n:x}" for n in range(3500)), SWAN)
     yield Row("one name that is ignored", SWAN + "&x" * 8000, SWAN)
     yield Row("empty pieces", SWAN + "+" * 16_000, SWAN)

@@ -91,6 +91,8 @@ def main():
     found = Counter(writes.read(number) for number in writes.done)
     table.row("reads are answered, by 503 where they find no memory either",
               set(found) <= {200, 503}, f"{found[200]} by 200, {found[503]} by 503 memory")
+    # A connection that ends before the reply may have been answered so too.
+    report(server, len(writes.refused) + len(writes.lost) + found[503] + found[0], table)
     resource.prlimit(server.process.pid, resource.RLIMIT_AS, (resource.RLIM_INFINITY,) * 2)
     again = [*writes.refused, *writes.lost]
     acknowledged = list(writes.done)
@@ -107,6 +109,14 @@ def main():
     server.kill()
     check(store, work, writes, [*acknowledged, *writes.done], table)
     table.end()
+
+
+def report(server, refused, table):
+    """Standard error reports refusals with 503, the first at once, and none twice."""
+    begins = "requests refused with 503 memory since the last such line: "
+    counts = [int(line[len(begins):]) for line in server.lines_said() if line.startswith(begins)]
+    table.row("standard error reports them, a line a minute at most",
+              counts[:1] == [1] and sum(counts) <= refused, f"{counts} of {refused} at most")
 
 
 def check(store, work, writes, acknowledged, table):

@@ -5,8 +5,9 @@ Words: the top of the repository, and the address of the served room, where ther
 
 First a library says whether the document is an OpenAPI description. Then its paths, methods,
 parameters, codes and statuses are compared with the tables in crates/an_routes, an_query,
-an_complete, an_code and an_http. Then each reply of the cases of `find` and `session` is held
-against what the document says of its method, path and status, and at last the room's replies.
+an_complete, an_gather, an_code and an_http. Then each reply of the cases of `find` and `session`
+is held against what the document says of its method, path and status, and at last the room's
+replies.
 """
 import json
 import os
@@ -33,6 +34,9 @@ KINDS = {"/readers/{reader}": ("Reader", None, "NUMBER_READS"),
          "/manifests/{manifest}/canvases/{canvas}": ("Canvas", "CANVAS_READS", None),
          "/manifests/{manifest}/annotations/": ("Container", "CONTAINER_READS", None),
          "/manifests/{manifest}/orphans": ("Orphans", "PAGE_READS", None),
+         "/collection": ("Collection", "READS_NOTHING", None),
+         "/gather/search": ("GatherSearch", "GATHER_PARAMETERS", None),
+         "/gather/autocomplete": ("GatherComplete", "GATHER_ASK_PARAMETERS", None),
          "/changes": ("Changes", "PAGE_READS", None)}
 # The codes that only lines have, and the one of the reply that memory ran out.
 OF_LINES = {"line", "input"}
@@ -164,7 +168,9 @@ def constants(text):
 def check_tables(document):
     paths = source("an_routes/src/paths.rt")
     lists = {**constants(paths), **constants(source("an_query/src/query.rt")),
-             **constants(source("an_complete/src/ask.rt"))}
+             **constants(source("an_complete/src/ask.rt")),
+             **constants(source("an_gather/src/gather.rt")),
+             **constants(source("an_gather/src/ask.rt"))}
     kinds = dict(re.findall(r"Kind::(\w+) => Allow::(\w+)", paths))
     due("the kinds of paths", set(kinds), {kind for kind, _, _ in KINDS.values()})
     due("the paths", set(document.tree["paths"]), set(KINDS))
@@ -370,8 +376,13 @@ READS = ["/manifests/log", "/manifests/map", "/manifests/none", "/manifests/-",
          "/search/log?q=a&page=999", "/search/log?q=a&q=b", "/search/log?date=2024",
          "/search/none?q=a", "/search/log?q=%FF",
          "/autocomplete/log?q=st", "/autocomplete/log?q=st&min=2&page=1", "/autocomplete/log",
-         "/autocomplete/log?q=a&min=0", "/changes", "/changes?page=1", "/changes?page=2",
-         "/changes?page=99999", "/changes?page=x", "/nowhere"]
+         "/autocomplete/log?q=a&min=0", "/collection", "/collection?q=a", "/gather/search",
+         "/gather/search?q=heron", "/gather/search?manifests=log+map&q=ink&user=x&min=1",
+         "/gather/search?q=a&page=999", "/gather/search?manifests=log&manifests=log",
+         "/gather/search?manifests=log+-", "/gather/search?date=2024", "/gather/none",
+         "/gather/autocomplete?q=st", "/gather/autocomplete?manifests=none&q=st&page=1",
+         "/gather/autocomplete", "/gather/autocomplete?q=a&manifests=A", "/changes",
+         "/changes?page=1", "/changes?page=2", "/changes?page=99999", "/changes?page=x", "/nowhere"]
 
 
 def check_room(document):
@@ -389,7 +400,8 @@ def check_room(document):
         target = "/manifests/log/annotations/"
         document.check("the room", "GET", target,
                        *ask("GET", target, Prefer=f'return=representation;include="{prefer}"'))
-    for path in ["/changes", "/readers/ines", "/search/log", note, note + "/anchors",
+    for path in ["/changes", "/readers/ines", "/search/log", "/collection", "/gather/search",
+                 "/gather/autocomplete", note, note + "/anchors",
                  "/manifests/log/annotations/", "/manifests/log/orphans"]:
         document.check("the room", "OPTIONS", path, *ask("OPTIONS", path))
         document.check("the room", "PATCH", path, *ask("PATCH", path))

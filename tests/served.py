@@ -73,6 +73,15 @@ class Server:
                 self.said += piece
         return b"listening on " in self.said
 
+    def lines_said(self):
+        """The lines that it has written to standard error so far."""
+        while select.select([self.process.stderr], [], [], 0)[0]:
+            piece = os.read(self.process.stderr.fileno(), 4096)
+            if not piece:
+                break
+            self.said += piece
+        return self.said.decode().splitlines()
+
     def kill(self):
         """Ends it by signal 9, where it hasn't ended, and answers its status."""
         if self.process.poll() is None:

@@ -49,8 +49,9 @@ def readers_and_notes():
     return readers, notes
 
 
-def fitting(word, manifest, reader=None):
-    """How many annotations with a word the reader may read on a manifest, by the lines alone."""
+def fitting(word, manifest=None, reader=None):
+    """How many annotations with a word the reader may read on a manifest, or on all, by the lines
+    alone."""
     readers, notes = readers_and_notes()
     groups = ["public"] + (readers[(reader,)][1].get("groups", []) if reader else [])
     count = 0
@@ -61,7 +62,7 @@ def fitting(word, manifest, reader=None):
         texts = [body["value"] for body in (bodies if isinstance(bodies, list) else [bodies])
                  if isinstance(body, dict) and "value" in body]
         words = re.findall(r"\w+", " ".join(texts).lower())
-        count += query["manifest"] == manifest and is_shown and word in words
+        count += manifest in (None, query["manifest"]) and is_shown and word in words
     return "1 annotation fits." if count == 1 else f"{count} annotations fit."
 
 
@@ -99,6 +100,15 @@ def search(browser, words):
     browser.press("#search button")
     browser.until(lambda: browser.texts("#total") != [""])
     return browser.texts("#total") + browser.texts("#hits .card > p:not(.faint)")
+
+
+def gather(browser, words):
+    """Searches in all manifests, and gives how many annotations fit and where they are."""
+    browser.run("document.querySelector('#gather-total').textContent = ''")
+    browser.type("#gather [name=q]", words)
+    browser.press("#gather button")
+    browser.until(lambda: browser.texts("#gather-total") != [""])
+    return browser.texts("#gather-total") + browser.texts("#gather-hits a")
 
 
 def region(browser):
@@ -162,6 +172,68 @@ def anonymous_reader(browser):
     due("the region of the hit", region(browser), "100,200,300,150")
     due("nobody writes without a name", hidden(browser, "#editor-part"), True)
     picture(browser, "anonymous-hit")
+
+
+def all_manifests(browser):
+    log, ledger = "Log of the harbour, for the viewer's test", "Ledger of the closed desk"
+    browser.open("about:blank")
+    browser.open("file://" + PAGE)
+    connect(browser)
+    due("the search in all stands on the first page", hidden(browser, "#gather-part"), False)
+    due("that in one doesn't", hidden(browser, "#search-part"), True)
+    due("a search in all by anybody", gather(browser, "sandpiper"),
+        ["1 annotation fits.", f"{log}, canvas 2"])
+    due("what is marked of all", browser.texts("#gather-hits mark"), ["sandpiper"])
+    picture(browser, "all-manifests")
+    browser.press("#gather-hits a")
+    due("the region of a hit of all", region(browser), "100,200,300,150")
+    due("its manifest is opened", browser.texts("#manifests [aria-current]"), [log])
+    due("a hostile text in all is a text", gather(browser, "onerror")[0], "1 annotation fits.")
+    due("it makes no elements", browser.run(
+        "return document.querySelectorAll('#gather-hits img, #gather-hits script').length"), 0)
+    due("it runs nothing", browser.run("return document.title"), "Reading room")
+    many_of_all(browser)
+    connect(browser, VERA, "viewer-vera")
+    due("nothing is left of what another reader found",
+        browser.texts("#gather-hits .card") + browser.texts("#gather-total"), [""])
+    due("a search in all by a member", gather(browser, "sandpiper"),
+        ["3 annotations fit."] + [f"{log}, canvas 2"] * 2 + [f"{ledger}, canvas 1"])
+    browser.run("document.querySelectorAll('#gather-hits a')[2].click()")
+    browser.until(lambda: region(browser) == "10,20,100,50")
+    due("the region on the closed manifest", region(browser), "10,20,100,50")
+    due("the closed manifest is opened", browser.texts("#manifests [aria-current]"), [ledger])
+    due("words of all that complete", gathered_words(browser, "two sandp"),
+        [["two sandpiper", "3"]])
+    due("a comment in all", gather(browser, "cinerea"),
+        ["1 annotation fits.", "a comment in Letters, for the viewer's test, canvas 1"])
+    browser.press("#gather-hits a")
+    due("it leads to what it is on", len(comments(browser, "8 comments.")), 8)
+    due("nothing in all", gather(browser, "nowhere-to-be-found"), ["0 annotations fit."])
+    picture(browser, "all-manifests-member")
+
+
+def gathered_words(browser, words):
+    browser.type("#gather [name=q]", words)
+    shown = ("return [...document.querySelectorAll('#gather-words option')]"
+             ".map(e => [e.value, e.textContent])")
+    browser.until(lambda: browser.run(shown) != [], 5)
+    return browser.run(shown)
+
+
+def many_of_all(browser):
+    """A word on both manifests of the room, and one of more than a page."""
+    both = fitting("quill")
+    due("the word is on both", both not in (fitting("quill", "log"), fitting("quill", "map")), True)
+    due("what is found on both", gather(browser, "quill")[0], both)
+    wanted = fitting("in")
+    due("the other word has two pages", 20 < int(wanted.split()[0]) <= 40, True)
+    due("the first page of all", [gather(browser, "in")[0],
+                                  len(browser.texts("#gather-hits .card"))], [wanted, 20])
+    browser.press("#more-gathered")
+    browser.until(lambda: len(browser.texts("#gather-hits .card")) > 20)
+    due("the second page of all", len(browser.texts("#gather-hits .card")),
+        int(wanted.split()[0]))
+    due("there is no third page of all", hidden(browser, "#more-gathered"), True)
 
 
 def member(browser):
@@ -393,7 +465,7 @@ def keyboard_alone(browser):
     tab_to(browser, "e.textContent.startsWith('Log of the harbour, for')")
     browser.keys("enter")
     browser.until(lambda: browser.texts("#canvas-title") == ["Page 1"])
-    tab_to(browser, "e.name === 'q'")
+    tab_to(browser, "e.matches('#search [name=q]')")
     browser.keys(*"sand")
     browser.until(lambda: browser.texts("#words li") != [])
     browser.keys("down", "enter")
@@ -426,6 +498,7 @@ def dark_phone(browser):
     connect(browser, VERA, "viewer-vera")
     open_log(browser, 2)
     search(browser, "sandpiper")
+    gather(browser, "sandpiper")
     due("a phone's width is enough",
         browser.run("return document.documentElement.scrollWidth"), 390)
     picture(browser, "phone")
@@ -454,6 +527,7 @@ def main():
     try:
         reading_room(browser)
         anonymous_reader(browser)
+        all_manifests(browser)
         member(browser)
         other.open("file://" + PAGE)
         note(browser, other)

@@ -1,8 +1,9 @@
 #!/usr/bin/env bash
 # Drives the page examples/viewer/index.html in headless Chromium against a served reading room, by
-# a file and from another origin: what an anonymous reader and a member of a closed group find, a
-# note that is written, found, changed and deleted, comments whose words stand where they stood, or
-# elsewhere, or nowhere, hostile texts, refusals, the keyboard alone, a phone's width, and the dark.
+# a file and from another origin: what an anonymous reader and a member of a closed group find, on
+# one manifest and on all, a note that is written, found, changed and deleted, comments whose words
+# stand where they stood, or elsewhere, or nowhere, hostile texts, refusals, the keyboard alone, a
+# phone's width, and the dark.
 # It keeps a picture of each step in a folder, which may be given, and which its first line names.
 # ANNO is the program, by default the built one. It is no part of the gate. Ends with 0 where all is
 # as it is due.
