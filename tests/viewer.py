@@ -61,7 +61,8 @@ def fitting(word, manifest=None, reader=None):
         bodies = tree.get("body", [])
         texts = [body["value"] for body in (bodies if isinstance(bodies, list) else [bodies])
                  if isinstance(body, dict) and "value" in body]
-        words = re.findall(r"\w+", " ".join(texts).lower())
+        # An apostrophe between letters is part of a word (UAX #29).
+        words = re.findall(r"\w+(?:['\u2019]\w+)*", " ".join(texts).lower())
         count += manifest in (None, query["manifest"]) and is_shown and word in words
     return "1 annotation fits." if count == 1 else f"{count} annotations fit."
 
