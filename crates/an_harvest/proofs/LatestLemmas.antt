@@ -1,22 +1,13 @@
 -- What the last changes leave, with one change more before them.
-use Rattle.std.proofs.Common.{◌≡◌, ℕ, ◌<◌, suc, Bool, true, false, cond, List, [], ◌∷◌, ◌++◌, length, map, drop, Option, Some, None, option_map, option_and_then, refl, sym, ap, ◌∙◌, string_bytes, bytes_eq, String, Less, nat_cmp, find, zero, get_or, arith}
-use Rattle.std.proofs.lemmas.Bool.{cond-true, cond-false}
-use Rattle.std.specs.Prelude.{filter, is_some, string_cmp}
-use Rattle.std.specs.List.{last_or, cons_option, filter_map, AllByRecursion}
-use Rattle.std.specs.List.Sorted.{IsStrictlySortedBy}
+use Rattle.std.proofs.Common.{◌≡◌, ℕ, ◌<◌, suc, Bool, true, false, cond, List, [], ◌∷◌, ◌++◌, length, map, drop, Option, Some, None, option_map, refl, sym, ap, ◌∙◌, bytes_eq, zero, get_or, arith}
+use Rattle.std.specs.Prelude.{filter, is_some}
+use Rattle.std.specs.List.{last_or, cons_option}
 use Rattle.std.specs.Option.{option_or}
-use Rattle.std.specs.Ordering.{is_eq}
-use Rattle.std.specs.Cmp.Lexicographic.{slice_cmp}
-use Rattle.std.specs.Map.{lookup, keys_of}
-use Rattle.std.specs.declared.alloc.Global.{Global}
-use Rattle.std.proofs.lemmas.Map.Text.{is_eq-slice_cmp}
 use Rattle.std.proofs.lemmas.Slice.Eq.{bytes_eq-Decides}
 use Rattle.serde_json.specs.View.{view}
 use Rattle.serde_json.specs.declared.value.Value.{Value}
-use Rattle.std.specs.Cmp.Lexicographic.{nat_list_eq_equiv}
 use Rattle.an_harvest.specs.Feed.{Change, change_of, changes_of}
-use Rattle.an_harvest.specs.Live.{last_of, left_by, left_at, leaving, object_at, object_of, Ascend}
-use Rattle.an_harvest.specs.declared.known.KnownObject.{KnownObject}
+use Rattle.an_harvest.specs.Live.{last_of, left_by, left_at, leaving}
 
 pub none_from : {A : Type 0} (o : Option A) → is_some o ≡ false → o ≡ None
 none_from None h = refl
@@ -67,63 +58,6 @@ set_where_new f id other v none = by (bytes_eq id other) refl
     by : (b : Bool) → bytes_eq id other ≡ b → cond b (Some v) (f other) ≡ option_or (f other) (cond b (Some v) None)
     by true is = ap (λ o. option_or o (Some v)) (sym (ap f (sym ((bytes_eq-Decides id other).0 is)) ∙ none))
     by false is = sym (or-none (f other))
-
--- ---- known objects
-
-pub object_at-cons : (o : KnownObject) (os : List KnownObject) (id : List ℕ) → object_at (o ∷ os) id ≡ cond (bytes_eq o.id id) (Some o.manifest) (object_at os id)
-object_at-cons o os id = by (bytes_eq o.id id)
-  where
-    by : (b : Bool) → option_map (λ object. object.manifest) (cond b (Some o) (find (λ object. bytes_eq object.id id) os)) ≡ cond b (Some o.manifest) (object_at os id)
-    by true = refl
-    by false = refl
-
-pub known-step : (before after : Option (Option Bool)) (b : Bool) (manifest : Bool) (rest : Option Bool) → after ≡ option_or before (cond b (Some (Some manifest)) None)
-    → option_or after (option_map Some rest) ≡ option_or before (option_map Some (cond b (Some manifest) rest))
-known-step None after true manifest rest is = ap (λ o. option_or o (option_map Some rest)) is
-known-step None after false manifest rest is = ap (λ o. option_or o (option_map Some rest)) is
-known-step (Some x) after b manifest rest is = ap (λ o. option_or o (option_map Some rest)) is
-
--- ---- the objects that live
-
-object-below : (e : String Global × Option Bool) (es : List (String Global × Option Bool)) → AllByRecursion (λ k. string_cmp e.0 k ≡ Less) (keys_of es)
-    → AllByRecursion (λ id. slice_cmp nat_cmp (string_bytes e.0) id ≡ Less) (map (λ object. object.id) (filter_map object_of es))
-object-below e [] all = tt
-object-below e ((k, None) ∷ es) all = object-below e es all.1
-object-below e ((k, Some manifest) ∷ es) all = (all.0, object-below e es all.1)
-
-pub ascend-living : (es : List (String Global × Option Bool)) → IsStrictlySortedBy string_cmp (keys_of es) → Ascend (filter_map object_of es)
-unfolding IsStrictlySortedBy
-ascend-living [] sorted = tt
-ascend-living ((k, None) ∷ es) sorted = ascend-living es sorted.1
-ascend-living ((k, Some manifest) ∷ es) sorted = (object-below (k, Some manifest) es sorted.0, ascend-living es sorted.1)
-
-missing-above : (k : String Global) (id : List ℕ) (es : List (String Global × Option Bool)) → id ≡ string_bytes k → AllByRecursion (λ l. string_cmp k l ≡ Less) (keys_of es)
-    → lookup (λ l. is_eq (slice_cmp nat_cmp id (string_bytes l))) es ≡ None
-missing-above k id [] same all = refl
-missing-above k id ((l, left) ∷ es) same all =
-    cond-false _ _ _ (ap (λ bytes. is_eq (slice_cmp nat_cmp bytes (string_bytes l))) same ∙ ap is_eq all.0) ∙ missing-above k id es same all.1
-
-pub found-living : (es : List (String Global × Option Bool)) (id : List ℕ) → IsStrictlySortedBy string_cmp (keys_of es)
-    → object_at (filter_map object_of es) id ≡ option_and_then (λ left. left) (lookup (λ k. is_eq (slice_cmp nat_cmp id (string_bytes k))) es)
-unfolding IsStrictlySortedBy
-found-living [] id sorted = refl
-found-living ((k, None) ∷ es) id sorted = found-living es id sorted.1 ∙ by (is_eq (slice_cmp nat_cmp id (string_bytes k))) refl
-  where
-    by : (b : Bool) → is_eq (slice_cmp nat_cmp id (string_bytes k)) ≡ b
-        → option_and_then (λ (left : Option Bool). left) (lookup (λ l. is_eq (slice_cmp nat_cmp id (string_bytes l))) es)
-        ≡ option_and_then (λ (left : Option Bool). left) (cond b (Some None) (lookup (λ l. is_eq (slice_cmp nat_cmp id (string_bytes l))) es))
-    by true is = ap (option_and_then (λ (left : Option Bool). left)) (missing-above k id es ((bytes_eq-Decides id (string_bytes k)).0 (sym (is_eq-slice_cmp id (string_bytes k)) ∙ is)) sorted.0)
-    by false is = refl
-found-living ((k, Some manifest) ∷ es) id sorted =
-    object_at-cons (record { id = string_bytes k; manifest = manifest }) (filter_map object_of es) id
-    ∙ ap (cond (bytes_eq (string_bytes k) id) (Some manifest)) (found-living es id sorted.1)
-    ∙ by (is_eq (slice_cmp nat_cmp id (string_bytes k))) (bytes_eq (string_bytes k) id) (nat_list_eq_equiv.symm (string_bytes k) id ∙ sym (is_eq-slice_cmp id (string_bytes k)))
-  where
-    by : (b e : Bool) → e ≡ b
-        → cond e (Some manifest) (option_and_then (λ (left : Option Bool). left) (lookup (λ l. is_eq (slice_cmp nat_cmp id (string_bytes l))) es))
-        ≡ option_and_then (λ (left : Option Bool). left) (cond b (Some (Some manifest)) (lookup (λ l. is_eq (slice_cmp nat_cmp id (string_bytes l))) es))
-    by true e is = cond-true _ _ _ is
-    by false e is = cond-false _ _ _ is
 
 -- ---- items, from a place on
 

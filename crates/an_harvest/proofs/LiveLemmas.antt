@@ -1,6 +1,6 @@
 -- What lives after a stream of which a part was harvested before.
 use Rattle.std.proofs.Common.{◌≡◌, ℕ, Bool, cond, List, [], ◌∷◌, ◌++◌, Option, Some, None, option_map, refl, sym, ap, ◌∙◌, bytes_eq}
-use Rattle.std.specs.Option.{option_or}
+use Rattle.std.specs.Option.{option_or, unwrap_or}
 use Rattle.an_harvest.specs.Feed.{Change}
 use Rattle.an_harvest.specs.Live.{last_of, left_by, left_at, live_at, object_at, IsLive}
 use Rattle.an_harvest.specs.declared.known.KnownObject.{KnownObject}
@@ -17,24 +17,20 @@ left_at-append (c ∷ a) b id =
     or-assoc None y z = refl
     or-assoc (Some x) y z = refl
 
--- `live` by what changes leave
-abbrev live_by : Option (Option Bool) → Option Bool → Option Bool
-live_by None known = known
-live_by (Some left) known = left
-
-live-left : (known : List KnownObject) (changes : List Change) (id : List ℕ) → live_at known changes id ≡ live_by (left_at changes id) (object_at known id)
+-- an object is what changes leave of it, and what it was known as where they leave nothing
+live-left : (known : List KnownObject) (changes : List Change) (id : List ℕ) → live_at known changes id ≡ unwrap_or (left_at changes id) (object_at known id)
 live-left known changes id = by (last_of id changes)
   where
-    by : (o : Option Change) → elim o [ None ↦ object_at known id | Some change ↦ left_by change ] ≡ live_by (option_map left_by o) (object_at known id)
+    by : (o : Option Change) → elim o [ None ↦ object_at known id | Some change ↦ left_by change ] ≡ unwrap_or (option_map left_by o) (object_at known id)
     by None = refl
     by (Some change) = refl
 
 -- a harvest from what an earlier harvest found is a harvest of all
 pub live-append : (known found more : List KnownObject) (a b : List Change) → IsLive known a found → IsLive found b more → IsLive known (a ++ b) more
 live-append known found more a b first second id =
-    second id ∙ live-left found b id ∙ ap (live_by (left_at b id)) (first id ∙ live-left known a id)
-    ∙ by (left_at b id) (left_at a id) ∙ ap (λ o. live_by o (object_at known id)) (sym (left_at-append a b id)) ∙ sym (live-left known (a ++ b) id)
+    second id ∙ live-left found b id ∙ ap (unwrap_or (left_at b id)) (first id ∙ live-left known a id)
+    ∙ by (left_at b id) (left_at a id) ∙ ap (λ o. unwrap_or o (object_at known id)) (sym (left_at-append a b id)) ∙ sym (live-left known (a ++ b) id)
   where
-    by : (x y : Option (Option Bool)) → live_by x (live_by y (object_at known id)) ≡ live_by (option_or x y) (object_at known id)
+    by : (x y : Option (Option Bool)) → unwrap_or x (unwrap_or y (object_at known id)) ≡ unwrap_or (option_or x y) (object_at known id)
     by None y = refl
     by (Some x) y = refl

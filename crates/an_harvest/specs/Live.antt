@@ -1,8 +1,9 @@
 -- What lives after changes.
-use Rattle.std.specs.Prelude.{ℕ, List, Bool, bytes_eq, find, filter, ◌≡◌}
+use Rattle.std.specs.Prelude.{ℕ, List, [], ◌∷◌, ◌++◌, Bool, bytes_eq, find, filter, ◌≡◌}
 use Rattle.std.specs.Prelude.{Option, Some, None, option_map, if◌then◌else◌}
 use Rattle.std.specs.List.{last_or}
-use Rattle.std.specs.Ordering.{nat_cmp}
+use Rattle.std.specs.Option.{option_to_list}
+use Rattle.std.specs.Ordering.{nat_cmp, is_lt, is_gt}
 use Rattle.std.specs.Cmp.Lexicographic.{slice_cmp}
 use Rattle.std.specs.List.Sorted.{IsStrictlySortedBy}
 use Rattle.std.specs.Prelude.{map, String, string_bytes}
@@ -60,3 +61,18 @@ leaving change = (change.id, left_by change)
 abbrev pub object_of : String Global × Option Bool → Option KnownObject
 object_of entry =
     option_map (λ manifest. record { id = string_bytes entry.0; manifest = manifest }) entry.1
+
+-- the objects that come before an id by its bytes, and those that come after it
+abbrev pub before : List ℕ → List KnownObject → List KnownObject
+before id objects = filter (λ object. is_lt (slice_cmp nat_cmp object.id id)) objects
+
+abbrev pub after : List ℕ → List KnownObject → List KnownObject
+after id objects = filter (λ object. is_gt (slice_cmp nat_cmp object.id id)) objects
+
+-- the objects, but of each id with an entry in the map the object of that entry, where it lives
+abbrev pub merge : List (String Global × Option Bool) → List KnownObject → List KnownObject
+merge [] objects = objects
+merge (entry ∷ entries) objects =
+    before (string_bytes entry.0) objects
+    ++ (option_to_list (object_of entry)
+    ++ merge entries (after (string_bytes entry.0) objects))

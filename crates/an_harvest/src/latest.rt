@@ -1,17 +1,14 @@
 ghost use Rattle.std.specs.Prelude.{◌≡◌, ◌≤◌, ◌+◌, ◌∷◌, [], ◌++◌, ◌-◌, ℕ, List, length, drop};
-ghost use Rattle.std.specs.Prelude.{map, cond};
-ghost use Rattle.std.specs.Prelude.{bytes_eq, string_bytes, Some, OnOk, IfOk, option_map};
-ghost use Rattle.std.specs.Prelude.{if◌then◌else◌, None, option_and_then};
-ghost use Rattle.std.specs.List.{filter_map};
+ghost use Rattle.std.specs.Prelude.{map, bytes_eq, Some, None, OnOk, IfOk, if◌then◌else◌};
 ghost use Rattle.std.specs.Option.{option_or};
 ghost use Rattle.std.specs.BTreeMap.{get_by_text};
 ghost use Rattle.serde_json.specs.View.{view};
 ghost use Rattle.an_harvest.specs.Feed.{Change, changes_of, page_items};
-ghost use Rattle.an_harvest.specs.Live.{Tells, Ascend, IsLive, object_at, object_of};
+ghost use Rattle.an_harvest.specs.Live.{Tells, IsLive};
 
 use crate::feed::{change_in, page_items};
-use crate::known::{Known, KnownObject};
-use an_base::Text;
+use crate::known::Known;
+use crate::merging::living;
 use serde_json::Value;
 use std::alloc::{AllocError, Global};
 use std::collections::BTreeMap;
@@ -103,46 +100,6 @@ pub(crate) fn merged(
         → IsLive known.now.objects changes found.objects) }
     ensures total { IfOk result (λ found. found.items ≡ total) }
 {
-    let mut latest = latest;
-    note_known(alloc, &mut latest, known.objects())?;
-    let objects = living(alloc, latest)?;
+    let objects = living(alloc, known.objects(), latest)?;
     Ok(Known::of(objects, total))
-}
-
-fn note_known(
-    alloc: Global,
-    latest: &mut BTreeMap<String, Option<bool>>,
-    objects: &[KnownObject],
-) -> Result<(), AllocError>
-    ensures { OnOk result ((id : List ℕ) → get_by_text latest.new id
-        ≡ option_or (get_by_text latest.old id) (option_map Some (object_at objects.now id))) }
-{
-    for object in objects {
-        set_new(alloc, latest, object.id.as_str(), Some(object.manifest))?;
-    }
-    Ok(())
-}
-
-/// The objects that live, ascending by the bytes of their IRIs.
-fn living(
-    alloc: Global,
-    latest: BTreeMap<String, Option<bool>>,
-) -> Result<Vec<KnownObject>, AllocError>
-    ensures objects { IfOk result (λ objects. objects.items ≡ filter_map object_of latest.entries) }
-    ensures order { IfOk result (λ objects. Ascend objects.items) }
-    ensures found { IfOk result (λ objects. (id : List ℕ) → object_at objects.items id
-        ≡ option_and_then (λ left. left) (get_by_text latest id)) }
-{
-    let _count = latest.len();
-    let mut objects = Vec::new(alloc);
-    for (id, left) in latest {
-        match left {
-            Some(manifest) => {
-                let id = Text::from_string(id);
-                objects.push(KnownObject { id, manifest })?;
-            }
-            None => {}
-        }
-    }
-    Ok(objects)
 }

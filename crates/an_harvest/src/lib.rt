@@ -28,5 +28,6 @@ mod latest;
 mod laws;
 mod link_fetch;
 mod map_fetch;
+mod merging;
 mod reply;
 mod request;
