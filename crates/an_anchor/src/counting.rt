@@ -49,7 +49,7 @@ pub(crate) fn count_on<T: Look, L: Ledger>(
         (notes_on (view_of (T.state look.now) (identity who.now)) manifest.now) }
     ensures steps_least { steps.old ≤ steps.new }
 {
-    let places = look.readable(alloc, who, manifest)?;
+    let places = look.readable(alloc, who, Some(manifest))?;
     let counted = count_at(alloc, look, places.as_slice(), asked, steps)?;
     Ok(counted)
 }

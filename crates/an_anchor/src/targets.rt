@@ -37,7 +37,7 @@ pub(crate) fn comments_on<T: Look, L: Ledger>(
         (notes_on (view_of (T.state look.now) (identity who.now)) manifest.now) }
     ensures steps_least { steps.old ≤ steps.new }
 {
-    let places = look.readable(alloc, who, manifest)?;
+    let places = look.readable(alloc, who, Some(manifest))?;
     let comments = comments_at(alloc, look, places.as_slice(), base, steps)?;
     Ok(comments)
 }

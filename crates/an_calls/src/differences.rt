@@ -142,8 +142,10 @@ fn compare_caller(
         compare_changes(alloc, plain, listed, who, found)?;
         compare_kinds(alloc, plain, listed, who, found)?;
         for row in plain.manifests() {
-            compare_manifest(alloc, plain, listed, who, &row.get().name, words, found)?;
+            let manifest = Some(&row.get().name);
+            compare_manifest(alloc, plain, listed, who, manifest, words, found)?;
         }
+        compare_manifest(alloc, plain, listed, who, None, words, found)?;
     }
     add_subject(found, before, caller)
 }
@@ -182,12 +184,13 @@ fn compare_kinds(
     Ok(())
 }
 
+/// Compares what is found on a manifest, or on any that the caller may read.
 fn compare_manifest(
     alloc: Global,
     plain: &Book,
     listed: &Snapshot,
     who: &Who<'_>,
-    manifest: &Name,
+    manifest: Option<&Name>,
     words: &[TermTotal],
     found: &mut String,
 ) -> Result<(), AllocError> {
@@ -205,7 +208,7 @@ fn compare_manifest(
             found,
         )?;
     }
-    add_subject(found, before, manifest)
+    add_subject(found, before, &manifest)
 }
 
 fn compare_readable(
@@ -213,7 +216,7 @@ fn compare_readable(
     plain: &Book,
     listed: &Snapshot,
     who: &Who<'_>,
-    manifest: &Name,
+    manifest: Option<&Name>,
     found: &mut String,
 ) -> Result<(), AllocError> {
     let places = plain.readable(alloc, who, manifest)?;
@@ -227,7 +230,7 @@ fn compare_word(
     plain: &Book,
     listed: &Snapshot,
     who: &Who<'_>,
-    manifest: &Name,
+    manifest: Option<&Name>,
     word: &str,
     found: &mut String,
 ) -> Result<(), AllocError> {
@@ -242,7 +245,7 @@ fn compare_places(
     plain: &Book,
     listed: &Snapshot,
     who: &Who<'_>,
-    manifest: &Name,
+    manifest: Option<&Name>,
     word: &str,
     found: &mut String,
 ) -> Result<(), AllocError> {

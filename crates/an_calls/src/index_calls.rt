@@ -4,9 +4,9 @@ ghost use Rattle.std.specs.Prelude.{◌<◌, ◌^◌, IfOk};
 ghost use Rattle.an_slots.specs.Places.{Rises};
 
 use crate::numbers::number;
-use crate::policy_calls::{name, owned_audience};
+use crate::policy_calls::owned_audience;
 use crate::rows::{RowError, two_words};
-use an_base::{Name, TermTotal};
+use an_base::TermTotal;
 use an_policy::Classes;
 use an_postings::Postings;
 use std::alloc::{AllocError, Global};
@@ -46,19 +46,18 @@ fn place_step(
     let (verb, rest) = two_words(step)?;
     let (manifest, rest) = two_words(rest)?;
     let (term, numbers) = rest.split_once(" ").unwrap_or((rest, ""));
-    let manifest = name(alloc, manifest)?;
     match verb {
-        "add" => add_place(postings, &manifest, term, numbers),
-        "remove" => remove_place(postings, &manifest, term, numbers),
-        "places" => tell_places(alloc, told, postings, &manifest, term, numbers),
-        "classes" => tell_classes(alloc, told, postings, &manifest, term),
+        "add" => add_place(postings, manifest, term, numbers),
+        "remove" => remove_place(postings, manifest, term, numbers),
+        "places" => tell_places(alloc, told, postings, manifest, term, numbers),
+        "classes" => tell_classes(alloc, told, postings, manifest, term),
         _ => Err(RowError::Form),
     }
 }
 
 fn add_place(
     postings: &mut Postings,
-    manifest: &Name,
+    manifest: &str,
     term: &str,
     numbers: &str,
 ) -> Result<(), RowError> {
@@ -70,7 +69,7 @@ fn add_place(
 
 fn remove_place(
     postings: &mut Postings,
-    manifest: &Name,
+    manifest: &str,
     term: &str,
     numbers: &str,
 ) -> Result<(), RowError> {
@@ -83,7 +82,7 @@ fn tell_places(
     alloc: Global,
     told: &mut String,
     postings: &Postings,
-    manifest: &Name,
+    manifest: &str,
     term: &str,
     numbers: &str,
 ) -> Result<(), RowError> {
@@ -96,7 +95,7 @@ fn tell_classes(
     alloc: Global,
     told: &mut String,
     postings: &Postings,
-    manifest: &Name,
+    manifest: &str,
     term: &str,
 ) -> Result<(), RowError> {
     let classes = postings.classes(alloc, manifest, term)?;
@@ -126,15 +125,14 @@ fn count_step(
     let (verb, rest) = two_words(step)?;
     let (manifest, rest) = two_words(rest)?;
     let (term, numbers) = two_words(rest)?;
-    let manifest = name(alloc, manifest)?;
     match verb {
-        "add" => add_count(counts, &manifest, term, numbers),
-        "take" => take_count(counts, &manifest, term, numbers),
+        "add" => add_count(counts, manifest, term, numbers),
+        "take" => take_count(counts, manifest, term, numbers),
         "total" => {
-            let total = counts.total(&manifest, term, &two_classes(numbers)?);
+            let total = counts.total(manifest, term, &two_classes(numbers)?);
             Ok(write!(told, "{total};")?)
         }
-        "terms" => tell_terms(alloc, told, counts, &manifest, term, numbers),
+        "terms" => tell_terms(alloc, told, counts, manifest, term, numbers),
         _ => Err(RowError::Form),
     }
 }
@@ -142,7 +140,7 @@ fn count_step(
 /// Counts a term more often, in a list with the place 0.
 fn add_count(
     counts: &mut Postings,
-    manifest: &Name,
+    manifest: &str,
     term: &str,
     numbers: &str,
 ) -> Result<(), RowError> {
@@ -157,7 +155,7 @@ fn add_count(
 #[tactic(auto, unfolding(an_base::specs::Totals::capped))]
 fn take_count(
     counts: &mut Postings,
-    manifest: &Name,
+    manifest: &str,
     term: &str,
     numbers: &str,
 ) -> Result<(), RowError> {
@@ -174,7 +172,7 @@ fn tell_terms(
     alloc: Global,
     told: &mut String,
     counts: &Postings,
-    manifest: &Name,
+    manifest: &str,
     prefix: &str,
     numbers: &str,
 ) -> Result<(), RowError> {

@@ -89,7 +89,7 @@ impl Look for Counted<'_> {
         &self,
         alloc: Global,
         who: &Who<'_>,
-        manifest: &Name,
+        manifest: Option<&Name>,
     ) -> Result<Vec<usize>, AllocError> {
         self.listed.readable(alloc, who, manifest)
     }
@@ -98,13 +98,13 @@ impl Look for Counted<'_> {
         &self,
         alloc: Global,
         who: &Who<'_>,
-        manifest: &Name,
+        manifest: Option<&Name>,
         term: &str,
     ) -> Result<Vec<usize>, AllocError> {
         self.listed.with_term(alloc, who, manifest, term)
     }
 
-    fn term_weight(&self, who: &Who<'_>, manifest: &Name, term: &str) -> usize {
+    fn term_weight(&self, who: &Who<'_>, manifest: Option<&Name>, term: &str) -> usize {
         self.listed.term_weight(who, manifest, term)
     }
 
@@ -112,7 +112,7 @@ impl Look for Counted<'_> {
         &self,
         alloc: Global,
         who: &Who<'_>,
-        manifest: &Name,
+        manifest: Option<&Name>,
         term: &str,
         places: &[usize],
     ) -> Result<Vec<usize>, AllocError> {
@@ -124,7 +124,7 @@ impl Look for Counted<'_> {
         &self,
         alloc: Global,
         who: &Who<'_>,
-        manifest: &Name,
+        manifest: Option<&Name>,
         prefix: &str,
     ) -> Result<Vec<TermTotal>, AllocError> {
         self.listed.terms_from(alloc, who, manifest, prefix)

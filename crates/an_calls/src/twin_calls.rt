@@ -196,13 +196,19 @@ fn write_in(alloc: Global, method: &str, target: &str) -> Result<WriteRoute, Row
 
 // ---- what is asked
 
+/// In place of a manifest's name: any manifest that the caller may read.
+const ANY: &str = "*";
+
 fn asked(alloc: Global, listed: &Snapshot, verb: &str, argument: &str) -> Result<String, RowError> {
     let (by, rest) = two_words(argument)?;
     let (manifest, rest) = two_words(rest)?;
     let caller = caller_named(alloc, by, Caller::Anonymous)?;
     let who = listed.who(&caller).ok_or(RowError::Form)?;
+    if manifest == ANY {
+        return asked_by(alloc, listed, verb, &who, None, rest);
+    }
     let manifest = name(alloc, manifest)?;
-    asked_by(alloc, listed, verb, &who, &manifest, rest)
+    asked_by(alloc, listed, verb, &who, Some(&manifest), rest)
 }
 
 fn asked_by(
@@ -210,7 +216,7 @@ fn asked_by(
     listed: &Snapshot,
     verb: &str,
     who: &Who<'_>,
-    manifest: &Name,
+    manifest: Option<&Name>,
     rest: &str,
 ) -> Result<String, RowError> {
     let (word, times) = two_words(rest)?;
@@ -227,7 +233,7 @@ fn places(
     alloc: Global,
     listed: &Snapshot,
     who: &Who<'_>,
-    manifest: &Name,
+    manifest: Option<&Name>,
     word: &str,
     times: u32,
 ) -> Result<String, AllocError> {
@@ -246,7 +252,7 @@ fn terms(
     alloc: Global,
     listed: &Snapshot,
     who: &Who<'_>,
-    manifest: &Name,
+    manifest: Option<&Name>,
     prefix: &str,
     times: u32,
 ) -> Result<String, AllocError> {

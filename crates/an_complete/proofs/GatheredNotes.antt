@@ -1,13 +1,11 @@
 -- The terms of the annotations on several manifests, one manifest after the other.
-use Rattle.std.proofs.Common.{◌≡◌, ℕ, zero, suc, ◌+◌, ◌<◌, ◌≤◌, List, [], ◌∷◌, ◌++◌, length, get_or, take, drop, Bool, true, false, cond, ◌&&◌, bytes_eq, nat_eq, Bor, Some, None, refl, sym, ap, ◌∙◌, arith, append_assoc, append-nil}
+use Rattle.std.proofs.Common.{◌≡◌, ℕ, zero, suc, ◌+◌, ◌<◌, ◌≤◌, List, [], ◌∷◌, ◌++◌, length, get_or, take, drop, Bool, true, nat_eq, Bor, refl, sym, ap, ◌∙◌, arith, append_assoc, append-nil}
 use Rattle.std.specs.Prelude.{filter}
-use Rattle.std.specs.List.{flat_map, list_any, starts_with, sum_by}
+use Rattle.std.specs.List.{flat_map, starts_with, sum_by}
 use Rattle.std.proofs.lemmas.List.{take_more}
 use Rattle.std.proofs.lemmas.List.Sums.{sum_by-append}
 use Rattle.an_base.specs.Totals.{Adds, totals_of, with_prefix}
 use Rattle.an_base.specs.declared.span.TermTotal.{TermTotal}
-use Rattle.an_list.proofs.ListedLemmas.{filter_same}
-use Rattle.an_list.proofs.ReadableLemmas.{filter_both}
 use Rattle.an_search.specs.Gathered.{each_once, is_on_one, lent_names}
 use Rattle.an_search.specs.Wanted.{matches}
 use Rattle.an_search.specs.declared.wanted.Wanted.{Wanted}
@@ -15,42 +13,10 @@ use Rattle.an_state.specs.State.{NoteState}
 use Rattle.an_state.specs.Terms.{terms_in, terms_of_row, totals_in}
 use Rattle.an_state.specs.View.{View, is_on}
 use Rattle.an_complete.specs.Complete.{asked_notes, asked_notes_on}
-use Rattle.an_complete.proofs.GatheredTotals.{IsApart, filter-flat, names-apart, sum-none, sum-same, totals-gathered}
-
--- ---- an annotation is on one manifest
-
-and-true : (b : Bool) → (b && true) ≡ b
-and-true true = refl
-and-true false = refl
-
-and-turned : (a b : Bool) → (a && b) ≡ (b && a)
-and-turned true true = refl
-and-turned true false = refl
-and-turned false true = refl
-and-turned false false = refl
-
-none-any : {C : Type 0} (cs : List C) → list_any (λ c. false) cs ≡ false
-none-any [] = refl
-none-any (c ∷ cs) = none-any cs
-
-any-same : {C : Type 0} (p q : C → Bool) → ((c : C) → p c ≡ q c) → (cs : List C) → list_any p cs ≡ list_any q cs
-any-same p q same [] = refl
-any-same p q same (c ∷ cs) = rw (same c, any-same p q same cs) refl
-
-on-apart : (ms : List (List ℕ)) → each_once ms ≡ true → (row : NoteState) → IsApart is_on ms row
-on-apart ms once row = elim row.live as (λ live. IsApart is_on ms (record row { live = live })) [
-  | None ↦ sum-none ms ∙ ap (λ b. cond b 1 0) (sym (none-any ms))
-  | Some live ↦
-      sum-same (λ m. cond (bytes_eq live.manifest m) 1 0) (λ m. cond (bytes_eq live.manifest m && true) 1 0) (λ m. ap (λ b. cond b 1 0) (sym (and-true (bytes_eq live.manifest m)))) ms
-      ∙ names-apart live.manifest true ms once
-      ∙ ap (λ b. cond b 1 0) (any-same (λ m. bytes_eq live.manifest m && true) (λ m. bytes_eq live.manifest m) (λ m. and-true (bytes_eq live.manifest m)) ms)
-]
+use Rattle.an_search.proofs.ApartLemmas.{on-apart, swapped}
+use Rattle.an_complete.proofs.GatheredTotals.{filter-flat, totals-gathered}
 
 -- ---- all manifests
-
-swapped : {A : Type 0} (p q : A → Bool) (rows : List A) → filter p (filter q rows) ≡ filter q (filter p rows)
-swapped p q rows =
-    filter_both p q rows ∙ filter_same (λ row. p row && q row) (λ row. q row && p row) (λ row. and-turned (p row) (q row)) rows ∙ sym (filter_both q p rows)
 
 flat-same : {B : Type 0} (f g : List ℕ → List B) → ((m : List ℕ) → f m ≡ g m) → (ms : List (List ℕ)) → flat_map f ms ≡ flat_map g ms
 flat-same f g same [] = refl

@@ -3,7 +3,7 @@ ghost use Rattle.serde_json.specs.Written.{compact_text};
 ghost use Rattle.an_base.specs.Outcome.{Gives};
 ghost use Rattle.an_policy.specs.Audience.{identity};
 ghost use Rattle.an_state.specs.View.{view_of};
-ghost use Rattle.an_search.specs.Gathered.{each_once, lent_names};
+ghost use Rattle.an_search.specs.Gathered.{each_once, lent_names, searched};
 ghost use Rattle.an_complete.specs.Complete.{ask_iri, asked_terms, asked_terms_on, complete_of};
 ghost use Rattle.an_complete.specs.Complete.{filters_of, terms_page};
 ghost use Rattle.an_complete.specs.Cost.{complete_cost, terms_cost, terms_cost_on};
@@ -11,11 +11,11 @@ ghost use Rattle.an_list.specs.Cost.{Takes};
 
 use crate::ask::Ask;
 use crate::page::{ask_iri, terms_text};
-use crate::totals::{asked_totals, first_terms, totals_on};
+use crate::totals::{asked_totals, first_terms, totals_among};
 use an_base::{Bytes, Name, Steps, TermTotal};
 use an_list::{ReadError, Site};
 use an_policy::Who;
-use an_search::{Wanted, wanted_by};
+use an_search::{Scope, Wanted, wanted_by};
 use an_state::{Look, shown_manifest};
 use an_terms::term_of;
 use std::alloc::{AllocError, Global};
@@ -97,31 +97,39 @@ pub fn asked_terms<T: Look, L: Ledger>(
     first_terms(alloc, ask.min(), totals)
 }
 
-/// The terms that a completion gives in the annotations on these manifests, each of which is named
-/// once and which the caller may read, each term with its total.
+/// The terms that a completion gives in the annotations on all manifests that the caller may read,
+/// or on these, each of which is named once and which it may read, each term with its total.
 pub fn asked_terms_on<T: Look, L: Ledger>(
     alloc: Global,
     look: &T,
     who: &Who<'_>,
+    scope: Scope,
     manifests: &[&Name],
     ask: &Ask,
     steps: &mut Steps<L>,
 ) -> Result<Vec<TermTotal>, AllocError>
     requires once { IsTrue (each_once (lent_names manifests.now)) }
     ensures terms { IfOk result (λ terms. terms.items ≡ asked_terms_on
-        (view_of (T.state look.now) (identity who.now)) (lent_names manifests.now) ask.now) }
+        (view_of (T.state look.now) (identity who.now))
+        (searched (view_of (T.state look.now) (identity who.now)) scope manifests.now)
+        ask.now) }
     ensures steps { OnOk result (steps.new ≡ steps.old + terms_cost_on
-        (view_of (T.state look.now) (identity who.now)) (lent_names manifests.now) ask.now) }
+        (view_of (T.state look.now) (identity who.now))
+        (searched (view_of (T.state look.now) (identity who.now)) scope manifests.now)
+        ask.now) }
     ensures steps_most { steps.new ≤ steps.old + terms_cost_on
-        (view_of (T.state look.now) (identity who.now)) (lent_names manifests.now) ask.now }
+        (view_of (T.state look.now) (identity who.now))
+        (searched (view_of (T.state look.now) (identity who.now)) scope manifests.now)
+        ask.now }
     ensures steps_least { steps.old ≤ steps.new }
 {
     let prefix = term_of(alloc, ask.q())?;
     let filters = filters_of(alloc, ask)?;
-    let totals = totals_on(
+    let totals = totals_among(
         alloc,
         look,
         who,
+        scope,
         manifests,
         prefix.as_str(),
         &filters,

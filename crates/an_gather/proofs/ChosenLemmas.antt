@@ -1,13 +1,13 @@
 -- Chosen names, each once.
-use Rattle.std.proofs.Common.{◌≡◌, ℕ, List, [], ◌∷◌, Bool, true, false, bytes_eq, cond, ◌&&◌, ◌||◌, map, refl, sym, ap, ap₂, ◌∙◌}
+use Rattle.std.proofs.Common.{◌≡◌, ℕ, List, [], ◌∷◌, Bool, true, false, cond, ◌&&◌, Bor, refl, sym, ap, ◌∙◌}
 use Rattle.std.proofs.lemmas.Bool.{both_ways}
 use Rattle.std.specs.Prelude.{filter, not}
-use Rattle.std.specs.List.{list_any}
 use Rattle.std.specs.List.Sorted.{IsStrictlySortedBy}
 use Rattle.an_base.specs.TextSet.{Ascend, ascending, has_text}
 use Rattle.an_base.proofs.AscendLemmas.{ascend-ascending, has_text-filter, none-above}
-use Rattle.an_search.specs.Gathered.{each_once}
-use Rattle.an_state.specs.State.{ManifestState, keys_are_distinct, manifest_key}
+use Rattle.an_search.specs.Gathered.{each_once, lent_names, searched}
+use Rattle.an_state.specs.View.{View}
+use Rattle.an_gather.specs.Chosen.{chosen, is_shown, scope_of}
 
 above_once : (us : List (List ℕ)) → Ascend us → each_once us ≡ true
 unfolding IsStrictlySortedBy
@@ -33,16 +33,8 @@ once-filter p (u ∷ us) once = by (has_text u us) refl (p u) refl (once-filter 
 pub chosen_once : (p : List ℕ → Bool) (texts : List (List ℕ)) → each_once (filter p (ascending texts)) ≡ true
 chosen_once p texts = once-filter p (ascending texts) (ascending-once texts)
 
--- ---- manifests of which no two have one name
-
-has-name : (name : List ℕ) (rows : List ManifestState) → has_text name (map (λ row. row.name) rows) ≡ list_any (λ other. bytes_eq other.name name) rows
-has-name name [] = refl
-has-name name (row ∷ rows) = ap (λ b. bytes_eq row.name name || b) (has-name name rows)
-
-names-distinct : (rows : List ManifestState) → each_once (map (λ row. row.name) rows) ≡ keys_are_distinct manifest_key rows
-names-distinct [] = refl
-names-distinct (row ∷ rows) = ap₂ (λ b c. not b && c) (has-name row.name rows) (names-distinct rows)
-
--- their names each stand once
-pub names_once : (rows : List ManifestState) → keys_are_distinct manifest_key rows ≡ true → each_once (map (λ row. row.name) rows) ≡ true
-names_once rows distinct = names-distinct rows ∙ distinct
+-- all are chosen where none is named, and else those of the names that are shown
+pub chosen-searched : (view : View) (names : List (List ℕ)) (found : List (Bor (List ℕ))) → lent_names found ≡ filter (is_shown view) (ascending names)
+    → searched view (scope_of names) found ≡ chosen view names
+chosen-searched view [] found are = refl
+chosen-searched view (name ∷ names) found are = are

@@ -1,5 +1,5 @@
 -- The pieces of a value of which none is bad are names.
-use Rattle.std.proofs.Common.{◌≡◌, ℕ, ◌<◌, ◌≤◌, List, [], ◌∷◌, length, get_or, fold, Bool, true, false, Option, Some, None, refl, arith}
+use Rattle.std.proofs.Common.{◌≡◌, ℕ, ◌≤◌, List, [], ◌∷◌, length, get_or, fold, Bool, true, false, Option, Some, None, refl, arith}
 use Rattle.std.proofs.lemmas.Grind.{common_steps}
 use Rattle.std.proofs.lemmas.List.Elements.{All-head, All-tail}
 use Rattle.std.proofs.lemmas.List.Sums.{fails_before_first}
@@ -9,7 +9,7 @@ use Rattle.std.specs.Cmp.Lexicographic.{slice_cmp}
 use Rattle.std.specs.List.{AllPass, position_or_len}
 use Rattle.std.specs.Ordering.{nat_cmp}
 use Rattle.std.specs.Prelude.{not, position}
-use Rattle.an_base.specs.Name.{is_name, name_in}
+use Rattle.an_base.specs.Name.{is_name}
 use Rattle.an_base.specs.TextSet.{ascending}
 use Rattle.an_query.specs.Dates.{pieces_of}
 use Rattle.an_search.specs.Wanted.{given_pieces}

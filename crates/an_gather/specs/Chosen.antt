@@ -9,6 +9,8 @@ use Rattle.an_list.specs.declared.error.ReadError.{ReadError}
 use Rattle.an_list.specs.declared.page.Whole.{Whole}
 use Rattle.an_query.specs.Form.{form_of}
 use Rattle.an_search.specs.Gathered.{hits_on}
+use Rattle.an_search.specs.declared.gathered.Scope.{Scope}
+use Rattle.an_search.specs.declared.gathered.Scope.TheVariants as scope
 use Rattle.an_search.specs.Search.{found_text, query_parameters}
 use Rattle.an_search.specs.Wanted.{given_pieces, wanted_of}
 use Rattle.an_complete.specs.Complete.{asked_terms_on, given_parameters, terms_page}
@@ -60,3 +62,10 @@ unfoldable pub gather_complete_of : Site → View → GatherAskRecord → List �
 gather_complete_of site view gather =
     compact_text (terms_page (gather_ask_iri site.base gather) gather.ask.ignored
     (asked_terms_on view (chosen view (given_pieces gather.manifests)) gather.ask))
+
+-- ---- for private clauses
+
+-- all manifests are searched where none is named
+abbrev pub scope_of : List (List ℕ) → Scope
+scope_of [] = scope.All
+scope_of (name ∷ names) = scope.Named

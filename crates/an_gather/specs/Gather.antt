@@ -1,6 +1,6 @@
 -- The queries of a search and of a completion in the annotations on several manifests (IIIF Content
 -- Search API 2.0).
-use Rattle.std.specs.Prelude.{ℕ, List, [], ◌∷◌, map, not, position, Option, option_map}
+use Rattle.std.specs.Prelude.{ℕ, List, ◌∷◌, map, not, position, Option, option_map}
 use Rattle.std.specs.Prelude.{option_and_then, Result}
 use Rattle.std.specs.Result.{result_map_both}
 use Rattle.an_base.specs.Name.{is_name}

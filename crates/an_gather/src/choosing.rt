@@ -1,82 +1,61 @@
 ghost use Rattle.std.specs.Prelude.{◌≡◌, ◌∷◌, ◌++◌, [], IfOk, IsTrue, None, OnOk};
-ghost use Rattle.std.specs.Prelude.{filter, if◌then◌else◌, map};
+ghost use Rattle.std.specs.Prelude.{filter, if◌then◌else◌};
 ghost use Rattle.std.specs.List.{AllPass};
 ghost use Rattle.std.specs.Option.{option_copied};
 ghost use Rattle.an_base.specs.Name.{is_name};
 ghost use Rattle.an_base.specs.TextSet.{ascending};
 ghost use Rattle.an_policy.specs.Audience.{identity};
-ghost use Rattle.an_search.specs.Gathered.{each_once, lent_names};
+ghost use Rattle.an_search.specs.Gathered.{each_once, lent_names, searched};
 ghost use Rattle.an_search.specs.Wanted.{given_pieces};
 ghost use Rattle.an_state.specs.View.{view_of};
-ghost use Rattle.an_gather.specs.Chosen.{chosen, is_shown};
+ghost use Rattle.an_gather.specs.Chosen.{chosen, is_shown, scope_of};
 ghost use Rattle.an_gather.specs.Gather.{bad_names};
 
 use an_base::{Name, Text, TextSet, name_in};
 use an_keyed::Keyed;
 use an_policy::Who;
-use an_search::given_pieces;
-use an_state::{Look, ManifestRow, shown_manifest, shown_manifests};
+use an_search::{Scope, given_pieces};
+use an_state::{Look, shown_manifest};
 use std::alloc::{AllocError, Global};
 
-/// The names of the manifests whose annotations are searched: all that the caller may read, or
-/// where some are named, those of them that it may read.
+/// The manifests whose annotations are searched, and the names of those that are named.
+#[derive(Drop)]
+pub(crate) struct Manifests<'a> {
+    pub(crate) scope: Scope,
+    pub(crate) names: Vec<&'a Name>,
+}
+
+/// All manifests that the caller may read, or where some are named, those of them that it may read.
 pub(crate) fn chosen<'a, T: Look>(
     alloc: Global,
     look: &'a T,
     who: &Who<'_>,
     manifests: Option<&Text>,
-) -> Result<Vec<&'a Name>, AllocError>
+) -> Result<Manifests<'a>, AllocError>
     requires names { bad_names (option_copied manifests) ≡ None }
-    ensures chosen { IfOk result (λ found. lent_names found.items
+    ensures chosen { IfOk result (λ found. searched
+        (view_of (T.state look.now) (identity who.now)) found.scope found.names.items
         ≡ chosen (view_of (T.state look.now) (identity who.now))
         (given_pieces (option_copied manifests.entry))) }
-    ensures once { IfOk result (λ found. IsTrue (each_once (lent_names found.items))) }
+    ensures once { IfOk result (λ found. IsTrue (each_once (lent_names found.names.items))) }
 {
-    let names = given_pieces(alloc, manifests)?;
-    chosen_of(alloc, look, who, names.as_slice())
+    let pieces = given_pieces(alloc, manifests)?;
+    let names = shown_among(alloc, look, who, pieces.as_slice())?;
+    Ok(Manifests {
+        scope: scope_of(pieces.as_slice()),
+        names,
+    })
 }
 
-fn chosen_of<'a, T: Look>(
-    alloc: Global,
-    look: &'a T,
-    who: &Who<'_>,
-    names: &[Text],
-) -> Result<Vec<&'a Name>, AllocError>
-    requires names { AllPass is_name names.now }
-    ensures chosen { IfOk result (λ found. lent_names found.items
-        ≡ chosen (view_of (T.state look.now) (identity who.now)) names.now) }
-    ensures once { IfOk result (λ found. IsTrue (each_once (lent_names found.items))) }
+/// All manifests are searched where none is named.
+fn scope_of(names: &[Text]) -> Scope
+    ensures { result ≡ scope_of names.now }
 {
     if names.is_empty() {
-        shown_names(alloc, look, who)
+        Scope::All
     } else {
-        shown_among(alloc, look, who, names)
+        Scope::Named
     }
-}
-
-/// The names of the manifests that the caller may read, in their order.
-fn shown_names<'a, T: Look>(
-    alloc: Global,
-    look: &'a T,
-    who: &Who<'_>,
-) -> Result<Vec<&'a Name>, AllocError>
-    ensures names { IfOk result (λ names. lent_names names.items ≡ map (λ row. row.name)
-        (view_of (T.state look.now) (identity who.now)).manifests) }
-    ensures once { IfOk result (λ names. IsTrue (each_once (lent_names names.items))) }
-{
-    let rows = shown_manifests(alloc, look, who)?;
-    names_of(alloc, rows.as_slice())
-}
-
-fn names_of<'a>(alloc: Global, rows: &[&'a ManifestRow]) -> Result<Vec<&'a Name>, AllocError>
-    ensures { IfOk result (λ names. lent_names names.items
-        ≡ map (λ row. row.name) (map (λ row. row.now) rows.now)) }
-{
-    let mut names = Vec::with_capacity(alloc, rows.len())?;
-    for row in rows {
-        names.push(row.name())?;
-    }
-    Ok(names)
 }
 
 /// The names among these that are those of manifests that the caller may read, each once, ascending

@@ -24,6 +24,10 @@ use an_served::{CONTEXTS, push_label};
 use an_state::{Look, ManifestRow, shown_manifests};
 use std::alloc::{AllocError, Global};
 
+/// An item is written apart and then copied: what writes a text in JSON (RFC 8259) prepares memory
+/// after it, the more the longer what is written already. Most items have room in so many bytes.
+const ITEM_ROOM: usize = 256;
+
 /// The collection of the manifests that the caller may read, each with its kept label (IIIF
 /// Presentation API 3.0, section 5.1). No manifest is read back: its label is copied.
 pub fn collection<T: Look>(
@@ -192,8 +196,10 @@ fn push_item(
     ensures text { IfOk result
         (λ v. v.items ≡ out.items ++ item_text (manifest_item base.now name.now sheet.now)) }
 {
-    let out = push_comma(out)?;
-    let out = push_manifest(alloc, out, base, name, sheet)?;
+    let text = Vec::with_capacity(alloc, ITEM_ROOM)?;
+    let text = push_manifest(alloc, text, base, name, sheet)?;
+    let mut out = push_comma(out)?;
+    out.extend_from_slice(text.as_slice())?;
     Ok(out)
 }
 

@@ -65,9 +65,16 @@ fn page_of_terms<T: Look, L: Ledger>(
     ensures steps_least { steps.old ≤ steps.new }
 {
     let iri = gather_ask_iri(alloc, site.base(), ask)?;
-    let manifests = chosen(alloc, look, who, ask.manifests())?;
-    let manifests = manifests.as_slice();
-    let terms = asked_terms_on(alloc, look, who, manifests, ask.ask(), steps)?;
+    let chosen = chosen(alloc, look, who, ask.manifests())?;
+    let terms = asked_terms_on(
+        alloc,
+        look,
+        who,
+        chosen.scope,
+        chosen.names.as_slice(),
+        ask.ask(),
+        steps,
+    )?;
     terms_text(alloc, iri.as_str(), ask.ask().ignored(), terms.as_slice())
 }
 

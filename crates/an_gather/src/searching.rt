@@ -41,12 +41,13 @@ pub fn gather_search<T: Look, L: Ledger>(
     ensures steps_least { steps.old ≤ steps.new }
 {
     let whole = gather_whole(alloc, site.base(), gather)?;
-    let manifests = chosen(alloc, look, who, gather.manifests())?;
+    let chosen = chosen(alloc, look, who, gather.manifests())?;
     search_on(
         alloc,
         look,
         who,
-        manifests.as_slice(),
+        chosen.scope,
+        chosen.names.as_slice(),
         &whole,
         gather.query(),
         site,

@@ -64,7 +64,7 @@ impl<'a, T: Look> Look for SeenLook<'a, T> {
         &self,
         alloc: Global,
         who: &Who<'_>,
-        manifest: &Name,
+        manifest: Option<&Name>,
     ) -> Result<Vec<usize>, AllocError> {
         self.look.readable(alloc, who, manifest)
     }
@@ -73,13 +73,13 @@ impl<'a, T: Look> Look for SeenLook<'a, T> {
         &self,
         alloc: Global,
         who: &Who<'_>,
-        manifest: &Name,
+        manifest: Option<&Name>,
         term: &str,
     ) -> Result<Vec<usize>, AllocError> {
         self.look.with_term(alloc, who, manifest, term)
     }
 
-    fn term_weight(&self, who: &Who<'_>, manifest: &Name, term: &str) -> usize {
+    fn term_weight(&self, who: &Who<'_>, manifest: Option<&Name>, term: &str) -> usize {
         self.look.term_weight(who, manifest, term)
     }
 
@@ -87,7 +87,7 @@ impl<'a, T: Look> Look for SeenLook<'a, T> {
         &self,
         alloc: Global,
         who: &Who<'_>,
-        manifest: &Name,
+        manifest: Option<&Name>,
         term: &str,
         places: &[usize],
     ) -> Result<Vec<usize>, AllocError> {
@@ -99,7 +99,7 @@ impl<'a, T: Look> Look for SeenLook<'a, T> {
         &self,
         alloc: Global,
         who: &Who<'_>,
-        manifest: &Name,
+        manifest: Option<&Name>,
         prefix: &str,
     ) -> Result<Vec<TermTotal>, AllocError> {
         self.look.terms_from(alloc, who, manifest, prefix)

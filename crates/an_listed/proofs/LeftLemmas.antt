@@ -1,194 +1,92 @@
 -- Where what stays isn't taken out, the lists become the same.
-use Rattle.std.proofs.Common.{◌≡◌, ℕ, ◌<◌, Bool, true, false, cond, eqb, ◌&&◌, ◌||◌, not, List, [], ◌∷◌, length, get_or, filter, map, Option, Some, None, sym, ap, ◌∙◌, refl, arith}
+use Rattle.std.proofs.Common.{◌≡◌, ℕ, ◌<◌, Bool, true, false, cond, ◌&&◌, ◌||◌, not, List, [], ◌∷◌, length, get_or, map, sym, ap, ◌∙◌, refl}
 use Rattle.std.proofs.Math.ListN.{set}
-use Rattle.std.specs.Prelude.{bytes_eq}
-use Rattle.std.proofs.lemmas.Bool.{and_parts, eqb-true, or_parts}
 use Rattle.std.proofs.lemmas.List.{length-map, length-set, set-set}
-use Rattle.std.proofs.lemmas.Slice.Eq.{bytes_eq-Decides}
-use Rattle.an_base.specs.TextSet.{has_text}
-use Rattle.an_base.specs.Totals.{totals_of}
-use Rattle.an_base.specs.declared.span.TermTotal.{TermTotal}
-use Rattle.an_model.specs.Bodies.{note_terms}
 use Rattle.an_slots.specs.Places.{places_from, with_place, without_place}
-use Rattle.an_slots.specs.Rows.{AreListed, is_posted, parts, posted, unposted}
-use Rattle.an_slots.specs.Slot.{Slot, same_slot, slot_of}
+use Rattle.an_slots.specs.Rows.{AreListed, Row, is_posted, parts_of, posted, unposted}
+use Rattle.an_slots.specs.Slot.{Slot, at, same_slot}
 use Rattle.an_slots.proofs.ChangeLemmas.{AreListed-set, fold-at}
 use Rattle.an_slots.proofs.PlacesFromLemmas.{put_in, set_at}
 use Rattle.an_slots.proofs.PlacesLemmas.{with_place-with_place}
 use Rattle.an_slots.proofs.ShownLemmas.{places_from-map}
-use Rattle.an_state.specs.State.{LiveNote}
-use Rattle.an_listed.specs.Filed.{empty_term, whole_parts, word_parts}
-use Rattle.an_listed.specs.Staying.{left_empty, left_whole, left_words, staying_terms}
-use Rattle.an_listed.specs.Stands.{left_parts, stays}
-use Rattle.an_listed.specs.declared.filed.Filed.{Filed}
+use Rattle.an_slots.proofs.SlotLemmas.{same_slot-true}
+use Rattle.an_listed.specs.Keys.{slot_at}
+use Rattle.an_listed.specs.Left.{left_parts}
+use Rattle.an_listed.proofs.KeyLemmas.{keys-posted}
 
--- ---- what isn't listed of the new row is taken out of the old one as if nothing stayed
+-- ---- what is left of the old row is what the new one doesn't have
 
--- a term whose slot isn't among the parts isn't among the terms
-none-stay : (slot : Slot) (m : List ℕ) (c : ℕ) (t : List ℕ) (ts : List TermTotal) → same_slot slot (slot_of m t c) ≡ true → is_posted slot (parts m c ts) ≡ false → has_text t (map (λ e. e.term) ts) ≡ false
-none-stay slot m c t [] here none = refl
-none-stay slot m c t (x ∷ ts) here none =
-    let apart = or_parts (same_slot slot (slot_of m x.term c)) (is_posted slot (parts m c ts)) none in
-    by (bytes_eq x.term t) refl apart.0 (none-stay slot m c t ts here apart.1)
-  where
-    by : (b : Bool) → bytes_eq x.term t ≡ b → same_slot slot (slot_of m x.term c) ≡ false → has_text t (map (λ e. e.term) ts) ≡ false → (b || has_text t (map (λ e. e.term) ts)) ≡ false
-    by true is apart rest =
-        let e : true ≡ false = sym here ∙ ap (λ (y : List ℕ). same_slot slot (slot_of m y c)) (sym ((bytes_eq-Decides x.term t).0 is)) ∙ apart in
-        cc
-    by false is apart rest = rest
+module _ (slot : Slot) (new : List (Slot × ℕ)) where
+  shut : (b : Bool) → (b && false) ≡ false
+  shut true = refl
+  shut false = refl
 
--- a slot has as much of what is left as of all, where none of its terms stays
-left-posted : (slot : Slot) (m : List ℕ) (c : ℕ) (staying : Option (List TermTotal)) (terms : List TermTotal) → ((t : List ℕ) → same_slot slot (slot_of m t c) ≡ true → stays staying t ≡ false) → is_posted slot (left_parts m c staying terms) ≡ is_posted slot (parts m c terms)
-left-posted slot m c staying [] out = refl
-left-posted slot m c staying (t ∷ ts) out = by (stays staying t.term) refl (left-posted slot m c staying ts out)
-  where
-    by : (b : Bool) → stays staying t.term ≡ b → is_posted slot (left_parts m c staying ts) ≡ is_posted slot (parts m c ts)
-        → is_posted slot (parts m c (cond (not b) (t ∷ filter (λ x. not (stays staying x.term)) ts) (filter (λ x. not (stays staying x.term)) ts))) ≡ (same_slot slot (slot_of m t.term c) || is_posted slot (parts m c ts))
-    by false is rest = ap (λ (b : Bool). same_slot slot (slot_of m t.term c) || b) rest
-    by true is rest = other (same_slot slot (slot_of m t.term c)) refl
-      where
-        other : (b : Bool) → same_slot slot (slot_of m t.term c) ≡ b → is_posted slot (left_parts m c staying ts) ≡ (b || is_posted slot (parts m c ts))
-        other true here = let e : true ≡ false = sym is ∙ out t.term here in cc
-        other false here = rest
-
--- the parts of the new row, where it is under the manifest and class of the old one
-module _ (slot : Slot) (m : List ℕ) (c : ℕ) (after : LiveNote) (class : ℕ) (terms : List TermTotal) where
-  same-parts : (eqb c class && bytes_eq m after.manifest) ≡ true → is_posted slot (parts after.manifest class terms) ≡ is_posted slot (parts m c terms)
-  same-parts both =
-      let e = and_parts (eqb c class) (bytes_eq m after.manifest) both in
-      let same_class : c ≡ class = eqb-true c class e.0 in
-      let same_manifest : m ≡ after.manifest = (bytes_eq-Decides m after.manifest).0 e.1 in
-      ap (λ (x : List ℕ). is_posted slot (parts x class terms)) (sym same_manifest) ∙ ap (λ (k : ℕ). is_posted slot (parts m k terms)) (sym same_class)
-
-module _ (slot : Slot) (live : LiveNote) (class other : ℕ) (its : LiveNote) where
-  abbrev under : Bool → Option (List TermTotal)
-  under b = cond b (Some (totals_of (note_terms its.tree))) None
-
-  words-by : (b : Bool) → (eqb class other && bytes_eq live.manifest its.manifest) ≡ b → is_posted slot (parts its.manifest other (totals_of (note_terms its.tree))) ≡ false
-      → is_posted slot (left_parts live.manifest class (under b) (totals_of (note_terms live.tree))) ≡ is_posted slot (parts live.manifest class (totals_of (note_terms live.tree)))
-  words-by true both none =
-      left-posted slot live.manifest class (Some (totals_of (note_terms its.tree))) (totals_of (note_terms live.tree))
-      (λ t h. none-stay slot live.manifest class t (totals_of (note_terms its.tree)) h (sym (same-parts slot live.manifest class its other (totals_of (note_terms its.tree)) both) ∙ none))
-  words-by false both none = left-posted slot live.manifest class None (totals_of (note_terms live.tree)) (λ t h. refl)
-
-  whole-by : (b : Bool) → (eqb class other && bytes_eq live.manifest its.manifest) ≡ b → is_posted slot (parts its.manifest other (empty_term ∷ [])) ≡ false
-      → is_posted slot (left_empty live.manifest class (under b)) ≡ is_posted slot (parts live.manifest class (empty_term ∷ []))
-  whole-by true both none = sym (sym (same-parts slot live.manifest class its other (empty_term ∷ []) both) ∙ none)
-  whole-by false both none = refl
-
-module _ (old new : Filed) (slot : Slot) where
-  pub left-words : is_posted slot (word_parts new) ≡ false → is_posted slot (left_words old (staying_terms old new)) ≡ is_posted slot (word_parts old)
-  left-words none = by old.note.live new.note.live refl refl
+  left-posted : (old : List (Slot × ℕ)) → is_posted slot (left_parts new old) ≡ (is_posted slot old && not (is_posted slot new))
+  left-posted [] = refl
+  left-posted (part ∷ old) = by (same_slot slot part.0) refl (is_posted part.0 new) refl (left-posted old)
     where
-      by : (before after : Option LiveNote) → old.note.live ≡ before → new.note.live ≡ after → is_posted slot (left_words old (staying_terms old new)) ≡ is_posted slot (word_parts old)
-      by None after is has = rw is refl
-      by (Some live) None is has = rw (is, has) (left-posted slot live.manifest old.class None (totals_of (note_terms live.tree)) (λ t h. refl))
-      by (Some live) (Some its) is has = rw (is, has) (words-by slot live old.class new.class its (eqb old.class new.class && bytes_eq live.manifest its.manifest) refl (rw has at none))
+      by : (here : Bool) → same_slot slot part.0 ≡ here → (stays : Bool) → is_posted part.0 new ≡ stays
+          → is_posted slot (left_parts new old) ≡ (is_posted slot old && not (is_posted slot new))
+          → is_posted slot (cond (not stays) (part ∷ left_parts new old) (left_parts new old)) ≡ ((here || is_posted slot old) && not (is_posted slot new))
+      by true here true is rest =
+          let there : is_posted slot new ≡ true = ap (λ s. is_posted s new) (same_slot-true slot part.0 here) ∙ is in
+          rest ∙ rw there (shut (is_posted slot old))
+      by true here false is rest =
+          let there : is_posted slot new ≡ false = ap (λ s. is_posted s new) (same_slot-true slot part.0 here) ∙ is in
+          rw (here, there) refl
+      by false here true is rest = rest
+      by false here false is rest = rw here rest
 
-  pub left-whole : is_posted slot (whole_parts new) ≡ false → is_posted slot (left_whole old (staying_terms old new)) ≡ is_posted slot (whole_parts old)
-  left-whole none = by old.note.live new.note.live refl refl
+module _ (slot : Slot) (old new : List (Slot × ℕ)) where
+  -- where the new one isn't found, it is all of the old one
+  pub left-all : is_posted slot new ≡ false → is_posted slot (left_parts new old) ≡ is_posted slot old
+  left-all none = left-posted slot new old ∙ rw none (opened (is_posted slot old))
     where
-      by : (before after : Option LiveNote) → old.note.live ≡ before → new.note.live ≡ after → is_posted slot (left_whole old (staying_terms old new)) ≡ is_posted slot (whole_parts old)
-      by None after is has = rw is refl
-      by (Some live) None is has = rw (is, has) refl
-      by (Some live) (Some its) is has = rw (is, has) (whole-by slot live old.class new.class its (eqb old.class new.class && bytes_eq live.manifest its.manifest) refl (rw has at none))
+      opened : (b : Bool) → (b && true) ≡ b
+      opened true = refl
+      opened false = refl
 
--- ---- what is taken out of the old row is nowhere where the new one is listed
+  -- where it is found, it is nothing
+  pub left-none : is_posted slot new ≡ true → is_posted slot (left_parts new old) ≡ false
+  left-none there = left-posted slot new old ∙ rw there (shut slot new (is_posted slot old))
 
-term_of : (slot : Slot) (m t : List ℕ) (c : ℕ) → same_slot slot (slot_of m t c) ≡ true → slot.term ≡ t
-term_of slot m t c same =
-    let outer = and_parts (bytes_eq slot.manifest m) (bytes_eq slot.term t && eqb slot.class c) same in
-    (bytes_eq-Decides slot.term t).0 (and_parts (bytes_eq slot.term t) (eqb slot.class c) outer.1).0
-
-eq-bytes : (a b : List ℕ) → a ≡ b → bytes_eq a b ≡ true
-eq-bytes a b e = (bytes_eq-Decides a b).1 e
-
-some-stay : (slot : Slot) (m : List ℕ) (c : ℕ) (t : List ℕ) (ts : List TermTotal) → same_slot slot (slot_of m t c) ≡ true → is_posted slot (parts m c ts) ≡ true → has_text t (map (λ e. e.term) ts) ≡ true
-some-stay slot m c t [] here there = there
-some-stay slot m c t (x ∷ ts) here there = by (same_slot slot (slot_of m x.term c)) refl there (λ rest. some-stay slot m c t ts here rest)
+-- a part that stays, or whose place is taken out
+pub left-next : (new all rest : List (Slot × ℕ)) (part : Slot × ℕ) → all ≡ part ∷ rest
+    → (place : ℕ) (lists after : Slot → List ℕ) → after ≡ cond (is_posted part.0 new) lists (at part.0 (without_place place) lists)
+    → unposted place after (left_parts new rest) ≡ unposted place lists (left_parts new all)
+left-next new all rest part next place lists after change =
+    ap (λ (f : Slot → List ℕ). unposted place f (left_parts new rest)) change
+    ∙ by (is_posted part.0 new)
+    ∙ ap (λ ps. unposted place lists (left_parts new ps)) (sym next)
   where
-    found : (b : Bool) → b ≡ true → (b || has_text t (map (λ e. e.term) ts)) ≡ true
-    found true is = refl
-    found false is = cc
+    by : (b : Bool) → unposted place (cond b lists (at part.0 (without_place place) lists)) (left_parts new rest)
+        ≡ unposted place lists (cond (not b) (part ∷ left_parts new rest) (left_parts new rest))
+    by true = refl
+    by false = refl
 
-    later : (b : Bool) → has_text t (map (λ e. e.term) ts) ≡ true → (b || has_text t (map (λ e. e.term) ts)) ≡ true
-    later true rest = refl
-    later false rest = rest
-
-    by : (b : Bool) → same_slot slot (slot_of m x.term c) ≡ b → (b || is_posted slot (parts m c ts)) ≡ true
-        → (is_posted slot (parts m c ts) ≡ true → has_text t (map (λ e. e.term) ts) ≡ true) → (bytes_eq x.term t || has_text t (map (λ e. e.term) ts)) ≡ true
-    by true is there rest = found (bytes_eq x.term t) (eq-bytes x.term t (sym (term_of slot m x.term c is) ∙ term_of slot m t c here))
-    by false is there rest = later (bytes_eq x.term t) (rest there)
-
-apart-left : (slot : Slot) (m : List ℕ) (c : ℕ) (others terms : List TermTotal) → is_posted slot (parts m c others) ≡ true → is_posted slot (left_parts m c (Some others) terms) ≡ false
-apart-left slot m c others [] there = refl
-apart-left slot m c others (t ∷ ts) there = by (stays (Some others) t.term) refl (apart-left slot m c others ts there)
+-- a slot at which nothing is left has no term that doesn't stay
+pub left-apart : (more : Bool) (slot : Slot) (new : List (Slot × ℕ)) (keys : Row) (i : ℕ) → i < length keys.terms
+    → (more || not (is_posted slot (left_parts new (parts_of keys)))) ≡ true
+    → (more || (is_posted (slot_at keys i) new || not (same_slot slot (slot_at keys i)))) ≡ true
+left-apart true slot new keys i h out = refl
+left-apart false slot new keys i h out = by (same_slot slot (slot_at keys i)) refl
   where
-    by : (b : Bool) → stays (Some others) t.term ≡ b → is_posted slot (left_parts m c (Some others) ts) ≡ false
-        → is_posted slot (parts m c (cond (not b) (t ∷ filter (λ x. not (stays (Some others) x.term)) ts) (filter (λ x. not (stays (Some others) x.term)) ts))) ≡ false
-    by true is rest = rest
-    by false is rest = here (same_slot slot (slot_of m t.term c)) refl
-      where
-        here : (b : Bool) → same_slot slot (slot_of m t.term c) ≡ b → (b || is_posted slot (left_parts m c (Some others) ts)) ≡ false
-        here true same = let e : true ≡ false = sym (some-stay slot m c t.term others same there) ∙ is in cc
-        here false same = rest
+    opened : (b : Bool) → (b || true) ≡ true
+    opened true = refl
+    opened false = refl
 
-posted-at : (slot : Slot) (m : List ℕ) (c : ℕ) (ts : List TermTotal) → is_posted slot (parts m c ts) ≡ true → (slot.manifest ≡ m) × (slot.class ≡ c)
-posted-at slot m c [] there = cc
-posted-at slot m c (t ∷ ts) there = by (same_slot slot (slot_of m t.term c)) refl there (λ rest. posted-at slot m c ts rest)
-  where
-    by : (b : Bool) → same_slot slot (slot_of m t.term c) ≡ b → (b || is_posted slot (parts m c ts)) ≡ true
-        → (is_posted slot (parts m c ts) ≡ true → (slot.manifest ≡ m) × (slot.class ≡ c)) → (slot.manifest ≡ m) × (slot.class ≡ c)
-    by true same there rest =
-        let outer = and_parts (bytes_eq slot.manifest m) (bytes_eq slot.term t.term && eqb slot.class c) same in
-        ((bytes_eq-Decides slot.manifest m).0 outer.0, eqb-true slot.class c (and_parts (bytes_eq slot.term t.term) (eqb slot.class c) outer.1).1)
-    by false same there rest = rest there
+    stays : (b : Bool) → not (true && not b) ≡ true → (b || false) ≡ true
+    stays true e = refl
+    stays false e = cc
 
-apart-classes : (slot : Slot) (m own : List ℕ) (c class : ℕ) (ts others : List TermTotal) → (eqb c class && bytes_eq m own) ≡ false → is_posted slot (parts own class others) ≡ true → is_posted slot (parts m c ts) ≡ false
-apart-classes slot m own c class ts others apart there = by (is_posted slot (parts m c ts)) refl
-  where
-    by : (b : Bool) → is_posted slot (parts m c ts) ≡ b → b ≡ false
-    by false is = refl
-    by true is =
-        let a = posted-at slot m c ts is in
-        let b = posted-at slot own class others there in
-        let classes : c ≡ class = sym a.1 ∙ b.1 in
-        let same : eqb c class ≡ true = grind (arith, classes) in
-        let both : (eqb c class && bytes_eq m own) ≡ true = rw (same, eq-bytes m own (sym a.0 ∙ b.0)) refl in
-        let e : true ≡ false = sym both ∙ apart in
-        cc
-
-module _ (slot : Slot) (live : LiveNote) (class other : ℕ) (its : LiveNote) where
-  apart-words-by : (b : Bool) → (eqb class other && bytes_eq live.manifest its.manifest) ≡ b → is_posted slot (parts its.manifest other (totals_of (note_terms its.tree))) ≡ true
-      → is_posted slot (left_parts live.manifest class (under slot live class other its b) (totals_of (note_terms live.tree))) ≡ false
-  apart-words-by true both there =
-      apart-left slot live.manifest class (totals_of (note_terms its.tree)) (totals_of (note_terms live.tree))
-      (sym (same-parts slot live.manifest class its other (totals_of (note_terms its.tree)) both) ∙ there)
-  apart-words-by false both there =
-      left-posted slot live.manifest class None (totals_of (note_terms live.tree)) (λ t h. refl)
-      ∙ apart-classes slot live.manifest its.manifest class other (totals_of (note_terms live.tree)) (totals_of (note_terms its.tree)) both there
-
-  apart-whole-by : (b : Bool) → (eqb class other && bytes_eq live.manifest its.manifest) ≡ b → is_posted slot (parts its.manifest other (empty_term ∷ [])) ≡ true
-      → is_posted slot (left_empty live.manifest class (under slot live class other its b)) ≡ false
-  apart-whole-by true both there = refl
-  apart-whole-by false both there = apart-classes slot live.manifest its.manifest class other (empty_term ∷ []) (empty_term ∷ []) both there
-
-module _ (old new : Filed) (slot : Slot) where
-  pub apart-words : is_posted slot (word_parts new) ≡ true → is_posted slot (left_words old (staying_terms old new)) ≡ false
-  apart-words there = by old.note.live new.note.live refl refl
-    where
-      by : (before after : Option LiveNote) → old.note.live ≡ before → new.note.live ≡ after → is_posted slot (left_words old (staying_terms old new)) ≡ false
-      by None after is has = rw is refl
-      by (Some live) None is has = let e : false ≡ true = rw has at there in cc
-      by (Some live) (Some its) is has = rw (is, has) (apart-words-by slot live old.class new.class its (eqb old.class new.class && bytes_eq live.manifest its.manifest) refl (rw has at there))
-
-  pub apart-whole : is_posted slot (whole_parts new) ≡ true → is_posted slot (left_whole old (staying_terms old new)) ≡ false
-  apart-whole there = by old.note.live new.note.live refl refl
-    where
-      by : (before after : Option LiveNote) → old.note.live ≡ before → new.note.live ≡ after → is_posted slot (left_whole old (staying_terms old new)) ≡ false
-      by None after is has = rw is refl
-      by (Some live) None is has = let e : false ≡ true = rw has at there in cc
-      by (Some live) (Some its) is has = rw (is, has) (apart-whole-by slot live old.class new.class its (eqb old.class new.class && bytes_eq live.manifest its.manifest) refl (rw has at there))
+    by : (here : Bool) → same_slot slot (slot_at keys i) ≡ here → (is_posted (slot_at keys i) new || not here) ≡ true
+    by false here = opened (is_posted (slot_at keys i) new)
+    by true here =
+        let is : slot ≡ slot_at keys i = same_slot-true slot (slot_at keys i) here in
+        let left = ap not (sym (left-posted slot new (parts_of keys))) ∙ out in
+        let there : is_posted slot (parts_of keys) ≡ true = ap (λ s. is_posted s (parts_of keys)) is ∙ keys-posted keys i h in
+        let stay : (is_posted slot new || false) ≡ true = stays (is_posted slot new) (ap (λ b. not (b && not (is_posted slot new))) (sym there) ∙ left) in
+        ap (λ s. is_posted s new || false) (sym is) ∙ stay
 
 -- ---- a place that is put in or out once more
 

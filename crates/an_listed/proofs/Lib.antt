@@ -1,6 +1,6 @@
 pub mod AmongLemmas
 pub mod AlikeLemmas
-pub mod FiledLemmas
+pub mod KeyLemmas
 pub mod LeanerLemmas
 pub mod LeftLemmas
 pub mod NeedLemmas

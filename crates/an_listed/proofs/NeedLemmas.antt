@@ -6,10 +6,9 @@ use Rattle.std.proofs.lemmas.List.{take_more}
 use Rattle.std.proofs.lemmas.List.Concat.{flat_map-cons}
 use Rattle.an_base.specs.Totals.{capped}
 use Rattle.an_postings.specs.Postings.{Lists, count_in, room_in}
-use Rattle.an_slots.specs.Rows.{is_posted, parts}
-use Rattle.an_slots.specs.Slot.{Slot, same_slot, slot_of, at}
+use Rattle.an_slots.specs.Rows.{is_posted}
+use Rattle.an_slots.specs.Slot.{Slot, same_slot, at}
 use Rattle.an_slots.proofs.SlotLemmas.{same_slot-refl}
-use Rattle.an_listed.specs.Filed.{empty_term}
 use Rattle.an_listed.specs.Room.{HasWanted, IsEnough, times, wanted_at}
 use Rattle.an_listed.specs.declared.filed.Filed.{Filed}
 use Rattle.an_listed.proofs.RoomLemmas.{times-append, times-cons, times-none}
@@ -38,9 +37,6 @@ counted-next counts new part rest all next is slot =
     step : (b : Bool) (m r w n : ℕ) → w ≡ cond b 1 0 + r → n ≡ cond b (m + 1) m → n + r ≡ m + w
     step true m r w n e i = omega arith
     step false m r w n e i = omega arith
-
-pub whole-times : (m : List ℕ) (c : ℕ) (slot : Slot) → times slot (parts m c (empty_term ∷ [])) ≡ cond (same_slot slot (slot_of m [] c)) 1 0
-whole-times m c slot = let e = times-cons slot (slot_of m [] c, 0) [] in omega (arith, e)
 
 -- ---- the rows, one after the other
 

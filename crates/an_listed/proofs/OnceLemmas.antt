@@ -12,9 +12,11 @@ use Rattle.an_model.specs.Bodies.{note_terms}
 use Rattle.an_slots.specs.Rows.{part_at, parts, parts_at}
 use Rattle.an_slots.specs.Slot.{Slot, same_slot, slot_of}
 use Rattle.an_state.specs.State.{LiveNote}
-use Rattle.an_listed.specs.Filed.{whole_parts, word_parts}
+use Rattle.an_listed.specs.Keys.{empty_term, parts_by}
 use Rattle.an_listed.specs.Room.{times}
 use Rattle.an_listed.specs.declared.filed.Filed.{Filed}
+use Rattle.an_listed.specs.declared.kind.Kind.{Kind}
+use Rattle.an_listed.specs.declared.kind.Kind.TheVariants.{Words, Anywhere, Whole}
 use Rattle.an_listed.proofs.RoomLemmas.{times-cons}
 
 capped-most : (n : ℕ) → capped n ≤ 2 ^ 64 - 1
@@ -80,28 +82,29 @@ totals-fit : (m : List ℕ) (c : ℕ) (terms : List (List ℕ)) (slot : Slot) �
 unfolding totals_of
 totals-fit m c terms slot = fits-told m c terms slot (ascending terms) (ascend-ascending terms)
 
-module _ (row : Filed) (slot : Slot) where
-  pub words-once : times slot (word_parts row) ≤ 1
-  words-once = by row.note.live refl
+module _ (kind : Kind) (row : Filed) (slot : Slot) where
+  pub keys-once : times slot (parts_by kind row) ≤ 1
+  keys-once = by kind row.note.live refl
     where
-      by : (live : Option LiveNote) → row.note.live ≡ live → times slot (word_parts row) ≤ 1
-      by None is = rw is (omega arith)
-      by (Some live) is = rw is (totals-once live.manifest row.class (note_terms live.tree) slot)
+      one : (b : Bool) (w : ℕ) → w ≡ cond b 1 0 + 0 → w ≤ 1
+      one true w e = omega arith
+      one false w e = omega arith
 
-  pub words-fit : parts_at (word_parts row) slot ≤ 2 ^ 64 - 1
-  words-fit = by row.note.live refl
-    where
-      by : (live : Option LiveNote) → row.note.live ≡ live → parts_at (word_parts row) slot ≤ 2 ^ 64 - 1
-      by None is = rw is (omega arith)
-      by (Some live) is = rw is (totals-fit live.manifest row.class (note_terms live.tree) slot)
+      by : (kind : Kind) (live : Option LiveNote) → row.note.live ≡ live → times slot (parts_by kind row) ≤ 1
+      by kind None is = rw is (omega arith)
+      by Words (Some live) is = rw is (totals-once live.manifest row.class (note_terms live.tree) slot)
+      by Anywhere (Some live) is = rw is (totals-once [] row.class (note_terms live.tree) slot)
+      by Whole (Some live) is = rw is (one (same_slot slot (slot_of live.manifest [] row.class)) (times slot (parts live.manifest row.class (empty_term ∷ []))) (times-cons slot (slot_of live.manifest [] row.class, 0) []))
 
-  pub whole-once : times slot (whole_parts row) ≤ 1
-  whole-once = by row.note.live refl
+  pub keys-fit : parts_at (parts_by kind row) slot ≤ 2 ^ 64 - 1
+  keys-fit = by kind row.note.live refl
     where
-      by : (live : Option LiveNote) → row.note.live ≡ live → times slot (whole_parts row) ≤ 1
-      by None is = rw is (omega arith)
-      by (Some live) is = rw is (one (same_slot slot (slot_of live.manifest [] row.class)) (times slot (parts live.manifest row.class (record { term = []; total = 0 } ∷ []))) (times-cons slot (slot_of live.manifest [] row.class, 0) []))
-        where
-          one : (b : Bool) (w : ℕ) → w ≡ cond b 1 0 + 0 → w ≤ 1
-          one true w e = omega arith
-          one false w e = omega arith
+      one : (b : Bool) (w : ℕ) → w ≡ cond b 0 0 + 0 → w ≤ 2 ^ 64 - 1
+      one true w e = omega arith
+      one false w e = omega arith
+
+      by : (kind : Kind) (live : Option LiveNote) → row.note.live ≡ live → parts_at (parts_by kind row) slot ≤ 2 ^ 64 - 1
+      by kind None is = rw is (omega arith)
+      by Words (Some live) is = rw is (totals-fit live.manifest row.class (note_terms live.tree) slot)
+      by Anywhere (Some live) is = rw is (totals-fit [] row.class (note_terms live.tree) slot)
+      by Whole (Some live) is = rw is (one (same_slot slot (slot_of live.manifest [] row.class)) (parts_at (parts live.manifest row.class (empty_term ∷ [])) slot) (sum_by-cons (part_at slot) (slot_of live.manifest [] row.class, 0) []))

@@ -1,17 +1,19 @@
 -- Memory for rows, one after the other.
-use Rattle.std.proofs.Common.{◌≡◌, ℕ, zero, suc, ◌+◌, ◌<◌, ◌≤◌, Bool, true, false, not, ◌||◌, List, [], ◌∷◌, ◌++◌, ◌⊎◌, inl, inr, length, get_or, drop, sym, ap, ◌∙◌, refl, arith}
+use Rattle.std.proofs.Common.{◌≡◌, ℕ, zero, suc, ◌+◌, ◌<◌, ◌≤◌, Bool, true, false, not, ◌||◌, List, [], ◌∷◌, ◌++◌, ◌⊎◌, inl, inr, length, get_or, drop, sym, ap, ◌∙◌, subst, refl, arith}
 use Rattle.std.specs.List.{flat_map}
 use Rattle.std.proofs.lemmas.List.{drop_more}
 use Rattle.std.proofs.lemmas.List.Concat.{flat_map-cons}
 use Rattle.an_postings.specs.Postings.{Lists, room_in}
 use Rattle.an_slots.specs.Rows.{is_posted}
 use Rattle.an_slots.specs.Slot.{Slot}
-use Rattle.an_listed.specs.Filed.{whole_parts, word_parts}
-use Rattle.an_listed.specs.Room.{HasRoom, HasSpace, IsEnough, IsKept, IsKeptBut, IsSame, times}
+use Rattle.an_listed.specs.Keys.{parts_by}
+use Rattle.an_listed.specs.Room.{AreSame, HasRoom, HasRowSpace, HasSpace, IsEnough, IsKept, IsKeptBut, IsSame, times}
 use Rattle.an_listed.specs.Stands.{Listings}
 use Rattle.an_listed.specs.declared.filed.Filed.{Filed}
+use Rattle.an_listed.specs.declared.kind.Kind.{Kind}
+use Rattle.an_listed.specs.declared.kind.Kind.TheVariants.{Words, Anywhere, Whole}
 use Rattle.an_listed.specs.declared.register.Register.{Register}
-use Rattle.an_listed.proofs.RoomLemmas.{enough-more, is_posted-append, times-append, times-none}
+use Rattle.an_listed.proofs.RoomLemmas.{enough-front, enough-more, is_posted-append, times-append, times-none}
 
 -- ---- the parts of rows, row by row
 
@@ -38,82 +40,67 @@ module _ (p : Filed → List (Slot × ℕ)) (rows : List Filed) where
   rows-end i h P s (inl done) = done
   rows-end i h P s (inr left) = let e : false ≡ true = ap (λ (rs : List Filed). is_posted s (flat_map p rs)) (sym (drop-past rows i h)) ∙ left in cc
 
-pub same-trans : (a b d : Register) → IsSame a b → IsSame b d → IsSame a d
+pub same-trans : (a b d : Lists) → IsSame a b → IsSame b d → IsSame a d
 same-trans a b d f s = record {
-  words = s.words ∙ f.words;
-  whole = s.whole ∙ f.whole;
+  places = s.places ∙ f.places;
   counts = s.counts ∙ f.counts;
-  word_room = λ slot. let x = f.word_room slot in let y = s.word_room slot in omega (arith, x, y);
-  whole_room = λ slot. let x = f.whole_room slot in let y = s.whole_room slot in omega (arith, x, y);
+  room = λ slot. let x = f.room slot in let y = s.room slot in omega (arith, x, y);
 }
+
+pub same-itself : (a : Lists) → IsSame a a
+same-itself a = record { places = refl; counts = refl; room = λ slot. omega arith }
 
 -- ---- space that is kept
 
-pub space-same : (coming : List Filed) (old new : Register) → IsSame old new → HasSpace coming old → HasSpace coming new
+pub space-same : (coming : List Filed) (old new : Register) → AreSame old new → HasSpace coming old → HasSpace coming new
 space-same coming old new same space = record {
-  words = enough-more (flat_map word_parts coming) old.words new.words same.word_room space.words;
-  whole = enough-more (flat_map whole_parts coming) old.whole new.whole same.whole_room space.whole;
-}
-
-pub space-kept : (coming : List Filed) (old new : Register) → IsKept old.words new.words → IsKept old.whole new.whole → HasSpace coming old → HasSpace coming new
-space-kept coming old new words whole space = record {
-  words = enough-more (flat_map word_parts coming) old.words new.words words space.words;
-  whole = enough-more (flat_map whole_parts coming) old.whole new.whole whole space.whole;
-}
-
--- ---- space that is kept but where a row was taken out
-
-or_not : (a b : Bool) → b ≡ false → (a || not b) ≡ true
-or_not true b h = refl
-or_not false true h = cc
-or_not false false h = refl
-
-or_false : (b : Bool) → (b || false) ≡ b
-or_false true = refl
-or_false false = refl
-
-module _ (p : Filed → List (Slot × ℕ)) (row : Filed) (left : List (Slot × ℕ)) (old new : Lists) (stays : Bool) where
-  one-posted : (slot : Slot) → is_posted slot (flat_map p (row ∷ [])) ≡ is_posted slot (p row)
-  one-posted slot = ap (is_posted slot) (flat_map-cons p row []) ∙ is_posted-append slot (p row) [] ∙ or_false (is_posted slot (p row))
-
-  enough-but : IsKeptBut stays left old new → ((slot : Slot) → is_posted slot (p row) ≡ true → is_posted slot left ≡ false)
-      → IsEnough (flat_map p (row ∷ [])) old → IsEnough (flat_map p (row ∷ [])) new
-  enough-but kept apart enough slot = by (is_posted slot (p row)) refl
-    where
-      by : (b : Bool) → is_posted slot (p row) ≡ b → times slot (flat_map p (row ∷ [])) ≤ room_in new slot
-      by false none = let n = times-none slot (flat_map p (row ∷ [])) (one-posted slot ∙ none) in omega (arith, n)
-      by true there = let e = enough slot in let k = kept slot (or_not stays (is_posted slot left) (apart slot there)) in omega (arith, e, k)
-
-pub space-but : (row : Filed) (words whole : List (Slot × ℕ)) (old new : Register) (stays : Bool) → IsKeptBut stays words old.words new.words → IsKeptBut stays whole old.whole new.whole
-    → ((slot : Slot) → is_posted slot (word_parts row) ≡ true → is_posted slot words ≡ false)
-    → ((slot : Slot) → is_posted slot (whole_parts row) ≡ true → is_posted slot whole ≡ false)
-    → HasSpace (row ∷ []) old → HasSpace (row ∷ []) new
-space-but row words whole old new stays words_kept whole_kept words_apart whole_apart space = record {
-  words = enough-but word_parts row words old.words new.words stays words_kept words_apart space.words;
-  whole = enough-but whole_parts row whole old.whole new.whole stays whole_kept whole_apart space.whole;
+  words = enough-more (flat_map (parts_by Words) coming) old.words new.words same.words.room space.words;
+  anywhere = enough-more (flat_map (parts_by Anywhere) coming) old.anywhere new.anywhere same.anywhere.room space.anywhere;
+  whole = enough-more (flat_map (parts_by Whole) coming) old.whole new.whole same.whole.room space.whole;
 }
 
 -- where rows are to come, all is kept
 pub kept-all : (left : List (Slot × ℕ)) (old new : Lists) (stays : Bool) → stays ≡ true → IsKeptBut stays left old new → IsKept old new
 kept-all left old new stays is kept slot = kept slot (ap (λ (b : Bool). b || not (is_posted slot left)) is)
 
+-- what is kept but where a row was taken out is enough for parts elsewhere
+module _ (ps left : List (Slot × ℕ)) (old new : Lists) (stays : Bool) where
+  or_not : (a b : Bool) → b ≡ false → (a || not b) ≡ true
+  or_not true b h = refl
+  or_not false true h = cc
+  or_not false false h = refl
+
+  pub enough-but : IsKeptBut stays left old new → ((slot : Slot) → is_posted slot ps ≡ true → is_posted slot left ≡ false) → IsEnough ps old → IsEnough ps new
+  enough-but kept apart enough slot = by (is_posted slot ps) refl
+    where
+      by : (b : Bool) → is_posted slot ps ≡ b → times slot ps ≤ room_in new slot
+      by false none = let n = times-none slot ps none in omega (arith, n)
+      by true there = let e = enough slot in let k = kept slot (or_not stays (is_posted slot left) (apart slot there)) in omega (arith, e, k)
+
 pub space-none : (r : Register) → HasSpace [] r
-space-none r = record { words = λ slot. omega arith; whole = λ slot. omega arith }
+space-none r = record { words = λ slot. omega arith; anywhere = λ slot. omega arith; whole = λ slot. omega arith }
 
 -- ---- the space of the first row
 
-module _ (p : Filed → List (Slot × ℕ)) (row : Filed) (rest : List Filed) where
-  first-enough : (lists : Lists) → IsEnough (flat_map p (row ∷ rest)) lists → IsEnough (flat_map p (row ∷ [])) lists
-  first-enough lists enough slot =
-      let all = ap (times slot) (flat_map-cons p row rest) ∙ times-append slot (p row) (flat_map p rest) in
-      let one = ap (times slot) (flat_map-cons p row []) ∙ times-append slot (p row) [] in
-      let h = enough slot in
-      omega (arith, all, one, h)
+module _ (kind : Kind) (row : Filed) (rest : List Filed) (lists : Lists) where
+  -- it is that of its parts, before that of the others
+  pub row-parts : HasRowSpace kind (row ∷ rest) lists → IsEnough (parts_by kind row ++ flat_map (parts_by kind) rest) lists
+  row-parts space = subst (λ (ps : List (Slot × ℕ)). IsEnough ps lists) (flat_map-cons (parts_by kind) row rest) space
+
+  pub own-parts : HasRowSpace kind (row ∷ rest) lists → IsEnough (parts_by kind row) lists
+  own-parts space = enough-front (parts_by kind row) (flat_map (parts_by kind) rest) lists (row-parts space)
+
+  first-enough : HasRowSpace kind (row ∷ rest) lists → HasRowSpace kind (row ∷ []) lists
+  first-enough space slot =
+      let one = ap (times slot) (flat_map-cons (parts_by kind) row []) ∙ times-append slot (parts_by kind row) [] in
+      let h = own-parts space slot in
+      omega (arith, one, h)
 
 pub first-space : (row : Filed) (rest : List Filed) (r : Register) → HasSpace (row ∷ rest) r → HasSpace (row ∷ []) r
 first-space row rest r space = record {
-  words = first-enough word_parts row rest r.words space.words;
-  whole = first-enough whole_parts row rest r.whole space.whole;
+  words = first-enough Words row rest r.words space.words;
+  anywhere = first-enough Anywhere row rest r.anywhere space.anywhere;
+  whole = first-enough Whole row rest r.whole space.whole;
 }
 
 -- what is enough for a row and others is enough for the row

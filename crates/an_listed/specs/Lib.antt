@@ -1,5 +1,6 @@
 pub mod Filed
+pub mod Keys
 pub mod Stands
 pub mod Room
-pub mod Staying
+pub mod Left
 pub mod Leaner

@@ -6,9 +6,11 @@ use Rattle.an_base.specs.Totals.{capped}
 use Rattle.an_postings.specs.Postings.{Lists, count_in, places_in, room_in}
 use Rattle.an_slots.specs.Rows.{is_posted}
 use Rattle.an_slots.specs.Slot.{Slot, same_slot}
-use Rattle.an_listed.specs.Filed.{whole_parts, word_parts}
+use Rattle.an_listed.specs.Keys.{parts_by}
 use Rattle.an_listed.specs.Stands.{Listings}
 use Rattle.an_listed.specs.declared.filed.Filed.{Filed}
+use Rattle.an_listed.specs.declared.kind.Kind.{Kind}
+use Rattle.an_listed.specs.declared.kind.Kind.TheVariants.{Words, Anywhere, Whole}
 use Rattle.an_listed.specs.declared.register.Register.{Register}
 
 -- how many of the parts are at the slot
@@ -19,10 +21,15 @@ times slot ps = count_by (λ part. same_slot slot part.0) ps
 abbrev pub IsEnough : List (Slot × ℕ) → Lists → Type 0
 IsEnough ps lists = (slot : Slot) → times slot ps ≤ room_in lists slot
 
+-- the lists of this kind have memory for these rows
+abbrev pub HasRowSpace : Kind → List Filed → Lists → Type 0
+HasRowSpace kind coming lists = IsEnough (flat_map (parts_by kind) coming) lists
+
 -- the register has memory for these rows
 pub record HasSpace (coming : List Filed) (r : Register) : Type 0 where
-  pub words : IsEnough (flat_map word_parts coming) r.words
-  pub whole : IsEnough (flat_map whole_parts coming) r.whole
+  pub words : HasRowSpace Words coming r.words
+  pub anywhere : HasRowSpace Anywhere coming r.anywhere
+  pub whole : HasRowSpace Whole coming r.whole
 
 -- There is memory for these rows, in whatever order and at whatever places they are put.
 pub record HasRoom (coming : List Filed) (l : Listings) : Type 0 where
@@ -53,9 +60,13 @@ IsKeptBut stays ps old new =
     → room_in old slot ≤ room_in new slot
 
 -- The places and the counts are as they were, and no room is lost.
-pub record IsSame (old new : Register) : Type 0 where
-  pub words : places_in new.words ≡ places_in old.words
-  pub whole : places_in new.whole ≡ places_in old.whole
-  pub counts : count_in new.words ≡ count_in old.words
-  pub word_room : IsKept old.words new.words
-  pub whole_room : IsKept old.whole new.whole
+pub record IsSame (old new : Lists) : Type 0 where
+  pub places : places_in new ≡ places_in old
+  pub counts : count_in new ≡ count_in old
+  pub room : IsKept old new
+
+-- the same of each of the lists
+pub record AreSame (old new : Register) : Type 0 where
+  pub words : IsSame old.words new.words
+  pub anywhere : IsSame old.anywhere new.anywhere
+  pub whole : IsSame old.whole new.whole

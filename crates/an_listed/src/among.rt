@@ -1,13 +1,14 @@
 ghost use Rattle.std.specs.Prelude.{◌≡◌, ◌&&◌, IfOk, filter, slice_get};
+ghost use Rattle.std.specs.Option.{option_copied};
 ghost use Rattle.an_base.specs.Outcome.{passes};
 ghost use Rattle.an_policy.specs.Audience.{identity};
 ghost use Rattle.an_postings.specs.Lists.{IsOrdered, places_at};
 ghost use Rattle.an_slots.specs.Places.{Rises, has, places_from};
 ghost use Rattle.an_state.specs.Terms.{has_term};
-ghost use Rattle.an_listed.specs.Filed.{reads, reads_on};
+ghost use Rattle.an_listed.specs.Filed.{reads, reads_within};
 ghost use Rattle.an_listed.specs.Stands.{Stands};
 
-use crate::asks::classes_read;
+use crate::asks::{classes_read, text_within};
 use crate::filed::Filed;
 use crate::register::Register;
 use an_base::Name;
@@ -20,37 +21,40 @@ use std::alloc::{AllocError, Global};
 const WALKED: usize = 16;
 
 impl Register {
-    /// How many places all lists of a term on a manifest have together.
-    pub(crate) fn term_weight(&self, manifest: &Name, term: &str) -> usize {
-        length_of(self.words.lists_of(manifest, term))
+    /// How many places all lists of a term have together, on a manifest, or where none is named on
+    /// all.
+    pub(crate) fn term_weight(&self, manifest: Option<&Name>, term: &str) -> usize {
+        let lists = self.lists_within(manifest);
+        length_of(lists.lists_of(text_within(manifest), term))
     }
 
-    /// Those of the places, which ascend, whose rows are on the manifest and have the term, and
-    /// which the caller may read. Either is done that costs less.
+    /// Those of the places, which ascend, whose rows are on the manifest, where one is named, and
+    /// have the term, and which the caller may read. Either is done that costs less.
     pub(crate) fn among_with_term(
         &self,
         alloc: Global,
         rows: &[Filed],
         classes: &Classes,
         who: &Who<'_>,
-        manifest: &Name,
+        manifest: Option<&Name>,
         term: &str,
         places: &[usize],
     ) -> Result<Vec<usize>, AllocError>
         requires stands { Stands self.now rows.now }
         requires rise { Rises 0 places.now }
         ensures having { IfOk result (λ having. having.items ≡ filter (λ place. has place
-            (places_from (λ row. reads_on (identity who.now) classes.now manifest.now row
-            && has_term term.now row.note) 0 rows.now)) places.now) }
+            (places_from (λ row. reads_within (identity who.now) classes.now
+            (option_copied manifest.entry) row && has_term term.now row.note) 0 rows.now))
+            places.now) }
     {
-        let lists = self.words.lists_of(manifest, term);
-        if length_of(lists) / WALKED > places.len() {
-            return looked_up(alloc, lists, rows, classes, who, places);
+        let lists = self.lists_within(manifest);
+        let text = text_within(manifest);
+        let own = lists.lists_of(text, term);
+        if length_of(own) / WALKED > places.len() {
+            return looked_up(alloc, own, rows, classes, who, places);
         }
-        let own = self.words.classes(alloc, manifest, term)?;
-        let read = classes_read(alloc, classes, who, own.as_slice())?;
-        self.words
-            .common(alloc, manifest, term, read.as_slice(), places)
+        let read = classes_read(alloc, lists, text, term, classes, who)?;
+        lists.common(alloc, text, term, read.as_slice(), places)
     }
 }
 

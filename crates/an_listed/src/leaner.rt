@@ -1,10 +1,10 @@
 ghost use Rattle.std.specs.Prelude.{◌≡◌, ◌+◌, ◌<◌, ◌≤◌, slice_set, vec_capacity, vec_len};
-ghost use Rattle.an_postings.specs.Postings.{count_in, places_in};
-ghost use Rattle.an_listed.specs.Leaner.{IsLeaner};
+ghost use Rattle.an_listed.specs.Leaner.{AreLeaner, IsLeaner};
 
 use crate::filed::Filed;
+use crate::keys::{Keys, keys_by};
+use crate::kind::Kind;
 use crate::register::Register;
-use an_base::{Name, TermList};
 use an_postings::Postings;
 use std::mem::replace;
 
@@ -34,9 +34,9 @@ pub(crate) fn put_over(
 /// Drops the lists of these rows that have no place any more. It takes no memory. Rows are put in
 /// the order of their places, and later ones mostly have later classes: so the last goes first, and
 /// a list is mostly taken out of the end.
-#[tactic(auto, using(crate::proofs::LeanerLemmas::itself, crate::proofs::LeanerLemmas::after))]
+#[tactic(auto, using(crate::proofs::LeanerLemmas::alike, crate::proofs::LeanerLemmas::after_all))]
 pub(crate) fn let_go_all(register: &mut Register, rows: &[Filed])
-    ensures leaner { IsLeaner register.old register.new }
+    ensures leaner { AreLeaner register.old register.new }
 {
     for row in rows.iter().rev() {
         register.let_go(row);
@@ -46,27 +46,30 @@ pub(crate) fn let_go_all(register: &mut Register, rows: &[Filed])
 impl Register {
     /// Drops the lists of a row that have no place any more. It takes no memory.
     fn let_go(&mut self, row: &Filed)
-        ensures leaner { IsLeaner self.old self.new }
+        ensures leaner { AreLeaner self.old self.new }
     {
-        match row.note.get().live() {
-            Some(live) => self.let_go_under(live.manifest, row.class, live.tree.terms()),
-            None => {}
-        }
-    }
-
-    fn let_go_under(&mut self, manifest: &Name, class: usize, terms: &TermList)
-        ensures leaner { IsLeaner self.old self.new }
-    {
-        let_go_words(&mut self.words, manifest, class, terms);
-        self.whole.let_go(manifest, "", class);
+        let_go_in(&mut self.words, Kind::Words, row);
+        let_go_in(&mut self.anywhere, Kind::Anywhere, row);
+        let_go_in(&mut self.whole, Kind::Whole, row);
     }
 }
 
-fn let_go_words(words: &mut Postings, manifest: &Name, class: usize, terms: &TermList)
-    ensures places { places_in words.new ≡ places_in words.old }
-    ensures count { count_in words.new ≡ count_in words.old }
+/// The same in the lists of a kind.
+#[tactic(auto, using(crate::proofs::LeanerLemmas::itself))]
+fn let_go_in(lists: &mut Postings, kind: Kind, row: &Filed)
+    ensures leaner { IsLeaner lists.old lists.new }
 {
-    for at in 0..terms.len() {
-        words.let_go(manifest, terms.term(at), class);
+    match keys_by(kind, row) {
+        Some(keys) => let_go_keys(lists, &keys),
+        None => {}
+    }
+}
+
+#[tactic(auto, using(crate::proofs::LeanerLemmas::itself, crate::proofs::LeanerLemmas::after))]
+fn let_go_keys(lists: &mut Postings, keys: &Keys<'_>)
+    ensures leaner { IsLeaner lists.old lists.new }
+{
+    for at in 0..keys.len() {
+        lists.let_go(keys.manifest(), keys.term(at), keys.class());
     }
 }

@@ -1,11 +1,13 @@
 ghost use Rattle.std.specs.Prelude.{◌≡◌, ◌∷◌, ◌&&◌, ◌≤◌, [], IfOk, List, OnOk, filter, length, map};
+ghost use Rattle.std.specs.Option.{option_copied};
 ghost use Rattle.an_policy.specs.Audience.{identity};
 ghost use Rattle.an_state.specs.Terms.{has_term, totals_in};
 ghost use Rattle.an_slots.specs.Places.{Rises, has, places_from};
 ghost use Rattle.an_state.specs.View.{is_on};
-ghost use Rattle.an_listed.specs.Filed.{put_at, reads_on};
+ghost use Rattle.an_listed.specs.Filed.{put_at, reads_within};
 ghost use Rattle.an_listed.specs.Room.{HasRoom};
 
+use crate::asks::readable_anywhere;
 use crate::filed::Filed;
 use crate::leaner::{let_go_all, put_over};
 use crate::register::Register;
@@ -19,8 +21,9 @@ use std::mem::replace;
 const MOST_ROWS: usize = 4_294_967_296;
 
 /// Rows beside the lists by which they are found: for each manifest, term and class of audience the
-/// places of the live annotations, the same under no term, and how often each term occurs there.
-/// Contracts see the rows, the lists, and for how many rows more there is memory.
+/// places of the live annotations, and how often the term occurs there; the same for each term and
+/// class, whatever the manifest; and for each manifest and class, whatever the terms. Contracts see
+/// the rows, the lists, and for how many rows more there is memory.
 #[derive(Drop)]
 pub struct Listed {
     rows: Vec<Filed>,
@@ -144,19 +147,23 @@ impl Listed {
         self.register.on_manifest(alloc, manifest)
     }
 
-    /// The places of the annotations on a manifest that the caller may read, ascending.
+    /// The places of the live annotations that the caller may read, ascending: on a manifest, or
+    /// where none is named on any. In this case all rows are looked at.
     pub fn readable(
         &self,
         alloc: Global,
         classes: &Classes,
         who: &Who<'_>,
-        manifest: &Name,
+        manifest: Option<&Name>,
     ) -> Result<Vec<usize>, AllocError>
-        ensures places { IfOk result (λ places. places.items
-            ≡ places_from (reads_on (identity who.now) classes.now manifest.now) 0
+        ensures places { IfOk result (λ places. places.items ≡ places_from
+            (reads_within (identity who.now) classes.now (option_copied manifest.entry)) 0
             self.now.rows) }
     {
-        self.register.readable(alloc, classes, who, manifest)
+        match manifest {
+            Some(name) => self.register.readable_on(alloc, classes, who, name),
+            None => readable_anywhere(alloc, self.rows.as_slice(), classes, who),
+        }
     }
 
     /// The places of those that have a term, ascending.
@@ -165,38 +172,40 @@ impl Listed {
         alloc: Global,
         classes: &Classes,
         who: &Who<'_>,
-        manifest: &Name,
+        manifest: Option<&Name>,
         term: &str,
     ) -> Result<Vec<usize>, AllocError>
         ensures places { IfOk result (λ places. places.items
-            ≡ places_from (λ row. reads_on (identity who.now) classes.now manifest.now row
-            && has_term term.now row.note) 0 self.now.rows) }
+            ≡ places_from (λ row. reads_within (identity who.now) classes.now
+            (option_copied manifest.entry) row && has_term term.now row.note) 0 self.now.rows) }
     {
         self.register.with_term(alloc, classes, who, manifest, term)
     }
 
-    /// How many places the lists of a term on a manifest have together, whoever may read them.
-    /// Nothing is promised of it: it is for choosing which list is walked first.
-    pub fn term_weight(&self, manifest: &Name, term: &str) -> usize {
+    /// How many places the lists of a term have together, on a manifest, or where none is named on
+    /// all, whoever may read them. Nothing is promised of it: it is for choosing which list is
+    /// walked first.
+    pub fn term_weight(&self, manifest: Option<&Name>, term: &str) -> usize {
         self.register.term_weight(manifest, term)
     }
 
-    /// Those of the places, which ascend, at which an annotation on a manifest has a term and the
-    /// caller may read it. Where the lists of the term are much longer than the places, each place
-    /// is looked up in the list of its class; else the lists are walked along once.
+    /// Those of the places, which ascend, at which there is an annotation that `with_term` finds.
+    /// Where the lists of the term are much longer than the places, each place is looked up in the
+    /// list of its class; else the lists are walked along once.
     pub fn among_with_term(
         &self,
         alloc: Global,
         classes: &Classes,
         who: &Who<'_>,
-        manifest: &Name,
+        manifest: Option<&Name>,
         term: &str,
         places: &[usize],
     ) -> Result<Vec<usize>, AllocError>
         requires rise { Rises 0 places.now }
         ensures having { IfOk result (λ having. having.items ≡ filter (λ place. has place
-            (places_from (λ row. reads_on (identity who.now) classes.now manifest.now row
-            && has_term term.now row.note) 0 self.now.rows)) places.now) }
+            (places_from (λ row. reads_within (identity who.now) classes.now
+            (option_copied manifest.entry) row && has_term term.now row.note) 0
+            self.now.rows)) places.now) }
     {
         let rows = self.rows.as_slice();
         self.register
@@ -204,18 +213,18 @@ impl Listed {
     }
 
     /// The terms that begin with a prefix, ascending by their bytes, and how often each occurs in
-    /// the annotations on a manifest that the caller may read.
+    /// the annotations that `readable` finds.
     pub fn terms_from(
         &self,
         alloc: Global,
         classes: &Classes,
         who: &Who<'_>,
-        manifest: &Name,
+        manifest: Option<&Name>,
         prefix: &str,
     ) -> Result<Vec<TermTotal>, AllocError>
         ensures terms { IfOk result (λ terms. terms.items
             ≡ totals_in prefix.now (map (λ row. row.note)
-            (filter (reads_on (identity who.now) classes.now manifest.now)
+            (filter (reads_within (identity who.now) classes.now (option_copied manifest.entry))
             self.now.rows))) }
     {
         self.register

@@ -1,18 +1,19 @@
 ghost use Rattle.std.specs.Prelude.{◌≡◌, ◌+◌, ◌<◌, ◌^◌, IfOk, OnOk, flat_map};
 ghost use Rattle.std.specs.Option.{option_copied};
 ghost use Rattle.an_postings.specs.Postings.{count_in};
-ghost use Rattle.an_slots.specs.Rows.{parts};
+ghost use Rattle.an_slots.specs.Rows.{parts_of};
 ghost use Rattle.an_slots.specs.Slot.{Slot, at, slot_of};
-ghost use Rattle.an_listed.specs.Filed.{whole_parts, word_parts};
+ghost use Rattle.an_listed.specs.Keys.{parts_by};
 ghost use Rattle.an_listed.specs.Room.{times, wanted_at};
 
 use crate::filed::Filed;
-use an_base::{Name, TermList};
+use crate::keys::{Keys, keys_by};
+use crate::kind::Kind;
 use an_postings::Postings;
 use std::alloc::{AllocError, Global};
 
 /// For how many places the list of a slot is to have room: as many as were counted there, or one.
-pub(crate) fn wanted(needed: Option<&Postings>, manifest: &Name, term: &str, class: usize) -> usize
+pub(crate) fn wanted(needed: Option<&Postings>, manifest: &str, term: &str, class: usize) -> usize
     ensures { result
         ≡ wanted_at (option_copied needed.entry) (slot_of manifest.now term.now class) }
 {
@@ -22,77 +23,49 @@ pub(crate) fn wanted(needed: Option<&Postings>, manifest: &Name, term: &str, cla
     }
 }
 
-/// In how many of the rows each term stands.
-pub(crate) fn needed_words(alloc: Global, rows: &[Filed]) -> Result<Postings, AllocError>
+/// How many of the rows each list of a kind is to have.
+pub(crate) fn needed(alloc: Global, kind: Kind, rows: &[Filed]) -> Result<Postings, AllocError>
     ensures needed { IfOk result (λ needed. (slot : Slot)
-        → count_in needed slot ≡ times slot (flat_map word_parts rows.now)) }
+        → count_in needed slot ≡ times slot (flat_map (parts_by kind) rows.now)) }
     ensures small { IfOk result (λ needed. (slot : Slot) → count_in needed slot < 2 ^ 64) }
 {
     let mut needed = Postings::new(alloc);
     for row in rows {
-        count_words(&mut needed, row)?;
+        count_row(&mut needed, kind, row)?;
     }
     Ok(needed)
 }
 
-fn count_words(needed: &mut Postings, row: &Filed) -> Result<(), AllocError>
+fn count_row(needed: &mut Postings, kind: Kind, row: &Filed) -> Result<(), AllocError>
     requires small { (slot : Slot)
-        → count_in needed.old slot + times slot (word_parts row.now) < 2 ^ 128 }
+        → count_in needed.old slot + times slot (parts_by kind row.now) < 2 ^ 128 }
     ensures count { OnOk result ((slot : Slot) → count_in needed.new slot
-        ≡ count_in needed.old slot + times slot (word_parts row.now)) }
+        ≡ count_in needed.old slot + times slot (parts_by kind row.now)) }
 {
-    match row.note.get().live() {
-        Some(live) => count_terms(needed, live.manifest, row.class, live.tree.terms()),
+    match keys_by(kind, row) {
+        Some(keys) => count_keys(needed, &keys),
         None => Ok(()),
     }
 }
 
-fn count_terms(
-    needed: &mut Postings,
-    manifest: &Name,
-    class: usize,
-    terms: &TermList,
-) -> Result<(), AllocError>
-    requires small { (slot : Slot) → count_in needed.old slot
-        + times slot (parts manifest.now class terms.now) < 2 ^ 128 }
+fn count_keys(needed: &mut Postings, keys: &Keys<'_>) -> Result<(), AllocError>
+    requires small { (slot : Slot)
+        → count_in needed.old slot + times slot (parts_of keys.now) < 2 ^ 128 }
     ensures count { OnOk result ((slot : Slot) → count_in needed.new slot
-        ≡ count_in needed.old slot + times slot (parts manifest.now class terms.now)) }
+        ≡ count_in needed.old slot + times slot (parts_of keys.now)) }
 {
-    for at in 0..terms.len() {
-        count_one(needed, manifest, terms.term(at), class)?;
+    let manifest = keys.manifest();
+    let class = keys.class();
+    for at in 0..keys.len() {
+        count_one(needed, manifest, keys.term(at), class)?;
     }
     Ok(())
-}
-
-/// How many of the rows stand under each manifest and class.
-pub(crate) fn needed_whole(alloc: Global, rows: &[Filed]) -> Result<Postings, AllocError>
-    ensures needed { IfOk result (λ needed. (slot : Slot)
-        → count_in needed slot ≡ times slot (flat_map whole_parts rows.now)) }
-    ensures small { IfOk result (λ needed. (slot : Slot) → count_in needed slot < 2 ^ 64) }
-{
-    let mut needed = Postings::new(alloc);
-    for row in rows {
-        count_whole(&mut needed, row)?;
-    }
-    Ok(needed)
-}
-
-fn count_whole(needed: &mut Postings, row: &Filed) -> Result<(), AllocError>
-    requires small { (slot : Slot)
-        → count_in needed.old slot + times slot (whole_parts row.now) < 2 ^ 128 }
-    ensures count { OnOk result ((slot : Slot) → count_in needed.new slot
-        ≡ count_in needed.old slot + times slot (whole_parts row.now)) }
-{
-    match row.note.get().live() {
-        Some(live) => count_one(needed, live.manifest, "", row.class),
-        None => Ok(()),
-    }
 }
 
 /// Counts one row more, at the place 0, which nobody asks for.
 fn count_one(
     needed: &mut Postings,
-    manifest: &Name,
+    manifest: &str,
     term: &str,
     class: usize,
 ) -> Result<(), AllocError>

@@ -1,27 +1,30 @@
 ghost use Rattle.std.specs.Prelude.{◌≡◌, []};
-ghost use Rattle.an_postings.specs.Postings.{count_in, places_in};
+ghost use Rattle.an_listed.specs.Stands.{Stands};
 
 use an_postings::Postings;
 use std::alloc::Global;
 
-/// What stands beside rows, by manifest, term and class.
+/// What stands beside rows.
 #[derive(Drop)]
 pub struct Register {
-    /// The places of the rows that have the term, and how often it occurs in them.
+    /// By manifest, term and class the places of the rows that have the term, and how often it
+    /// occurs in them.
     pub words: Postings,
-    /// The places of all rows, under the empty term.
+    /// The same by term and class, whatever manifest the rows are on: under the empty text, which
+    /// is no manifest's name.
+    pub anywhere: Postings,
+    /// By manifest and class the places of all rows, under the empty term.
     pub whole: Postings,
 }
 
 impl Register {
     /// Of no rows. It takes no memory.
     pub(crate) fn new(alloc: Global) -> Register
-        ensures words { places_in result.words ≡ λ slot. [] }
-        ensures whole { places_in result.whole ≡ λ slot. [] }
-        ensures counts { count_in result.words ≡ λ slot. 0 }
+        ensures stands { Stands result [] }
     {
         Register {
             words: Postings::new(alloc),
+            anywhere: Postings::new(alloc),
             whole: Postings::new(alloc),
         }
     }

@@ -1,14 +1,14 @@
-ghost use Rattle.std.specs.Prelude.{◌≡◌, ◌∷◌, [], OnOk, flat_map};
+ghost use Rattle.std.specs.Prelude.{◌≡◌, OnOk, flat_map};
 ghost use Rattle.std.specs.Option.{option_copied};
-ghost use Rattle.an_slots.specs.Rows.{parts};
-ghost use Rattle.an_listed.specs.Filed.{empty_term, whole_parts, word_parts};
-ghost use Rattle.an_listed.specs.Room.{HasSpace, HasWanted, IsSame};
+ghost use Rattle.an_slots.specs.Rows.{parts_of};
+ghost use Rattle.an_listed.specs.Keys.{parts_by};
+ghost use Rattle.an_listed.specs.Room.{AreSame, HasRowSpace, HasSpace, HasWanted, IsSame};
 
 use crate::filed::Filed;
-use crate::needs::{needed_whole, needed_words, wanted};
+use crate::keys::{Keys, keys_by};
+use crate::kind::Kind;
+use crate::needs::{needed, wanted};
 use crate::register::Register;
-use crate::words::room_for_words;
-use an_base::{Name, TermList};
 use an_postings::Postings;
 use std::alloc::{AllocError, Global};
 
@@ -17,71 +17,78 @@ impl Register {
     /// rows in it.
     pub(crate) fn room(&mut self, alloc: Global, rows: &[Filed]) -> Result<(), AllocError>
         ensures ok { OnOk result (HasSpace rows.now self.new) }
-        ensures same { IsSame self.old self.new }
+        ensures same { AreSame self.old self.new }
     {
-        if rows.len() < 2 {
-            return self.room_for_all(rows, None, None);
-        }
-        let words = needed_words(alloc, rows)?;
-        let whole = needed_whole(alloc, rows)?;
-        self.room_for_all(rows, Some(&words), Some(&whole))
+        room_in(alloc, &mut self.words, Kind::Words, rows)?;
+        room_in(alloc, &mut self.anywhere, Kind::Anywhere, rows)?;
+        room_in(alloc, &mut self.whole, Kind::Whole, rows)
     }
+}
 
-    fn room_for_all(
-        &mut self,
-        rows: &[Filed],
-        words: Option<&Postings>,
-        whole: Option<&Postings>,
-    ) -> Result<(), AllocError>
-        ensures words { OnOk result (HasWanted (option_copied words.entry)
-            (flat_map word_parts rows.now) self.new.words) }
-        ensures whole { OnOk result (HasWanted (option_copied whole.entry)
-            (flat_map whole_parts rows.now) self.new.whole) }
-        ensures same { IsSame self.old self.new }
-    {
-        for row in rows {
-            self.room_for(row, words, whole)?;
-        }
-        Ok(())
+/// The same in the lists of a kind.
+fn room_in(
+    alloc: Global,
+    lists: &mut Postings,
+    kind: Kind,
+    rows: &[Filed],
+) -> Result<(), AllocError>
+    ensures ok { OnOk result (HasRowSpace kind rows.now lists.new) }
+    ensures same { IsSame lists.old lists.new }
+{
+    if rows.len() < 2 {
+        return room_for_all(lists, kind, rows, None);
     }
+    let needed = needed(alloc, kind, rows)?;
+    room_for_all(lists, kind, rows, Some(&needed))
+}
 
-    fn room_for(
-        &mut self,
-        row: &Filed,
-        words: Option<&Postings>,
-        whole: Option<&Postings>,
-    ) -> Result<(), AllocError>
-        ensures words { OnOk result (HasWanted (option_copied words.entry)
-            (word_parts row.now) self.new.words) }
-        ensures whole { OnOk result (HasWanted (option_copied whole.entry)
-            (whole_parts row.now) self.new.whole) }
-        ensures same { IsSame self.old self.new }
-    {
-        match row.note.get().live() {
-            Some(live) => {
-                let terms = live.tree.terms();
-                self.room_under(live.manifest, row.class, terms, words, whole)
-            }
-            None => Ok(()),
-        }
+fn room_for_all(
+    lists: &mut Postings,
+    kind: Kind,
+    rows: &[Filed],
+    needed: Option<&Postings>,
+) -> Result<(), AllocError>
+    ensures ok { OnOk result (HasWanted (option_copied needed.entry)
+        (flat_map (parts_by kind) rows.now) lists.new) }
+    ensures same { IsSame lists.old lists.new }
+{
+    for row in rows {
+        room_for(lists, kind, row, needed)?;
     }
+    Ok(())
+}
 
-    fn room_under(
-        &mut self,
-        manifest: &Name,
-        class: usize,
-        terms: &TermList,
-        words: Option<&Postings>,
-        whole: Option<&Postings>,
-    ) -> Result<(), AllocError>
-        ensures words { OnOk result (HasWanted (option_copied words.entry)
-            (parts manifest.now class terms.now) self.new.words) }
-        ensures whole { OnOk result (HasWanted (option_copied whole.entry)
-            (parts manifest.now class (empty_term ∷ [])) self.new.whole) }
-        ensures same { IsSame self.old self.new }
-    {
-        room_for_words(&mut self.words, manifest, class, terms, words)?;
-        let more = wanted(whole, manifest, "", class);
-        self.whole.room_add(manifest, "", class, more)
+fn room_for(
+    lists: &mut Postings,
+    kind: Kind,
+    row: &Filed,
+    needed: Option<&Postings>,
+) -> Result<(), AllocError>
+    ensures ok { OnOk result (HasWanted (option_copied needed.entry)
+        (parts_by kind row.now) lists.new) }
+    ensures same { IsSame lists.old lists.new }
+{
+    match keys_by(kind, row) {
+        Some(keys) => room_for_keys(lists, &keys, needed),
+        None => Ok(()),
     }
+}
+
+fn room_for_keys(
+    lists: &mut Postings,
+    keys: &Keys<'_>,
+    needed: Option<&Postings>,
+) -> Result<(), AllocError>
+    ensures ok { OnOk result (HasWanted (option_copied needed.entry)
+        (parts_of keys.now) lists.new) }
+    ensures same { IsSame lists.old lists.new }
+{
+    let manifest = keys.manifest();
+    let class = keys.class();
+    for at in 0..keys.len() {
+        let term = keys.term(at);
+        let more = wanted(needed, manifest, term, class);
+        lists.room_add(manifest, term, class, more)?;
+    }
+    Ok(())
 }

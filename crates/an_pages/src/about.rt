@@ -33,7 +33,7 @@ pub(crate) fn places_about<T: Look, L: Ledger>(
         + length (notes_on (view_of (T.state look.now) (identity who.now)) manifest.now) }
     ensures steps_least { steps.old ≤ steps.new }
 {
-    let places = look.readable(alloc, who, manifest)?;
+    let places = look.readable(alloc, who, Some(manifest))?;
     let found = places_among(alloc, look, places.as_slice(), canvas, region, steps)?;
     Ok(found)
 }

@@ -74,7 +74,7 @@ fn container_body<T: Look, L: Ledger>(
     ensures steps_least { steps.old ≤ steps.new }
 {
     let whole = container_whole(alloc, site.base(), name, prefer.iris)?;
-    let places = look.readable(alloc, who, name)?;
+    let places = look.readable(alloc, who, Some(name))?;
     let body = container_at(alloc, look, &whole, prefer, places.as_slice(), site, steps)?;
     Ok(body)
 }
@@ -201,7 +201,7 @@ fn page_shown<T: Look, L: Ledger>(
     ensures steps_least { steps.old ≤ steps.new }
 {
     let whole = container_whole(alloc, site.base(), name, iris)?;
-    let places = look.readable(alloc, who, name)?;
+    let places = look.readable(alloc, who, Some(name))?;
     page_at(
         alloc,
         look,

@@ -26,7 +26,7 @@ all_left least from (place ∷ places) others order rise =
     rw (has-not_below least place others (omega (arith, rise.0)), all_left least (place + 1) places others (omega (arith, rise.0)) rise.1) refl
 
 -- no place is among those that rise from a later one
-none_later : (place from : ℕ) (others : List ℕ) → place < from → Rises from others → has place others ≡ false
+pub none_later : (place from : ℕ) (others : List ℕ) → place < from → Rises from others → has place others ≡ false
 none_later place from [] order rise = refl
 none_later place from (other ∷ others) order rise =
     let apart : (place == other) ≡ false = grind (arith, nat_tests, rise.0) in

@@ -1,3 +1,5 @@
+pub mod Live
+pub mod Kept
 pub mod Lists
 pub mod Postings
 pub mod Change

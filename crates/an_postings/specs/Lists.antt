@@ -1,6 +1,5 @@
 -- The postings of one term, by class.
 use Rattle.std.specs.Prelude.{ℕ, ◌+◌, ◌-◌, ◌^◌, List, [], ◌∷◌, ⊤, min}
-use Rattle.std.specs.VecDeque.{deque_len, deque_capacity}
 use Rattle.an_slots.specs.Classed.{Ascends, told_at}
 use Rattle.an_slots.specs.Places.{Rises}
 use Rattle.an_postings.specs.declared.class_postings.ClassPostings.{ClassPostings}
@@ -13,7 +12,7 @@ places_of p = p.places.items
 
 -- for how many more places there is memory
 abbrev pub room_of : ClassPostings → ℕ
-room_of p = deque_capacity p.places - deque_len p.places
+room_of p = p.places.room
 
 abbrev pub number_of : ClassPostings → ℕ
 number_of p = p.count

@@ -1,9 +1,8 @@
 ghost use Rattle.std.specs.Prelude.{◌≡◌};
-ghost use Rattle.an_slots.specs.Places.{Rises, has};
+ghost use Rattle.an_slots.specs.Places.{has};
 ghost use Rattle.an_postings.specs.Lists.{IsOrdered, places_at};
 
 use crate::class_postings::{ClassPostings, place_of};
-use std::collections::VecDeque;
 
 /// Whether the place is in the list of this class, among the lists of a term. It takes no memory,
 /// and looks at few places of this list, and at no other.
@@ -12,18 +11,9 @@ pub fn is_listed(lists: &[ClassPostings], class: usize, place: usize) -> bool
     ensures listed { result ≡ has place (places_at lists.now class) }
 {
     match place_of(lists, class) {
-        Ok(at) => is_in(&lists[at].places, place),
+        Ok(at) => lists[at].places.has(place),
         Err(_) => false,
     }
-}
-
-fn is_in(places: &VecDeque<u32>, place: usize) -> bool
-    requires rises { Rises 0 places.now.items }
-    ensures { result ≡ has place places.now.items }
-{
-    places
-        .binary_search_by_key(&place, |own| *own as usize)
-        .is_ok()
 }
 
 /// How many places are in these lists together. Nothing is promised of it: it is for choosing

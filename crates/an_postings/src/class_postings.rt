@@ -1,30 +1,26 @@
 ghost use Rattle.std.specs.Prelude.{◌≡◌, ◌+◌, ◌-◌, ◌≤◌, ◌||◌, ℕ, [], false, IfOk, IsTrue};
 ghost use Rattle.std.specs.Prelude.{MatchResult, OnOk, flat_map, nat_lt, true};
 ghost use Rattle.std.specs.List.{sum_by};
-ghost use Rattle.std.specs.VecDeque.{deque_len, deque_capacity};
 ghost use Rattle.an_base.specs.Totals.{capped};
 ghost use Rattle.an_slots.specs.Classed.{IsAt, IsGap};
-ghost use Rattle.an_slots.specs.Places.{Rises, ascending, has, with_place, without_place};
+ghost use Rattle.an_slots.specs.Places.{Rises, ascending, has, with_place};
 ghost use Rattle.an_postings.specs.Change.{IsAdded, IsLeaner, IsOut, IsRemoved, IsRoomier, IsTaken};
 ghost use Rattle.an_postings.specs.Lists.{IsOrdered, class_of, count_at, more_often};
 ghost use Rattle.an_postings.specs.Lists.{places_at, room_at};
 
 use crate::gather::{classes_of, places_in};
+use crate::kept::Places;
 use crate::leaner::{let_go_at, take_out_at};
-use crate::places::{add_to, remove_from};
 use crate::totals::total_in;
 use std::alloc::{AllocError, Global};
-use std::collections::VecDeque;
 use std::marker::Model;
 
-/// The places of one term in the rows of one class, ascending, and how often it occurs there. The
-/// places stand in a deque, where one goes out of either end at the cost of the shorter side: so
-/// the deletion of a whole manifest, whose places go one after the other, is linear.
+/// The places of one term in the rows of one class, ascending, and how often it occurs there.
 #[derive(Drop)]
 pub struct ClassPostings {
     pub class: usize,
-    pub places: VecDeque<u32>,
-    pub count: u128,
+    pub(crate) places: Places,
+    pub(crate) count: u128,
 }
 
 /// The postings of one term, ascending by class. Contracts see their list.
@@ -184,7 +180,7 @@ fn begin_at(
     ensures ok { OnOk result (room ≤ room_at lists.new.items class) }
     ensures roomier { IsRoomier lists.old.items lists.new.items }
 {
-    let mut places = VecDeque::new(*lists.allocator());
+    let mut places = Places::new(*lists.allocator());
     places.reserve(room)?;
     let own = ClassPostings {
         class,
@@ -212,16 +208,14 @@ fn add_in(lists: &mut Vec<ClassPostings>, class: usize, place: u32, times: u64)
 
 fn add_one(own: &mut ClassPostings, place: u32, times: u64)
     requires rises { Rises 0 own.old.places.items }
-    requires room { IsTrue (has place own.old.places.items
-        || nat_lt (deque_len own.old.places) (deque_capacity own.old.places)) }
+    requires room { IsTrue (has place own.old.places.items || nat_lt 0 own.old.places.room) }
     ensures class { own.new.class ≡ own.old.class }
     ensures rises { Rises 0 own.new.places.items }
     ensures places { own.new.places.items ≡ with_place place own.old.places.items }
-    ensures room { deque_capacity own.old.places + deque_len own.new.places
-        ≤ deque_capacity own.new.places + (deque_len own.old.places + 1) }
+    ensures room { own.old.places.room ≤ own.new.places.room + 1 }
     ensures count { own.new.count ≡ more_often times own.old.count }
 {
-    add_to(&mut own.places, place);
+    own.places.add(place);
     own.count = own.count.saturating_add(u128::from(times));
 }
 
@@ -231,7 +225,7 @@ fn remove_in(lists: &mut Vec<ClassPostings>, class: usize, place: u32)
     ensures removed { IsRemoved class place lists.old.items lists.new.items }
 {
     match place_of(lists.as_slice(), class) {
-        Ok(at) => remove_from(&mut lists[at].places, place),
+        Ok(at) => lists[at].places.remove(place),
         Err(_) => {}
     }
 }

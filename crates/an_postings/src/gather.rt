@@ -1,15 +1,15 @@
 ghost use Rattle.std.specs.Prelude.{◌≡◌, [], ◌++◌, IfOk, OnOk, filter, map, flat_map, ℕ, false};
 ghost use Rattle.an_slots.specs.Places.{Rises, ascending, has};
-ghost use Rattle.an_postings.specs.Gather.{AllRise, picked};
+ghost use Rattle.an_postings.specs.Gather.{AllRise, RunsRise, picked, places_of_run};
 ghost use Rattle.an_postings.specs.Lists.{IsOrdered, class_of, places_at};
 
 use crate::class_postings::ClassPostings;
+use crate::kept::Places;
 use crate::merge::{merged, wide};
 use crate::sorted::sorted;
 use crate::walk::common;
 use an_slots::is_among;
 use std::alloc::{AllocError, Global};
-use std::collections::VecDeque;
 
 /// The places of these classes, ascending, each once.
 pub(crate) fn places_in(
@@ -23,45 +23,98 @@ pub(crate) fn places_in(
         ≡ ascending (flat_map (places_at lists.now) classes.now)) }
 {
     let chosen = chosen(alloc, lists, classes)?;
-    widened(alloc, chosen.as_slice())
+    let slices = slices(alloc, chosen.as_slice())?;
+    widened(alloc, slices.as_slice())
 }
 
-/// The lists of these classes, each as the runs in which it stands in memory.
+/// Places of a list: where they stand in memory, or a copy, where some that stand there are gone.
+#[derive(Drop)]
+enum Run<'a> {
+    There(&'a [u32]),
+    Copy(Vec<u32>),
+}
+
+/// The lists of these classes, each as its runs.
 fn chosen<'a>(
     alloc: Global,
     lists: &'a [ClassPostings],
     classes: &[usize],
-) -> Result<Vec<&'a [u32]>, AllocError>
+) -> Result<Vec<Run<'a>>, AllocError>
     requires ordered { IsOrdered lists.now }
     requires rises { Rises 0 classes.now }
-    ensures chosen { IfOk result (λ chosen. flat_map (λ l. l.now) chosen.items
+    ensures chosen { IfOk result (λ chosen. flat_map places_of_run chosen.items
         ≡ flat_map (picked classes.now) lists.now) }
-    ensures rise { IfOk result (λ chosen. AllRise chosen.items) }
+    ensures rise { IfOk result (λ chosen. RunsRise chosen.items) }
 {
     let mut chosen = Vec::new(alloc);
     for list in lists {
         if is_among(classes, list.class) {
-            choose(&mut chosen, &list.places)?;
+            choose(alloc, &mut chosen, &list.places)?;
         }
     }
     Ok(chosen)
 }
 
-/// Adds the two runs in which a list stands in memory, the second where it isn't empty.
-fn choose<'a>(chosen: &mut Vec<&'a [u32]>, list: &'a VecDeque<u32>) -> Result<(), AllocError>
+/// Adds the runs of a list.
+fn choose<'a>(alloc: Global, chosen: &mut Vec<Run<'a>>, list: &'a Places) -> Result<(), AllocError>
     requires list { Rises 0 list.now.items }
-    requires chosen { AllRise chosen.old.items }
-    ensures added { OnOk result (flat_map (λ l. l.now) chosen.new.items
-        ≡ flat_map (λ l. l.now) chosen.old.items ++ list.now.items) }
-    ensures rise { OnOk result (AllRise chosen.new.items) }
+    requires chosen { RunsRise chosen.old.items }
+    ensures added { OnOk result (flat_map places_of_run chosen.new.items
+        ≡ flat_map places_of_run chosen.old.items ++ list.now.items) }
+    ensures rise { OnOk result (RunsRise chosen.new.items) }
 {
-    let (front, back) = list.as_slices();
-    chosen.push(front)?;
+    match list.runs() {
+        Some((front, back)) => choose_there(chosen, front, back),
+        None => {
+            let copy = list.copied(alloc)?;
+            chosen.push(Run::Copy(copy))?;
+            Ok(())
+        }
+    }
+}
+
+/// Adds the two runs in which a list stands in memory, the second where it isn't empty.
+fn choose_there<'a>(
+    chosen: &mut Vec<Run<'a>>,
+    front: &'a [u32],
+    back: &'a [u32],
+) -> Result<(), AllocError>
+    requires list { Rises 0 (front.now ++ back.now) }
+    requires chosen { RunsRise chosen.old.items }
+    ensures added { OnOk result (flat_map places_of_run chosen.new.items
+        ≡ flat_map places_of_run chosen.old.items ++ (front.now ++ back.now)) }
+    ensures rise { OnOk result (RunsRise chosen.new.items) }
+{
+    chosen.push(Run::There(front))?;
     if back.is_empty() {
         return Ok(());
     }
-    chosen.push(back)?;
+    chosen.push(Run::There(back))?;
     Ok(())
+}
+
+/// The places of each run.
+fn slices<'a>(alloc: Global, runs: &'a [Run<'a>]) -> Result<Vec<&'a [u32]>, AllocError>
+    requires rise { RunsRise runs.now }
+    ensures slices { IfOk result (λ slices. flat_map (λ l. l.now) slices.items
+        ≡ flat_map places_of_run runs.now) }
+    ensures rise { IfOk result (λ slices. AllRise slices.items) }
+{
+    let mut slices = Vec::new(alloc);
+    slices.reserve(runs.len())?;
+    for run in runs {
+        slices.push_reserved(slice_of(run));
+    }
+    Ok(slices)
+}
+
+fn slice_of<'a>(run: &'a Run<'a>) -> &'a [u32]
+    ensures { result.now ≡ places_of_run run.now }
+{
+    match run {
+        Run::There(places) => places,
+        Run::Copy(places) => places.as_slice(),
+    }
 }
 
 /// Those of the places, which ascend, that stand in a list of one of these classes.
@@ -79,7 +132,8 @@ pub(crate) fn common_in(
         places.now) }
 {
     let chosen = chosen(alloc, lists, classes)?;
-    common_among(alloc, chosen.as_slice(), places)
+    let slices = slices(alloc, chosen.as_slice())?;
+    common_among(alloc, slices.as_slice(), places)
 }
 
 /// One list is walked along where it stands.

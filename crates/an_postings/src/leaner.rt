@@ -1,13 +1,10 @@
-ghost use Rattle.std.specs.Prelude.{◌≡◌, ◌+◌, ◌-◌, ◌≤◌, ◌&&◌, ◌==◌, ℕ, [], false, true};
-ghost use Rattle.std.specs.VecDeque.{deque_len, deque_capacity};
+ghost use Rattle.std.specs.Prelude.{◌≡◌, ◌-◌, ◌≤◌, ◌&&◌, ◌==◌, ℕ, [], false, true};
 ghost use Rattle.an_slots.specs.Classed.{IsAt};
 ghost use Rattle.an_slots.specs.Places.{Rises, without_place};
 ghost use Rattle.an_postings.specs.Change.{IsLeaner, IsOut};
 ghost use Rattle.an_postings.specs.Lists.{IsOrdered, class_of, count_at, room_at};
 
 use crate::class_postings::ClassPostings;
-use crate::places::remove_from;
-use std::collections::VecDeque;
 
 /// Takes the place out of the list of this class, and so many times from its count. Where no memory
 /// stays, what is of no use any more is given back. It takes no memory.
@@ -48,11 +45,10 @@ fn out_of(own: &mut ClassPostings, place: u32, times: u64)
     ensures class { own.new.class ≡ own.old.class }
     ensures rises { Rises 0 own.new.places.items }
     ensures places { own.new.places.items ≡ without_place place own.old.places.items }
-    ensures room { deque_capacity own.old.places + deque_len own.new.places
-        ≤ deque_capacity own.new.places + deque_len own.old.places }
+    ensures room { own.old.places.room ≤ own.new.places.room }
     ensures count { own.new.count ≡ own.old.count - times }
 {
-    remove_from(&mut own.places, place);
+    own.places.remove(place);
     own.count -= u128::from(times);
 }
 
@@ -68,9 +64,9 @@ pub(crate) fn let_go_at(lists: &mut Vec<ClassPostings>, at: usize, class: usize)
 {
     if is_bare(&lists[at]) {
         let _ = lists.remove(at);
-        slim_lists(lists);
+        slim(lists);
     } else {
-        slim(&mut lists[at].places);
+        lists[at].places.slim();
     }
 }
 
@@ -83,21 +79,11 @@ fn is_bare(own: &ClassPostings) -> bool
 
 /// Gives back half of the memory and more, where less than a quarter of it is in use. Where the
 /// smaller memory can't be had, the larger stays.
-fn slim(places: &mut VecDeque<u32>)
-    ensures places { places.new.items ≡ places.old.items }
+pub(crate) fn slim<T>(list: &mut Vec<T>)
+    ensures items { list.new.items ≡ list.old.items }
 {
-    let used = places.len();
-    if used < places.capacity() / 4 {
-        places.shrink_to(used * 2);
-    }
-}
-
-/// The same of the lists of a term.
-fn slim_lists(lists: &mut Vec<ClassPostings>)
-    ensures lists { lists.new.items ≡ lists.old.items }
-{
-    let used = lists.len();
-    if used < lists.capacity() / 4 {
-        lists.shrink_to(used * 2);
+    let used = list.len();
+    if used < list.capacity() / 4 {
+        list.shrink_to(used * 2);
     }
 }

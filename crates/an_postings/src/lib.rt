@@ -1,11 +1,12 @@
 //! Postings: for each manifest, term and class the places of the rows there, ascending, and how
-//! often the term occurs in them.
+//! often the term occurs in them. A manifest is its name, or the empty text, under which lists of
+//! all manifests can be filed.
 //!
 //! ```text
-//! postings.room_add(&manifest, "heron", 2, 1)  Ok(()): a place more has room; Err: out of memory
-//! postings.add(&manifest, "heron", 2, 7, 3)    the row at 7 has the term three times
-//! postings.places(alloc, &manifest, "heron", &[2])  Ok([7])
-//! postings.total(&manifest, "heron", &[2])     3
+//! postings.room_add("m1", "heron", 2, 1)  Ok(()): a place more has room; Err: out of memory
+//! postings.add("m1", "heron", 2, 7, 3)    the row at 7 has the term three times
+//! postings.places(alloc, "m1", "heron", &[2])  Ok([7])
+//! postings.total("m1", "heron", &[2])     3
 //! ```
 #![tactic(auto)]
 
@@ -17,10 +18,12 @@ pub use postings::Postings;
 mod among;
 mod class_postings;
 mod gather;
+mod kept;
 mod laws;
 mod leaner;
 mod manifest_postings;
 mod merge;
+mod noted;
 mod places;
 mod postings;
 mod prefix;

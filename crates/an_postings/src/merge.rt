@@ -54,7 +54,8 @@ fn one_if(test: bool) -> usize
     if test { 1 } else { 0 }
 }
 
-fn copied(alloc: Global, list: &[u32]) -> Result<Vec<u32>, AllocError>
+/// The same places.
+pub(crate) fn copied(alloc: Global, list: &[u32]) -> Result<Vec<u32>, AllocError>
     ensures places { IfOk result (λ places. places.items ≡ list.now) }
 {
     let mut places = Vec::new(alloc);

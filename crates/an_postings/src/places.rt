@@ -38,3 +38,12 @@ pub(crate) fn remove_from(places: &mut VecDeque<u32>, place: u32)
         Err(_) => {}
     }
 }
+
+/// Whether the place is among these, which ascend. It takes no memory.
+pub(crate) fn is_in(places: &[u32], place: usize) -> bool
+    ensures { Rises 0 places.now → result ≡ has place places.now }
+{
+    places
+        .binary_search_by_key(&place, |own| *own as usize)
+        .is_ok()
+}

@@ -14,7 +14,7 @@ ghost use Rattle.an_postings.specs.Totals.{Climbs, told_from};
 use crate::class_postings::ClassPostings;
 use crate::gather::common_in;
 use crate::manifest_postings::ManifestPostings;
-use an_base::{Name, TermTotal};
+use an_base::TermTotal;
 use std::alloc::{AllocError, Global};
 use std::collections::BTreeMap;
 use std::marker::Model;
@@ -53,7 +53,7 @@ impl Postings {
     /// the places and the counts are the same, and there is no less room.
     pub fn room_add(
         &mut self,
-        manifest: &Name,
+        manifest: &str,
         term: &str,
         class: usize,
         more: usize,
@@ -63,7 +63,7 @@ impl Postings {
         ensures count { count_in self.new ≡ count_in self.old }
         ensures kept { (slot : Slot) → room_in self.old slot ≤ room_in self.new slot }
     {
-        self.room_under(manifest.as_str(), term, class, more)
+        self.room_under(manifest, term, class, more)
     }
 
     fn room_under(
@@ -106,7 +106,7 @@ impl Postings {
 
     /// Puts the place into the list of a manifest, term and class, if it isn't there, and counts
     /// the term so many times more, at most 2^128 - 1 times in all. It takes no memory.
-    pub fn add(&mut self, manifest: &Name, term: &str, class: usize, place: usize, times: u64)
+    pub fn add(&mut self, manifest: &str, term: &str, class: usize, place: usize, times: u64)
         requires room { IsTrue (has_room place (slot_of manifest.now term.now class) self.old) }
         requires place { place < 2 ^ 32 }
         ensures places { places_in self.new
@@ -116,7 +116,7 @@ impl Postings {
         ensures room { IsSpentAt (slot_of manifest.now term.now class)
             (room_in self.old) (room_in self.new) }
     {
-        self.add_under(manifest.as_str(), term, class, place as u32, times);
+        self.add_under(manifest, term, class, place as u32, times);
     }
 
     fn add_under(&mut self, manifest: &str, term: &str, class: usize, place: u32, times: u64)
@@ -132,14 +132,14 @@ impl Postings {
 
     /// Takes the place out of the list of a manifest, term and class, if it is there. It takes no
     /// memory.
-    pub fn remove(&mut self, manifest: &Name, term: &str, class: usize, place: usize)
+    pub fn remove(&mut self, manifest: &str, term: &str, class: usize, place: usize)
         requires place { place < 2 ^ 32 }
         ensures places { places_in self.new
             ≡ at (slot_of manifest.now term.now class) (without_place place) (places_in self.old) }
         ensures count { count_in self.new ≡ count_in self.old }
         ensures room { (slot : Slot) → room_in self.old slot ≤ room_in self.new slot }
     {
-        self.remove_under(manifest.as_str(), term, class, place as u32);
+        self.remove_under(manifest, term, class, place as u32);
     }
 
     fn remove_under(&mut self, manifest: &str, term: &str, class: usize, place: u32)
@@ -153,14 +153,14 @@ impl Postings {
     }
 
     /// Counts the term of a manifest and class so many times less. It takes no memory.
-    pub fn take(&mut self, manifest: &Name, term: &str, class: usize, times: u64)
+    pub fn take(&mut self, manifest: &str, term: &str, class: usize, times: u64)
         requires enough { times ≤ count_in self.old (slot_of manifest.now term.now class) }
         ensures places { places_in self.new ≡ places_in self.old }
         ensures count { count_in self.new
             ≡ at (slot_of manifest.now term.now class) (λ m. m - times) (count_in self.old) }
         ensures room { (slot : Slot) → room_in self.old slot ≤ room_in self.new slot }
     {
-        self.take_under(manifest.as_str(), term, class, times);
+        self.take_under(manifest, term, class, times);
     }
 
     fn take_under(&mut self, manifest: &str, term: &str, class: usize, times: u64)
@@ -179,7 +179,7 @@ impl Postings {
     /// any more is given back as by `let_go`. It takes no memory.
     pub fn take_out(
         &mut self,
-        manifest: &Name,
+        manifest: &str,
         term: &str,
         class: usize,
         place: usize,
@@ -196,7 +196,7 @@ impl Postings {
             → (stays || not (same_slot slot (slot_of manifest.now term.now class))) ≡ true
             → room_in self.old slot ≤ room_in self.new slot }
     {
-        self.take_out_under(manifest.as_str(), term, class, place as u32, times, stays);
+        self.take_out_under(manifest, term, class, place as u32, times, stays);
     }
 
     fn take_out_under(
@@ -240,11 +240,11 @@ impl Postings {
     /// Drops the list of a manifest, term and class, where it has no place and the term isn't
     /// counted there; the term with its last list, and the manifest with its last term. So no
     /// memory is kept for what is gone. There may be less room. It takes no memory.
-    pub fn let_go(&mut self, manifest: &Name, term: &str, class: usize)
+    pub fn let_go(&mut self, manifest: &str, term: &str, class: usize)
         ensures places { places_in self.new ≡ places_in self.old }
         ensures count { count_in self.new ≡ count_in self.old }
     {
-        self.let_go_under(manifest.as_str(), term, class);
+        self.let_go_under(manifest, term, class);
     }
 
     fn let_go_under(&mut self, manifest: &str, term: &str, class: usize)
@@ -271,20 +271,6 @@ impl Postings {
     pub fn places(
         &self,
         alloc: Global,
-        manifest: &Name,
-        term: &str,
-        classes: &[usize],
-    ) -> Result<Vec<usize>, AllocError>
-        requires rises { Rises 0 classes.now }
-        ensures places { IfOk result (λ places. places.items ≡ ascending (flat_map
-            (λ class. places_in self.now (slot_of manifest.now term.now class)) classes.now)) }
-    {
-        self.places_under(alloc, manifest.as_str(), term, classes)
-    }
-
-    fn places_under(
-        &self,
-        alloc: Global,
         manifest: &str,
         term: &str,
         classes: &[usize],
@@ -304,7 +290,7 @@ impl Postings {
     pub fn common(
         &self,
         alloc: Global,
-        manifest: &Name,
+        manifest: &str,
         term: &str,
         classes: &[usize],
         places: &[usize],
@@ -323,19 +309,6 @@ impl Postings {
     pub fn classes(
         &self,
         alloc: Global,
-        manifest: &Name,
-        term: &str,
-    ) -> Result<Vec<usize>, AllocError>
-        ensures rises { IfOk result (λ classes. Rises 0 classes.items) }
-        ensures others { IfOk result (λ classes. (class : ℕ) → has class classes.items ≡ false
-            → places_in self.now (slot_of manifest.now term.now class) ≡ []) }
-    {
-        self.classes_under(alloc, manifest.as_str(), term)
-    }
-
-    fn classes_under(
-        &self,
-        alloc: Global,
         manifest: &str,
         term: &str,
     ) -> Result<Vec<usize>, AllocError>
@@ -351,15 +324,7 @@ impl Postings {
 
     /// The counts of a manifest and term in these classes together, or the greatest number of 64
     /// bits where that is more. The classes ascend. It takes no memory.
-    pub fn total(&self, manifest: &Name, term: &str, classes: &[usize]) -> u64
-        requires rises { Rises 0 classes.now }
-        ensures total { result ≡ capped (sum_by
-            (λ class. count_in self.now (slot_of manifest.now term.now class)) classes.now) }
-    {
-        self.total_under(manifest.as_str(), term, classes)
-    }
-
-    fn total_under(&self, manifest: &str, term: &str, classes: &[usize]) -> u64
+    pub fn total(&self, manifest: &str, term: &str, classes: &[usize]) -> u64
         requires rises { Rises 0 classes.now }
         ensures total { result ≡ capped (sum_by
             (λ class. count_in self.now (slot_of manifest.now term.now class)) classes.now) }
@@ -374,21 +339,6 @@ impl Postings {
     /// counts in these classes together, or the greatest number of 64 bits where that is more;
     /// without those whose counts are 0. The classes ascend.
     pub fn from_prefix(
-        &self,
-        alloc: Global,
-        manifest: &Name,
-        prefix: &str,
-        classes: &[usize],
-    ) -> Result<Vec<TermTotal>, AllocError>
-        requires rises { Rises 0 classes.now }
-        ensures told { IfOk result (λ told. told.items
-            ≡ told_from prefix.now classes.now (under manifest.now self.now)) }
-        ensures ascending { OnOk result (Climbs (under manifest.now self.now)) }
-    {
-        self.told_under(alloc, manifest.as_str(), prefix, classes)
-    }
-
-    fn told_under(
         &self,
         alloc: Global,
         manifest: &str,
@@ -408,14 +358,7 @@ impl Postings {
 
     /// The lists of a term on a manifest, ascending by their classes, in which single places are
     /// looked up by `is_listed`.
-    pub fn lists_of(&self, manifest: &Name, term: &str) -> &[ClassPostings]
-        ensures lists { result.now ≡ under term.now (under manifest.now self.now) }
-        ensures ordered { IsOrdered result.now }
-    {
-        self.lists_under(manifest.as_str(), term)
-    }
-
-    fn lists_under(&self, manifest: &str, term: &str) -> &[ClassPostings]
+    pub fn lists_of(&self, manifest: &str, term: &str) -> &[ClassPostings]
         ensures lists { result.now ≡ under term.now (under manifest.now self.now) }
         ensures ordered { IsOrdered result.now }
     {

@@ -1,5 +1,5 @@
 -- Hits are found among the candidates.
-use Rattle.std.proofs.Common.{◌≡◌, ℕ, List, [], ◌∷◌, length, Bool, true, false, ◌&&◌, not, Some, None, refl, sym, ap, ◌∙◌, ⊎_elim, arith}
+use Rattle.std.proofs.Common.{◌≡◌, ℕ, List, [], ◌∷◌, length, Bool, true, false, ◌&&◌, not, Option, Some, None, refl, sym, ap, ◌∙◌, ⊎_elim, arith}
 use Rattle.std.proofs.lemmas.Bool.{and_from, and_parts, both_ways, cases_Bool, not_from_false, or_cases, or_right}
 use Rattle.std.proofs.lemmas.Bool.Decides.{nat_tests}
 use Rattle.std.proofs.lemmas.Slice.Eq.{bytes_eq-Decides}
@@ -13,7 +13,7 @@ use Rattle.an_slots.proofs.PlacesFromLemmas.{Rises-places_from}
 use Rattle.an_state.specs.State.{State, NoteState, LiveNote}
 use Rattle.an_state.specs.Terms.{has_term}
 use Rattle.an_state.specs.Places.{places_from, Rises}
-use Rattle.an_state.specs.View.{view_of, is_on, shows_note, readable_places}
+use Rattle.an_state.specs.View.{view_of, is_on, is_sought, is_within, shows_note, sought_places}
 use Rattle.an_list.proofs.ListedLemmas.{filter_same}
 use Rattle.an_list.proofs.ReadableLemmas.{filter_both, length-places, readable_count}
 use Rattle.an_query.specs.declared.dates.DateRange.{DateRange}
@@ -70,6 +70,15 @@ one_after_another false has suited each others terms same = refl
 one_after_another true false suited each others terms same = refl
 one_after_another true true suited each others terms same = ap (λ b. suited && b) (same refl) ∙ either_first suited (list_all each terms)
 
+-- what was deleted is found in neither way
+gone_either : (within suited others : Bool) → ((((within && false) && false) && suited) && others) ≡ ((within && false) && false)
+gone_either true suited others = refl
+gone_either false suited others = refl
+
+none_either : (within : Bool) → ((within && false) && true) ≡ ((within && false) && false)
+none_either true = refl
+none_either false = refl
+
 -- ---- the terms but for the first
 
 -- these are the terms but for the first, in any order
@@ -107,9 +116,9 @@ others_pass test first terms others are passes = same_bool (list_all test others
 
 -- ---- places
 
-module _ (s : State) (who : Identity) (manifest : List ℕ) where
+module _ (s : State) (who : Identity) (manifest : Option (List ℕ)) where
   abbrev may : NoteState → Bool
-  may row = is_on manifest row && shows_note s who row
+  may row = is_sought s who manifest row
 
   abbrev has : List ℕ → NoteState → Bool
   has term row = may row && has_term term row
@@ -129,7 +138,7 @@ module _ (s : State) (who : Identity) (manifest : List ℕ) where
   in_turn wanted term terms others row are those = elim row.live as (λ live.
       ((has term (record row { live = live }) && suits wanted (record row { live = live })) && list_all (λ term. has term (record row { live = live })) others)
       ≡ (may (record row { live = live }) && matches wanted (record row { live = live }))) [
-        | None ↦ refl
+        | None ↦ gone_either (is_within s who manifest (record row { live = None })) (suits wanted (record row { live = None })) (list_all (λ term. has term (record row { live = None })) others)
         | Some live ↦
             let each : List ℕ → Bool = λ term. has_text term (note_terms live.tree) in
             rw are (one_after_another (may (record row { live = Some live })) (each term) (fits_but_terms wanted live) each others terms (others_pass each term terms others those))
@@ -137,14 +146,14 @@ module _ (s : State) (who : Identity) (manifest : List ℕ) where
 
   no_terms : (wanted : Wanted) (row : NoteState) → wanted.terms ≡ [] → (may row && suits wanted row) ≡ (may row && matches wanted row)
   no_terms wanted row none = elim row.live as (λ live. (may (record row { live = live }) && suits wanted (record row { live = live })) ≡ (may (record row { live = live }) && matches wanted (record row { live = live }))) [
-    | None ↦ refl
+    | None ↦ none_either (is_within s who manifest (record row { live = None }))
     | Some live ↦ rw none refl
   ]
 
   -- the wanted places are those of the candidates that suit and have each other term
   wanted_places : (wanted : Wanted) (terms others : List (List ℕ)) → wanted.terms ≡ terms → AreOthers terms others
       → with_terms s who manifest (filter (is_suited_at s.notes wanted) (candidate_places s who manifest terms)) others
-      ≡ filter (is_wanted_at s.notes wanted) (readable_places s who manifest)
+      ≡ filter (is_wanted_at s.notes wanted) (sought_places s who manifest)
   wanted_places wanted [] others none those =
       ap (with_terms s who manifest (filter (is_suited_at s.notes wanted) (candidate_places s who manifest []))) (no_others others those)
       ∙ tested_places (suits wanted) may [] s.notes
@@ -159,7 +168,7 @@ module _ (s : State) (who : Identity) (manifest : List ℕ) where
 
   pub found_places : (wanted : Wanted) (others : List (List ℕ)) → AreOthers wanted.terms others
       → with_terms s who manifest (filter (is_suited_at s.notes wanted) (candidate_places s who manifest wanted.terms)) others
-      ≡ filter (is_wanted_at s.notes wanted) (readable_places s who manifest)
+      ≡ filter (is_wanted_at s.notes wanted) (sought_places s who manifest)
   found_places wanted others those = wanted_places wanted wanted.terms others refl those
 
   -- of no places none have terms
@@ -167,24 +176,27 @@ module _ (s : State) (who : Identity) (manifest : List ℕ) where
   none_having [] = refl
   none_having (term ∷ terms) = none_having terms
 
-  pub candidate_count : (terms : List (List ℕ)) → length (candidate_places s who manifest terms) ≡ length (candidates (view_of s who) manifest terms)
-  unfolding candidates
-  candidate_count [] = readable_count s who manifest
-  candidate_count (term ∷ terms) =
-      length-places (has term) 0 s.notes
-      ∙ ap length (filter_same (has term) (λ row. has_term term row && may row) (λ row. either_first (may row) (has_term term row)) s.notes
-      ∙ sym (filter_both (has_term term) may s.notes)
-      ∙ ap (filter (has_term term)) (sym (filter_both (is_on manifest) (shows_note s who) s.notes)))
+-- there are as many candidates on a manifest as the view has there
+pub candidate_count : (s : State) (who : Identity) (manifest : List ℕ) (terms : List (List ℕ))
+    → length (candidate_places s who (Some manifest) terms) ≡ length (candidates (view_of s who) manifest terms)
+unfolding candidates
+candidate_count s who manifest [] = readable_count s who manifest
+candidate_count s who manifest (term ∷ terms) =
+    let may : NoteState → Bool = is_sought s who (Some manifest) in
+    length-places (λ row. may row && has_term term row) 0 s.notes
+    ∙ ap length (filter_same (λ row. may row && has_term term row) (λ row. has_term term row && may row) (λ row. either_first (may row) (has_term term row)) s.notes
+    ∙ sym (filter_both (has_term term) may s.notes)
+    ∙ ap (filter (has_term term)) (sym (filter_both (is_on manifest) (shows_note s who) s.notes)))
 
 -- ---- places in order
 
-candidates_rise : (s : State) (who : Identity) (manifest : List ℕ) (terms : List (List ℕ)) → Rises 0 (candidate_places s who manifest terms)
-candidates_rise s who manifest [] = Rises-places_from (λ row. is_on manifest row && shows_note s who row) 0 s.notes
+candidates_rise : (s : State) (who : Identity) (manifest : Option (List ℕ)) (terms : List (List ℕ)) → Rises 0 (candidate_places s who manifest terms)
+candidates_rise s who manifest [] = Rises-places_from (is_sought s who manifest) 0 s.notes
 candidates_rise s who manifest (term ∷ terms) =
-    Rises-places_from (λ row. (is_on manifest row && shows_note s who row) && has_term term row) 0 s.notes
+    Rises-places_from (λ row. is_sought s who manifest row && has_term term row) 0 s.notes
 
 -- those of the candidates that suit stand one behind another
-pub suited_rise : (s : State) (who : Identity) (manifest : List ℕ) (wanted : Wanted)
+pub suited_rise : (s : State) (who : Identity) (manifest : Option (List ℕ)) (wanted : Wanted)
     → Rises 0 (filter (is_suited_at s.notes wanted) (candidate_places s who manifest wanted.terms))
 suited_rise s who manifest wanted =
     Rises-kept (is_suited_at s.notes wanted) 0 (candidate_places s who manifest wanted.terms) (candidates_rise s who manifest wanted.terms)

@@ -7,3 +7,5 @@ pub mod SetLemmas
 pub mod RangeLemmas
 pub mod ViewLemmas
 pub mod IriLemmas
+pub mod ApartLemmas
+pub mod AllLemmas

@@ -13,11 +13,22 @@ use Rattle.an_search.specs.Cost.{candidates}
 use Rattle.an_search.specs.Found.{is_wanted_at}
 use Rattle.an_search.specs.Search.{hits_where}
 use Rattle.an_search.specs.Wanted.{wanted_of, wanted_terms}
+use Rattle.an_search.specs.declared.gathered.Scope.{Scope}
+use Rattle.an_search.specs.declared.gathered.Scope.TheVariants.{All, Named}
 use Rattle.an_search.specs.declared.wanted.Wanted.{Wanted}
 
 -- the names that are lent
 abbrev pub lent_names : List (Bor (List ℕ)) → List (List ℕ)
 lent_names names = map (λ name. name.now) names
+
+-- the names of the manifests of the view
+abbrev pub all_names : View → List (List ℕ)
+all_names view = map (λ row. row.name) view.manifests
+
+-- all of these, or those that are lent
+abbrev pub searched : View → Scope → List (Bor (List ℕ)) → List (List ℕ)
+searched view All names = all_names view
+searched view Named names = lent_names names
 
 -- no name stands there twice
 abbrev pub each_once : List (List ℕ) → Bool

@@ -5,7 +5,7 @@ ghost use Rattle.an_base.specs.Outcome.{passes};
 ghost use Rattle.an_base.specs.TextSet.{ascending, has_text};
 ghost use Rattle.an_policy.specs.Audience.{identity};
 ghost use Rattle.an_state.specs.Places.{Rises};
-ghost use Rattle.an_state.specs.View.{readable_places, view_of};
+ghost use Rattle.an_state.specs.View.{readable_places, sought_places, view_of};
 ghost use Rattle.an_search.specs.Cost.{candidates};
 ghost use Rattle.an_search.specs.Found.{candidate_places, is_first, is_suited_at, is_wanted_at};
 ghost use Rattle.an_search.specs.Found.{suits, with_terms};
@@ -25,8 +25,7 @@ use std::sync::ledger::Ledger;
 const TOGETHER: usize = 64;
 
 /// The places of the annotations on a manifest that the caller may read and that are wanted,
-/// ascending. Each that has the first term is fetched once. The lists of the other terms say which
-/// of them have these, the shortest first, up to the first that leaves none.
+/// ascending. Each that has the first term is fetched once.
 pub(crate) fn hit_places<T: Look, L: Ledger>(
     alloc: Global,
     look: &T,
@@ -44,6 +43,30 @@ pub(crate) fn hit_places<T: Look, L: Ledger>(
         (view_of (T.state look.now) (identity who.now)) manifest.now wanted.now.terms) }
     ensures steps_least { steps.old ≤ steps.new }
 {
+    hits_within(alloc, look, who, Some(manifest), wanted, steps)
+}
+
+/// The places of the wanted annotations that the caller may read, on this manifest, or where none
+/// is named on any that it may read, ascending. Each that has the first term is fetched once. The
+/// lists of the other terms say which of them have these, the shortest first, up to the first that
+/// leaves none.
+pub(crate) fn hits_within<T: Look, L: Ledger>(
+    alloc: Global,
+    look: &T,
+    who: &Who<'_>,
+    manifest: Option<&Name>,
+    wanted: &Wanted,
+    steps: &mut Steps<L>,
+) -> Result<Vec<usize>, AllocError>
+    ensures places { IfOk result (λ places. places.items
+        ≡ filter (is_wanted_at (T.state look.now).notes wanted.now) (sought_places
+        (T.state look.now) (identity who.now) (option_copied manifest.entry))) }
+    ensures steps { OnOk result (steps.new ≡ steps.old + length (candidate_places
+        (T.state look.now) (identity who.now) (option_copied manifest.entry) wanted.now.terms)) }
+    ensures steps_most { steps.new ≤ steps.old + length (candidate_places
+        (T.state look.now) (identity who.now) (option_copied manifest.entry) wanted.now.terms) }
+    ensures steps_least { steps.old ≤ steps.new }
+{
     let suited = suited_places(alloc, look, who, manifest, wanted, steps)?;
     let others = other_terms(alloc, look, who, manifest, &wanted.terms)?;
     with_terms(alloc, look, who, manifest, suited, others.as_slice())
@@ -54,17 +77,17 @@ fn suited_places<T: Look, L: Ledger>(
     alloc: Global,
     look: &T,
     who: &Who<'_>,
-    manifest: &Name,
+    manifest: Option<&Name>,
     wanted: &Wanted,
     steps: &mut Steps<L>,
 ) -> Result<Vec<usize>, AllocError>
     ensures places { IfOk result (λ places. places.items
         ≡ filter (is_suited_at (T.state look.now).notes wanted.now) (candidate_places
-        (T.state look.now) (identity who.now) manifest.now wanted.now.terms)) }
-    ensures steps { OnOk result (steps.new ≡ steps.old + length (candidates
-        (view_of (T.state look.now) (identity who.now)) manifest.now wanted.now.terms)) }
-    ensures steps_most { steps.new ≤ steps.old + length (candidates
-        (view_of (T.state look.now) (identity who.now)) manifest.now wanted.now.terms) }
+        (T.state look.now) (identity who.now) (option_copied manifest.entry) wanted.now.terms)) }
+    ensures steps { OnOk result (steps.new ≡ steps.old + length (candidate_places
+        (T.state look.now) (identity who.now) (option_copied manifest.entry) wanted.now.terms)) }
+    ensures steps_most { steps.new ≤ steps.old + length (candidate_places
+        (T.state look.now) (identity who.now) (option_copied manifest.entry) wanted.now.terms) }
     ensures steps_least { steps.old ≤ steps.new }
 {
     let terms = wanted.terms.as_slice();
@@ -78,11 +101,12 @@ fn candidate_places<T: Look>(
     alloc: Global,
     look: &T,
     who: &Who<'_>,
-    manifest: &Name,
+    manifest: Option<&Name>,
     terms: &[Text],
 ) -> Result<Vec<usize>, AllocError>
     ensures { IfOk result (λ places. places.items
-        ≡ candidate_places (T.state look.now) (identity who.now) manifest.now terms.now) }
+        ≡ candidate_places (T.state look.now) (identity who.now) (option_copied manifest.entry)
+        terms.now) }
 {
     match terms.first() {
         Some(term) => look.with_term(alloc, who, manifest, term.as_str()),
@@ -310,7 +334,7 @@ fn other_terms<T: Look>(
     alloc: Global,
     look: &T,
     who: &Who<'_>,
-    manifest: &Name,
+    manifest: Option<&Name>,
     terms: &Pieces,
 ) -> Result<Vec<Weighed>, AllocError>
     ensures { IfOk result (λ others. (term : List ℕ)
@@ -328,7 +352,7 @@ fn weighed_terms<T: Look>(
     alloc: Global,
     look: &T,
     who: &Who<'_>,
-    manifest: &Name,
+    manifest: Option<&Name>,
     terms: &Pieces,
 ) -> Result<Vec<Weighed>, AllocError>
     ensures { IfOk result (λ others. map (λ other. other.term) others.items
@@ -349,7 +373,7 @@ fn with_weight<T: Look>(
     alloc: Global,
     look: &T,
     who: &Who<'_>,
-    manifest: &Name,
+    manifest: Option<&Name>,
     term: &str,
 ) -> Result<Weighed, AllocError>
     ensures { IfOk result (λ weighed. weighed.term ≡ term.now) }
@@ -375,13 +399,14 @@ fn with_terms<T: Look>(
     alloc: Global,
     look: &T,
     who: &Who<'_>,
-    manifest: &Name,
+    manifest: Option<&Name>,
     places: Vec<usize>,
     terms: &[Weighed],
 ) -> Result<Vec<usize>, AllocError>
     requires rise { Rises 0 places.items }
     ensures { IfOk result (λ having. having.items ≡ with_terms (T.state look.now)
-        (identity who.now) manifest.now places.items (map (λ other. other.term) terms.now)) }
+        (identity who.now) (option_copied manifest.entry) places.items
+        (map (λ other. other.term) terms.now)) }
 {
     let mut having = places;
     for other in terms {

@@ -6,7 +6,7 @@
 //! ```
 #![tactic(auto)]
 
-pub use gathered::search_on;
+pub use gathered::{Scope, search_on};
 pub use known::{Known, Last, known_first};
 pub use pieces::Pieces;
 pub use ranges::Ranges;

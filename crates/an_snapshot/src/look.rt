@@ -28,7 +28,7 @@ impl Look for Snapshot {
         &self,
         alloc: Global,
         who: &Who<'_>,
-        manifest: &Name,
+        manifest: Option<&Name>,
     ) -> Result<Vec<usize>, AllocError> {
         self.places(alloc, who, manifest)
     }
@@ -37,13 +37,13 @@ impl Look for Snapshot {
         &self,
         alloc: Global,
         who: &Who<'_>,
-        manifest: &Name,
+        manifest: Option<&Name>,
         term: &str,
     ) -> Result<Vec<usize>, AllocError> {
         self.places_with(alloc, who, manifest, term)
     }
 
-    fn term_weight(&self, _who: &Who<'_>, manifest: &Name, term: &str) -> usize {
+    fn term_weight(&self, _who: &Who<'_>, manifest: Option<&Name>, term: &str) -> usize {
         self.weight_of(manifest, term)
     }
 
@@ -51,7 +51,7 @@ impl Look for Snapshot {
         &self,
         alloc: Global,
         who: &Who<'_>,
-        manifest: &Name,
+        manifest: Option<&Name>,
         term: &str,
         places: &[usize],
     ) -> Result<Vec<usize>, AllocError> {
@@ -62,7 +62,7 @@ impl Look for Snapshot {
         &self,
         alloc: Global,
         who: &Who<'_>,
-        manifest: &Name,
+        manifest: Option<&Name>,
         prefix: &str,
     ) -> Result<Vec<TermTotal>, AllocError> {
         self.terms(alloc, who, manifest, prefix)

@@ -1,8 +1,9 @@
 ghost use Rattle.std.specs.Prelude.{◌≡◌, IfOk, OnErr, OnOk, drop, filter, length, take};
+ghost use Rattle.std.specs.Option.{option_copied};
 ghost use Rattle.an_policy.specs.Audience.{identity};
-ghost use Rattle.an_state.specs.Places.{Rises, has};
+ghost use Rattle.an_slots.specs.Places.{Rises, has};
 ghost use Rattle.an_state.specs.Terms.{places_with_term, terms_with_prefix};
-ghost use Rattle.an_state.specs.View.{readable_places, seen_by};
+ghost use Rattle.an_state.specs.View.{seen_by, sought_places};
 ghost use Rattle.an_snapshot.specs.Absorbed.{absorbed, nothing};
 
 use crate::absorb::{absorb, take_room};
@@ -106,15 +107,16 @@ impl Snapshot {
         &self.book
     }
 
-    /// The places of the live annotations on a manifest that the caller may read.
+    /// The places of the live annotations that the caller may read, on a manifest, or where none is
+    /// named on any.
     pub(crate) fn places(
         &self,
         alloc: Global,
         who: &Who<'_>,
-        manifest: &Name,
+        manifest: Option<&Name>,
     ) -> Result<Vec<usize>, AllocError>
         ensures places { IfOk result (λ places. places.items
-            ≡ readable_places self.now.state (identity who.now) manifest.now) }
+            ≡ sought_places self.now.state (identity who.now) (option_copied manifest.entry)) }
     {
         self.listed.readable(alloc, &self.classes, who, manifest)
     }
@@ -124,18 +126,19 @@ impl Snapshot {
         &self,
         alloc: Global,
         who: &Who<'_>,
-        manifest: &Name,
+        manifest: Option<&Name>,
         term: &str,
     ) -> Result<Vec<usize>, AllocError>
-        ensures places { IfOk result (λ places. places.items
-            ≡ places_with_term self.now.state (identity who.now) manifest.now term.now) }
+        ensures places { IfOk result (λ places. places.items ≡ places_with_term self.now.state
+            (identity who.now) (option_copied manifest.entry) term.now) }
     {
         self.listed
             .with_term(alloc, &self.classes, who, manifest, term)
     }
 
-    /// How many places the lists of a term on a manifest have, whoever may read them.
-    pub(crate) fn weight_of(&self, manifest: &Name, term: &str) -> usize {
+    /// How many places the lists of a term have, on a manifest, or where none is named on all,
+    /// whoever may read them.
+    pub(crate) fn weight_of(&self, manifest: Option<&Name>, term: &str) -> usize {
         self.listed.term_weight(manifest, term)
     }
 
@@ -144,14 +147,14 @@ impl Snapshot {
         &self,
         alloc: Global,
         who: &Who<'_>,
-        manifest: &Name,
+        manifest: Option<&Name>,
         term: &str,
         places: &[usize],
     ) -> Result<Vec<usize>, AllocError>
         requires rise { Rises 0 places.now }
         ensures having { IfOk result (λ having. having.items ≡ filter (λ place. has place
-            (places_with_term self.now.state (identity who.now) manifest.now term.now))
-            places.now) }
+            (places_with_term self.now.state (identity who.now) (option_copied manifest.entry)
+            term.now)) places.now) }
     {
         self.listed
             .among_with_term(alloc, &self.classes, who, manifest, term, places)
@@ -162,11 +165,11 @@ impl Snapshot {
         &self,
         alloc: Global,
         who: &Who<'_>,
-        manifest: &Name,
+        manifest: Option<&Name>,
         prefix: &str,
     ) -> Result<Vec<TermTotal>, AllocError>
-        ensures terms { IfOk result (λ terms. terms.items
-            ≡ terms_with_prefix self.now.state (identity who.now) manifest.now prefix.now) }
+        ensures terms { IfOk result (λ terms. terms.items ≡ terms_with_prefix self.now.state
+            (identity who.now) (option_copied manifest.entry) prefix.now) }
     {
         self.listed
             .terms_from(alloc, &self.classes, who, manifest, prefix)

@@ -42,8 +42,3 @@ module _ {A : Type 0} (test : A → Bool) where
 -- tests that come to the same keep the same
 pub filter-same : (p q : ℕ → Bool) (places : List ℕ) → ((place : ℕ) → p place ≡ q place) → filter p places ≡ filter q places
 filter-same p q places same = ap (λ test. filter test places) (λ i place. same place i)
-
--- nothing is among no places
-pub none-among : (places : List ℕ) → filter (λ place. has place []) places ≡ []
-none-among [] = refl
-none-among (place ∷ places) = none-among places

@@ -3,7 +3,6 @@ pub mod ViewLemmas
 pub mod WalkLemmas
 pub mod ChangeLemmas
 pub mod DistinctLemmas
-pub mod OpenLemmas
 pub mod MarkLemmas
 pub mod AmongLemmas
 pub mod FormerLemmas

@@ -16,7 +16,10 @@ pub use look::Look;
 pub use names::as_known;
 pub use readable::is_on;
 pub use row::{LiveNote, ManifestRow, NoteRow, ReaderRow};
-pub use shown::{is_manifest_shown, is_note_shown, shown_manifest, shown_manifests, shown_note};
+pub use shown::{
+    is_manifest_shown, is_note_shown, manifests_are_distinct, shown_manifest, shown_manifests,
+    shown_note,
+};
 pub use totals::add_row;
 pub use untold::groups_are_untold;
 

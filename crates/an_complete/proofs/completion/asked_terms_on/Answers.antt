@@ -1,7 +1,7 @@
 use Rattle.std.proofs.Common.{ap, ◌∙◌}
 use Rattle.std.proofs.lemmas.Result.{IfOk-weaker}
 use Rattle.an_policy.specs.Audience.{identity}
-use Rattle.an_search.specs.Gathered.{lent_names}
+use Rattle.an_search.specs.Gathered.{searched}
 use Rattle.an_state.specs.Terms.{totals_in}
 use Rattle.an_terms.specs.Terms.{term_of}
 use Rattle.an_state.specs.View.{view_of}
@@ -12,7 +12,7 @@ pub returns-clause-terms : goal.returns-clause-terms
 unfolding asked_terms_on
 returns-clause-terms g c =
     let view = view_of (g.T.Look.state c.args.look.now) (identity c.args.who.now) in
-    let names = lent_names c.args.manifests.now in
+    let names = searched view c.args.scope c.args.manifests.now in
     let ask = c.args.ask.now in
     IfOk-weaker c.first_terms.result _ _ (λ terms are. are
     ∙ ap (λ min. first_terms min c.in_ok-totals.totals.items) c.min.ensures.value

@@ -1,4 +1,4 @@
-use Rattle.std.proofs.Common.{◌≡◌, ℕ, ◌+◌, List, [], ◌∷◌, ◌++◌, take, cond, get_or, sym, ap, ◌∙◌, take_all, arith}
+use Rattle.std.proofs.Common.{ℕ, List, [], ◌∷◌, ◌++◌, take, cond, sym, ap, ◌∙◌, take_all, arith}
 use Rattle.std.specs.Prelude.{filter}
 use Rattle.an_policy.specs.Audience.{identity}
 use Rattle.an_state.specs.View.{view_of}

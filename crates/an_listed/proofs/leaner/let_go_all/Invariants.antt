@@ -1,5 +1,5 @@
-use Rattle.an_listed.specs.Leaner.{IsLeaner}
+use Rattle.an_listed.specs.Leaner.{AreLeaner}
 use Rattle.an_listed.proofs.leaner.let_go_all.Given as goal
 
 abbrev pub invariant-loop-row : goal.invariant-loop-row
-invariant-loop-row l = record { leaner : IsLeaner l.fn.register l.register }
+invariant-loop-row l = record { leaner : AreLeaner l.fn.register l.register }

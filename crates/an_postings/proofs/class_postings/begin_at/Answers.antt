@@ -18,7 +18,7 @@ returns-clause-ordered c =
 pub returns-clause-ok : goal.returns-clause-ok
 returns-clause-ok c =
     elim c.match-insert.branch [
-      | in-Ok w ↦ (let items = rw w.in-Ok.is at c.insert.ensures.items in rw (w.result-is, items, insert_room_here c.args.class c.args.lists.now.items c.args.at c.requires.gap (record { class = c.args.class; places = c.reserve.new.self; count = 0 }) refl (c.reserve.ensures.items ∙ c.new-places.ensures.items) refl) (let l = c.reserve.ensures.len in let n = c.new-places.ensures.len in let k = c.in_ok-reserve.ensures.ok in omega (arith, l, n, k)))
+      | in-Ok w ↦ (let items = rw w.in-Ok.is at c.insert.ensures.items in rw (w.result-is, items, insert_room_here c.args.class c.args.lists.now.items c.args.at c.requires.gap (record { class = c.args.class; places = c.reserve.new.self; count = 0 }) refl (c.reserve.ensures.items ∙ c.new-places.ensures.items) refl) c.in_ok-reserve.ensures.ok)
       | in-Err w ↦ (let items = rw w.in-Err.is at c.insert.ensures.items in rw w.result-is tt)
     ]
 

@@ -20,9 +20,9 @@ returns-in-Ok-clause-ordered c =
 pub returns-in-Ok-clause-ok : goal.returns-in-Ok-clause-ok
 returns-in-Ok-clause-ok c =
     let here : IsAt class_of c.args.class c.args.lists.now.items c.in-Ok.at = rw c.as_slice.ensures.value at c.in-Ok.ensures.place in
-    on_ok_weaker c.reserve.result (λ h. rw (set_room_here c.args.class c.args.lists.now.items c.in-Ok.at c.index_mut.result.now here c.index_mut.ensures.value (record { class = c.index_mut.result.now.class; places = c.reserve.new.self; count = c.index_mut.result.now.count }) refl) (let l = c.reserve.ensures.len in omega (arith, h, l))) c.reserve.ensures.ok
+    on_ok_weaker c.reserve.result (λ h. rw (set_room_here c.args.class c.args.lists.now.items c.in-Ok.at c.index_mut.result.now here c.index_mut.ensures.value (record { class = c.index_mut.result.now.class; places = c.reserve.new.self; count = c.index_mut.result.now.count }) refl) h) c.reserve.ensures.ok
 
 pub returns-in-Ok-clause-roomier : goal.returns-in-Ok-clause-roomier
 returns-in-Ok-clause-roomier c =
     let here : IsAt class_of c.args.class c.args.lists.now.items c.in-Ok.at = rw c.as_slice.ensures.value at c.in-Ok.ensures.place in
-    set_roomier c.args.class c.args.lists.now.items c.in-Ok.at c.index_mut.result.now here c.index_mut.ensures.value (record { class = c.index_mut.result.now.class; places = c.reserve.new.self; count = c.index_mut.result.now.count }) refl c.reserve.ensures.items refl (let l = c.reserve.ensures.len in let k = c.reserve.ensures.capacity in omega (arith, l, k))
+    set_roomier c.args.class c.args.lists.now.items c.in-Ok.at c.index_mut.result.now here c.index_mut.ensures.value (record { class = c.index_mut.result.now.class; places = c.reserve.new.self; count = c.index_mut.result.now.count }) refl c.reserve.ensures.items refl c.reserve.ensures.room

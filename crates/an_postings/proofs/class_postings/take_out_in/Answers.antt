@@ -1,4 +1,4 @@
-use Rattle.an_slots.specs.Classed.{IsAt, IsGap}
+use Rattle.an_slots.specs.Classed.{IsGap}
 use Rattle.an_postings.specs.Lists.{class_of}
 use Rattle.an_postings.proofs.ListLemmas.{out-none}
 use Rattle.an_postings.proofs.class_postings.take_out_in.Goals as goal

@@ -1,4 +1,4 @@
-use Rattle.std.proofs.Common.{ℕ, ◌+◌, ◌-◌, ◌/◌, ◌≤◌, ◌++◌, List, length, take, drop, Bor, sym, ap, ◌∙◌, arith, length-take}
+use Rattle.std.proofs.Common.{ℕ, ◌-◌, ◌/◌, ◌++◌, List, length, take, drop, Bor, ap, ◌∙◌, arith, length-take}
 use Rattle.std.proofs.lemmas.Result.{IfOk-weaker}
 use Rattle.std.specs.List.{flat_map, sum_by}
 use Rattle.an_policy.specs.Audience.{identity}

@@ -1,28 +1,15 @@
-use Rattle.std.proofs.Common.{map, subst, sym, ap, ◌∙◌}
-use Rattle.std.proofs.lemmas.Result.{IfOk-weaker}
+use Rattle.std.proofs.Common.{◌≡◌, ◌+◌, ◌≤◌, subst}
+use Rattle.std.specs.Prelude.{OnOk}
 use Rattle.an_policy.specs.Audience.{identity}
-use Rattle.an_search.specs.Found.{with_terms}
-use Rattle.an_search.proofs.HitLemmas.{found_places, suited_rise}
-use Rattle.an_list.proofs.PageLemmas.{on_ok}
-use Rattle.an_state.specs.Places.{Rises}
+use Rattle.an_search.proofs.HitLemmas.{candidate_count}
 use Rattle.an_search.proofs.hits.hit_places.Goals as goal
 
-pub returns-clause-places : goal.returns-clause-places
-returns-clause-places g c =
-    let s = g.T.Look.state c.args.look.now in
-    let who = identity c.args.who.now in
-    let manifest = c.args.manifest.now in
-    let others = map (λ other. other.term) c.in_ok-others.others.items in
-    IfOk-weaker c.with_terms.result _ _ (λ having is. is
-    ∙ ap (λ terms. with_terms s who manifest c.in_ok-suited.suited.items (map (λ other. other.term) terms)) c.as_slice.ensures.value
-    ∙ ap (λ places. with_terms s who manifest places others) c.in_ok-suited.ensures.places
-    ∙ found_places s who manifest c.args.wanted.now others c.in_ok-others.ensures) c.with_terms.ensures
-
 pub returns-clause-steps : goal.returns-clause-steps
-returns-clause-steps g c = on_ok c.with_terms.result c.in_ok-suited.ensures.steps
+returns-clause-steps g c =
+    subst (λ n. OnOk c.hits_within.result (c.hits_within.new.steps ≡ c.args.steps.now + n))
+    (candidate_count (g.T.Look.state c.args.look.now) (identity c.args.who.now) c.args.manifest.now c.args.wanted.now.terms) c.hits_within.ensures.steps
 
-pub with_terms-requires : goal.with_terms-requires
-with_terms-requires g c = record {
-  rise = subst (Rises 0) (sym c.in_ok-suited.ensures.places)
-      (suited_rise (g.T.Look.state c.args.look.now) (identity c.args.who.now) c.args.manifest.now c.args.wanted.now);
-}
+pub returns-clause-steps_most : goal.returns-clause-steps_most
+returns-clause-steps_most g c =
+    subst (λ n. c.hits_within.new.steps ≤ c.args.steps.now + n)
+    (candidate_count (g.T.Look.state c.args.look.now) (identity c.args.who.now) c.args.manifest.now c.args.wanted.now.terms) c.hits_within.ensures.steps_most

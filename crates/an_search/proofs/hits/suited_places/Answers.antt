@@ -1,15 +1,15 @@
 use Rattle.std.proofs.Common.{◌≡◌, ◌+◌, ◌≤◌, length, subst, ap, ◌∙◌}
 use Rattle.std.proofs.lemmas.Result.{IfOk-weaker}
 use Rattle.std.specs.Prelude.{OnOk, filter}
+use Rattle.std.specs.Option.{option_copied}
 use Rattle.an_policy.specs.Audience.{identity}
 use Rattle.an_search.specs.Found.{candidate_places, is_suited_at}
-use Rattle.an_search.proofs.HitLemmas.{candidate_count}
 use Rattle.an_search.proofs.hits.suited_places.Goals as goal
 
 pub returns-clause-places : goal.returns-clause-places
 returns-clause-places g c =
     let s = g.T.Look.state c.args.look.now in
-    let find = candidate_places s (identity c.args.who.now) c.args.manifest.now in
+    let find = candidate_places s (identity c.args.who.now) (option_copied c.args.manifest) in
     let places = c.as_slice.ensures.value ∙ c.in_ok-places.ensures ∙ ap find c.as_slice-terms.ensures.value in
     IfOk-weaker c.suited_among.result _ _ (λ suited is. is ∙ ap (filter (is_suited_at s.notes c.args.wanted.now)) places) c.suited_among.ensures.places
 
@@ -17,16 +17,16 @@ pub returns-clause-steps : goal.returns-clause-steps
 returns-clause-steps g c =
     let s = g.T.Look.state c.args.look.now in
     let who = identity c.args.who.now in
-    let manifest = c.args.manifest.now in
+    let manifest = (option_copied c.args.manifest) in
     let places = c.as_slice.ensures.value ∙ c.in_ok-places.ensures ∙ ap (candidate_places s who manifest) c.as_slice-terms.ensures.value in
-    let count = ap length places ∙ candidate_count s who manifest c.args.wanted.now.terms in
+    let count = ap length places in
     subst (λ n. OnOk c.suited_among.result (c.suited_among.new.steps ≡ c.args.steps.now + n)) count c.suited_among.ensures.steps
 
 pub returns-clause-steps_most : goal.returns-clause-steps_most
 returns-clause-steps_most g c =
     let s = g.T.Look.state c.args.look.now in
     let who = identity c.args.who.now in
-    let manifest = c.args.manifest.now in
+    let manifest = (option_copied c.args.manifest) in
     let places = c.as_slice.ensures.value ∙ c.in_ok-places.ensures ∙ ap (candidate_places s who manifest) c.as_slice-terms.ensures.value in
-    let count = ap length places ∙ candidate_count s who manifest c.args.wanted.now.terms in
+    let count = ap length places in
     subst (λ n. c.suited_among.new.steps ≤ c.args.steps.now + n) count c.suited_among.ensures.steps_most

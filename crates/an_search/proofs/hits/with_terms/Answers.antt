@@ -1,5 +1,6 @@
 use Rattle.std.proofs.Common.{◌≡◌, ◌+◌, ◌∷◌, ◌∙◌, add-one, ap, arith, drop, drop-cons, get_or, length, map, subst, sym}
 use Rattle.std.proofs.lemmas.Bool.Decides.{nat_tests}
+use Rattle.std.specs.Option.{option_copied}
 use Rattle.an_policy.specs.Audience.{identity}
 use Rattle.an_search.specs.Found.{with_term, with_terms}
 use Rattle.an_slots.proofs.GatheredLemmas.{Rises-kept}
@@ -12,7 +13,7 @@ pub loop-other-preserved : goal.loop-other-preserved
 loop-other-preserved g c =
     let s = g.T.Look.state c.args.look.now in
     let who = identity c.args.who.now in
-    let manifest = c.args.manifest.now in
+    let manifest = (option_copied c.args.manifest) in
     let terms = c.args.terms.now in
     let at = c.loop-other.other-index in
     let having = c.loop-other.having.items in
@@ -31,7 +32,7 @@ pub returns-then-is_empty : goal.returns-then-is_empty
 returns-then-is_empty g c =
     let s = g.T.Look.state c.args.look.now in
     let who = identity c.args.who.now in
-    let manifest = c.args.manifest.now in
+    let manifest = (option_copied c.args.manifest) in
     let left = map (λ other. other.term) (drop c.loop-other.other-index c.args.terms.now) in
     let count : length c.loop-other.having.items ≡ 0 = grind (arith, nat_tests, c.if-is_empty.ensures, c.loop-other.having.ok.0) in
     let none = empty_of c.loop-other.having.items count in

@@ -1,4 +1,5 @@
 use Rattle.std.proofs.Common.{◌≡◌, ℕ, List, IfOk, subst, ap, ◌∙◌}
+use Rattle.std.specs.Option.{option_copied}
 use Rattle.an_policy.specs.Audience.{identity}
 use Rattle.an_state.specs.Terms.{places_with_term}
 use Rattle.an_snapshot.specs.Absorbed.{Absorbed}
@@ -8,6 +9,6 @@ use Rattle.an_snapshot.proofs.snapshot.Snapshot.places_with.Goals as goal
 pub returns : goal.returns
 returns c =
     let inside = c.self.inside in
-    let whole = with_term-is inside.book.state inside.classes (identity c.args.who.now) c.args.manifest.now inside.listed.rows c.self.invariant.listing c.args.term.now
-    ∙ ap (λ (a : Absorbed). let s = a.state in places_with_term s (identity c.args.who.now) c.args.manifest.now c.args.term.now) c.self.view_is in
+    let whole = with_term-is inside.book.state inside.classes (identity c.args.who.now) (option_copied c.args.manifest) inside.listed.rows c.self.invariant.listing c.args.term.now
+    ∙ ap (λ (a : Absorbed). let s = a.state in places_with_term s (identity c.args.who.now) (option_copied c.args.manifest) c.args.term.now) c.self.view_is in
     record { places = subst (λ (meant : List ℕ). IfOk c.with_term.result (λ places. places.items ≡ meant)) whole c.with_term.ensures.places }
