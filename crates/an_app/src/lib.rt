@@ -17,7 +17,7 @@ pub use an_serve::session_at_desk;
 pub use form::{Form, Serving, form_of};
 pub use laws::{equal_views_are_answered_alike, harvests_are_views};
 pub use memory::run_in_memory;
-pub use program::run;
+pub use program::{misunderstood, run};
 pub use ran::Ran;
 pub use serving::serve;
 

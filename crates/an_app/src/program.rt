@@ -170,7 +170,7 @@ fn run_form<
 }
 
 /// Tells that the words are those of no form.
-fn misunderstood<L: Link>(link: &mut L) -> Status
+pub fn misunderstood<L: Link>(link: &mut L) -> Status
     ensures told { Misunderstands (Rises (L.write_faults link.old) (L.write_faults link.new))
         (L.traffic link.old) (L.traffic link.new) result }
     ensures bounded { ReadsLittle (L.traffic link.old) (L.traffic link.new) }

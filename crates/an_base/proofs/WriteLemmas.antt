@@ -1,8 +1,13 @@
 -- How the texts of parts join, and what a bracket makes of them.
 use Rattle.std.proofs.Common.{◌≡◌, ℕ, zero, suc, ◌<◌, List, [], ◌∷◌, ◌++◌, true, length, take, drop, slice_set, refl, sym, ap, ap₂, ◌∙◌, append-nil, append_assoc, arith}
 use Rattle.std.proofs.lemmas.List.{take_at, drop_at}
+use Rattle.std.proofs.lemmas.List.Elements.{All-get_or}
+use Rattle.std.proofs.lemmas.List.Sums.{AllPass-from_list_all}
+use Rattle.std.specs.List.{list_all}
 use Rattle.json.specs.Token.{Token}
-use Rattle.json.specs.Print.{print, print_from, token_text, quoted}
+use Rattle.json.specs.Run.{is_plain}
+use Rattle.json.specs.Print.{print, print_from, token_text, escape, quoted}
+use Rattle.json.proofs.Printed.Plain.{escape_on_plain}
 use Rattle.serde_json.specs.Data.{Data, array, object, Items, no_items, item, Members, no_members, member}
 use Rattle.serde_json.specs.Written.{compact_text, items_text, members_text}
 use Rattle.serde_json.specs.View.{items_of}
@@ -19,15 +24,28 @@ pub one_token : (t : Token) (out before written : List ℕ) (old tokens : List T
 one_token t out before written old tokens text pushed none start =
     text ∙ ap₂ (λ front ts. front ++ print ts) start (pushed ∙ ap (λ ts. ts ++ t ∷ []) none) ∙ ap (λ last. out ++ last) (print_one t)
 
--- ---- a member and an item
+-- ---- between two signs
 
-regroup : (a q : List ℕ) → ((a ++ 44 ∷ []) ++ q) ++ 58 ∷ [] ≡ a ++ (44 ∷ (q ++ 58 ∷ []))
-regroup a q = append_assoc (a ++ 44 ∷ []) q (58 ∷ []) ∙ append_assoc a (44 ∷ []) (q ++ 58 ∷ [])
+between : (left right : ℕ) (out text a b c : List ℕ) → a ≡ out ++ left ∷ [] → b ≡ a ++ text → c ≡ b ++ right ∷ []
+    → c ≡ out ++ (left ∷ (text ++ right ∷ []))
+between left right out text a b c first middle last =
+    last
+    ∙ ap (λ front. front ++ right ∷ []) (middle ∙ ap (λ front. front ++ text) first)
+    ∙ append_assoc (out ++ left ∷ []) text (right ∷ []) ∙ append_assoc out (left ∷ []) (text ++ right ∷ [])
+
+plain_stays : (text : List ℕ) → list_all is_plain text ≡ true → escape text ≡ text
+plain_stays text all =
+    escape_on_plain true text (λ k _ within. All-get_or (λ x. is_plain x ≡ true) text k 0 within (AllPass-from_list_all is_plain text all))
+
+pub plain_quoted : (text out a b c : List ℕ) → a ≡ out ++ 34 ∷ [] → b ≡ a ++ text → c ≡ b ++ 34 ∷ [] → list_all is_plain text ≡ true → c ≡ out ++ quoted text
+plain_quoted text out a b c first middle last all =
+    between 34 34 out text a b c first middle last ∙ ap (λ inside. out ++ 34 ∷ (inside ++ 34 ∷ [])) (sym (plain_stays text all))
+
+-- ---- a member and an item
 
 pub name_joined : (name a b c d : List ℕ) → b ≡ a ++ 44 ∷ [] → c ≡ b ++ quoted name → d ≡ c ++ 58 ∷ [] → d ≡ a ++ name_text name
 unfolding name_text
-name_joined name a b c d comma text colon =
-    colon ∙ ap (λ front. front ++ 58 ∷ []) (text ∙ ap (λ front. front ++ quoted name) comma) ∙ regroup a (quoted name)
+name_joined name a = between 44 58 a (quoted name)
 
 pub member_joined : (name : List ℕ) (value : Data) (a b c : List ℕ) → b ≡ a ++ name_text name → c ≡ b ++ compact_text value → c ≡ a ++ member_text name value
 unfolding member_text

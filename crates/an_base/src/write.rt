@@ -1,5 +1,7 @@
 ghost use Rattle.std.specs.Prelude.{◌≡◌, ◌≤◌, List, ℕ, ◌++◌, false, drop, length, take, vec_len};
 ghost use Rattle.std.specs.Prelude.{IfOk};
+ghost use Rattle.std.specs.List.{list_all};
+ghost use Rattle.json.specs.Run.{is_plain};
 ghost use Rattle.serde_json.specs.Data.{Data, Items, Members, array, number, object, string};
 ghost use Rattle.serde_json.specs.Data.{unsigned};
 ghost use Rattle.serde_json.specs.View.{view, members_view};
@@ -11,9 +13,61 @@ ghost use Rattle.an_base.specs.Write.{behind, in_brackets};
 use json::Writer;
 use serde_json::{Map, Value};
 use std::alloc::{AllocError, Global};
+use std::io::Write;
+
+/// The most that a `Writer` of json fills with zeros behind what it is given. Below that it fills
+/// as much as is written already, and each `Writer` does so anew.
+const MOST_AHEAD: usize = 16 * 1024;
 
 /// Writes a text as a JSON string (RFC 8259, section 7).
+#[tactic(auto, using(crate::proofs::WriteLemmas::plain_quoted))]
 pub fn push_text(out: Vec<u8>, text: &str) -> Result<Vec<u8>, AllocError>
+    ensures text { IfOk result (λ v. v.items ≡ out.items ++ compact_text (string text.now)) }
+{
+    if !all_plain(text.as_bytes()) {
+        return push_escaped(out, text);
+    }
+    let mut out = out;
+    out.push(b'"')?;
+    out.extend_from_slice(text.as_bytes())?;
+    out.push(b'"')?;
+    Ok(out)
+}
+
+/// Whether a text stands in a JSON string as it is. The loop does not stop at a byte that does not,
+/// so that the compiler takes many bytes at a time.
+fn all_plain(text: &[u8]) -> bool
+    ensures plain { result ≡ list_all is_plain text.now }
+{
+    let mut plain = true;
+    for &byte in text {
+        plain &= is_plain(byte);
+    }
+    plain
+}
+
+fn is_plain(byte: u8) -> bool
+    ensures plain { result ≡ is_plain byte }
+{
+    !matches!(byte, b'"' | b'\\' | 0..0x20)
+}
+
+/// Writes a text that has escapes. Where a `Writer` would fill more behind `out` than the text is
+/// long, it is written apart, in room for some escapes, and copied.
+fn push_escaped(out: Vec<u8>, text: &str) -> Result<Vec<u8>, AllocError>
+    ensures text { IfOk result (λ v. v.items ≡ out.items ++ compact_text (string text.now)) }
+{
+    if text.len() >= out.len().min(MOST_AHEAD) {
+        return push_by_writer(out, text);
+    }
+    let room = Vec::with_capacity(*out.allocator(), text.len() + text.len() / 8 + 16)?;
+    let apart = push_by_writer(room, text)?;
+    let mut out = out;
+    out.extend_from_slice(apart.as_slice())?;
+    Ok(out)
+}
+
+fn push_by_writer(out: Vec<u8>, text: &str) -> Result<Vec<u8>, AllocError>
     ensures text { IfOk result (λ v. v.items ≡ out.items ++ compact_text (string text.now)) }
 {
     let mut writer = Writer::new(out);
@@ -25,9 +79,11 @@ pub fn push_text(out: Vec<u8>, text: &str) -> Result<Vec<u8>, AllocError>
 pub fn push_number(out: Vec<u8>, n: u64) -> Result<Vec<u8>, AllocError>
     ensures text { IfOk result (λ v. v.items ≡ out.items ++ compact_text (number (unsigned n))) }
 {
-    let mut writer = Writer::new(out);
-    writer.u64(n)?;
-    Ok(writer.into_inner())
+    let mut out = out;
+    match write!(out, "{n}") {
+        Ok(()) => Ok(out),
+        Err(_) => Err(AllocError),
+    }
 }
 
 /// Writes a value that has no float.

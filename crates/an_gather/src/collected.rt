@@ -24,9 +24,11 @@ use an_served::{CONTEXTS, push_label};
 use an_state::{Look, ManifestRow, shown_manifests};
 use std::alloc::{AllocError, Global};
 
-/// An item is written apart and then copied: what writes a text in JSON (RFC 8259) prepares memory
-/// after it, the more the longer what is written already. Most items have room in so many bytes.
+/// Most items have room in so many bytes.
 const ITEM_ROOM: usize = 256;
+
+/// What the collection has besides its items has room in so many bytes, where its base is short.
+const WHOLE_ROOM: usize = 1024;
 
 /// The collection of the manifests that the caller may read, each with its kept label (IIIF
 /// Presentation API 3.0, section 5.1). No manifest is read back: its label is copied.
@@ -53,7 +55,8 @@ fn shown_collection<T: Look>(
         (view_of (T.state look.now) (identity who.now)).manifests))) }
 {
     let rows = shown_manifests(alloc, look, who)?;
-    let items = push_rows(alloc, Vec::new(alloc), base, rows.as_slice())?;
+    let room = Vec::with_capacity(alloc, rows.len().saturating_mul(ITEM_ROOM))?;
+    let items = push_rows(alloc, room, base, rows.as_slice())?;
     collection_text(alloc, base, items.as_slice())
 }
 
@@ -63,7 +66,8 @@ fn collection_text(alloc: Global, base: &str, items: &[u8]) -> Result<Bytes, All
         → IfOk result (λ text. text ≡ compact_text (collection_tree base.now manifests)) }
 {
     let iri = collection_iri(alloc, base)?;
-    let out = push_array_member(Vec::new(alloc), "@context", CONTEXTS.as_bytes())?;
+    let room = Vec::with_capacity(alloc, items.len().saturating_add(WHOLE_ROOM))?;
+    let out = push_array_member(room, "@context", CONTEXTS.as_bytes())?;
     let out = push_text_member(out, "id", iri.as_str())?;
     let out = push_array_member(out, "items", items)?;
     let out = push_own_label(out)?;
@@ -196,10 +200,8 @@ fn push_item(
     ensures text { IfOk result
         (λ v. v.items ≡ out.items ++ item_text (manifest_item base.now name.now sheet.now)) }
 {
-    let text = Vec::with_capacity(alloc, ITEM_ROOM)?;
-    let text = push_manifest(alloc, text, base, name, sheet)?;
-    let mut out = push_comma(out)?;
-    out.extend_from_slice(text.as_slice())?;
+    let out = push_comma(out)?;
+    let out = push_manifest(alloc, out, base, name, sheet)?;
     Ok(out)
 }
 

@@ -5,6 +5,5 @@ pub mod PageLemmas
 pub mod NotesLemmas
 pub mod WrittenLemmas
 pub mod MarkLemmas
-pub mod PlacedLemmas
 mod PageRows
 mod MarkRows

@@ -38,6 +38,10 @@ comma_grows before after comma =
     let lengths : length after + 4 ≡ length before + 5 = sym (length-append after (compact_text null)) ∙ ap length (comma null) ∙ length-append before (item_text null) in
     omega arith
 
+-- so does what is written behind it
+pub grows : (before after more : List ℕ) → after ≡ before ++ more → length before ≤ length after
+grows before after more is = omega (arith, ap length is, length-append before more)
+
 -- ---- the members' texts
 
 pub place_text : (whole : Whole) (page size total : ℕ)

@@ -2,7 +2,6 @@ pub mod Site
 pub mod Page
 pub mod PageText
 pub mod Marks
-pub mod Placed
 pub mod Listed
 pub mod Notes
 pub mod Cost

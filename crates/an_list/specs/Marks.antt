@@ -1,13 +1,14 @@
 -- The annotations that mark the words by which a search found an annotation (match annotations of
 -- the IIIF Content Search API 2.0).
-use Rattle.std.specs.Prelude.{ℕ, ◌+◌, List, [], ◌∷◌, filter, take, codes}
+use Rattle.std.specs.Prelude.{ℕ, ◌+◌, List, [], ◌∷◌, filter, map, take, codes}
 use Rattle.std.specs.Prelude.{slice_index_or}
 use Rattle.serde_json.specs.Data.{Data, string, array, object, item, no_items, member, no_members}
 use Rattle.an_base.specs.TextSet.{has_text}
 use Rattle.an_iri.specs.Iris.{mark_iri}
 use Rattle.an_selectors.specs.Places.{quote_of_span}
 use Rattle.an_selectors.specs.declared.quote.Quote.{Quote}
-use Rattle.an_model.specs.Bodies.{texts_of, note_occurrences}
+use Rattle.an_terms.specs.declared.occurrence.Occurrence.{Occurrence}
+use Rattle.an_model.specs.Bodies.{texts_of, note_occurrences, occurrence_in}
 use Rattle.an_model.specs.declared.occurrence.NoteOccurrence.{NoteOccurrence}
 
 -- ---- which words are marked
@@ -37,13 +38,18 @@ target_tree source quote =
     (member (codes "source") (string source)
     (member (codes "type") (string (codes "SpecificResource")) no_members)))
 
+-- the annotation with this IRI that marks what is quoted of a source
+abbrev pub mark_of : List ℕ → List ℕ → Quote → Data
+mark_of iri source quote =
+    object (member (codes "id") (string iri)
+    (member (codes "motivation") (string (codes "highlighting"))
+    (member (codes "target") (target_tree source quote)
+    (member (codes "type") (string (codes "Annotation")) no_members))))
+
 -- the annotation that marks a word of these texts
 abbrev pub mark_tree : List (List ℕ) → List ℕ → List ℕ → ℕ → NoteOccurrence → Data
 mark_tree texts source page number word =
-    object (member (codes "id") (string (mark_iri page number))
-    (member (codes "motivation") (string (codes "highlighting"))
-    (member (codes "target") (target_tree source (quoted texts word))
-    (member (codes "type") (string (codes "Annotation")) no_members))))
+    mark_of (mark_iri page number) source (quoted texts word)
 
 -- ---- the marks of an annotation
 
@@ -58,3 +64,10 @@ marks_from texts source page number (word ∷ words) =
 unfoldable pub highlights_of : Data → List ℕ → List (List ℕ) → List ℕ → ℕ → List Data
 highlights_of tree source terms page number =
     marks_from (texts_of tree) source page number (marked terms (note_occurrences tree))
+
+-- ---- for private clauses
+
+-- the marks of words of one text, numbered on from this number
+abbrev pub text_marks : List ℕ → List ℕ → List ℕ → ℕ → List Occurrence → List Data
+text_marks text source page number words =
+    marks_from (text ∷ []) source page number (map (occurrence_in 0) words)

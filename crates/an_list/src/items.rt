@@ -1,7 +1,6 @@
 ghost use Rattle.std.specs.Prelude.{◌≡◌, ℕ, ◌+◌, ◌*◌, ◌<◌, ◌≤◌, ◌^◌, List, ◌∷◌, ◌++◌, []};
-ghost use Rattle.std.specs.Prelude.{length, map, vec_len, IfOk, OnOk, All, false};
-ghost use Rattle.serde_json.specs.View.{items_of, view};
-ghost use Rattle.serde_json.specs.Written.{has_float};
+ghost use Rattle.std.specs.Prelude.{length, IfOk, OnOk};
+ghost use Rattle.serde_json.specs.View.{items_of};
 ghost use Rattle.an_base.specs.Write.{item_commas};
 ghost use Rattle.an_iri.specs.Iris.{note_iri};
 ghost use Rattle.an_state.specs.State.{NoteState};
@@ -9,21 +8,16 @@ ghost use Rattle.an_list.specs.Marks.{highlights_of};
 ghost use Rattle.an_list.specs.Listed.{HasListed, StandAt, row_marks};
 
 use crate::listed::push_listed;
-use crate::marked::highlight;
-use an_base::{Steps, Text, TextSet, push_comma, push_value};
+use crate::marked::{Marks, highlight};
+use an_base::{Steps, Text, TextSet};
 use an_iri::note_iri;
 use an_keyed::Keyed;
 use an_state::{LiveNote, Look, NoteRow};
-use serde_json::Value;
 use std::alloc::{AllocError, Global};
 use std::sync::ledger::Ledger;
 
-/// The annotations that mark words, each behind a comma, and how many there are.
-#[derive(Drop)]
-pub struct Marks {
-    pub text: Vec<u8>,
-    pub count: usize,
-}
+/// How much room an annotation usually takes on a page, and how much its marks do.
+const USUAL: usize = 1024;
 
 /// The annotations of a page as lists give them, each behind a comma, and the marks in them.
 #[derive(Drop)]
@@ -72,7 +66,9 @@ fn list_rows<T: Look, L: Ledger>(
     ensures steps_most { steps.new ≤ steps.old + length places.now }
     ensures steps_least { steps.old ≤ steps.new }
 {
-    let mut listed = nothing_listed(alloc);
+    let room = places.len() * USUAL;
+    let marks_room = if terms.len() == 0 { 0 } else { room };
+    let mut listed = nothing_listed(alloc, room, marks_room)?;
     for place in places {
         match look.note_at(*place, steps) {
             Some(row) => listed = list_row(alloc, listed, row, terms, base, page)?,
@@ -82,18 +78,18 @@ fn list_rows<T: Look, L: Ledger>(
     Ok(listed)
 }
 
-fn nothing_listed(alloc: Global) -> Listed
+/// Nothing yet, with room for items and for marks.
+fn nothing_listed(alloc: Global, items: usize, marks: usize) -> Result<Listed, AllocError>
     ensures nothing { (base : List ℕ) (terms : List (List ℕ)) (page : List ℕ)
-        → HasListed base terms page [] result }
-    ensures none { result.marks.count ≡ 0 }
+        → IfOk result (λ listed. HasListed base terms page [] listed) }
+    ensures none { IfOk result (λ listed. listed.marks.count ≡ 0) }
 {
-    Listed {
-        items: Vec::new(alloc),
-        marks: Marks {
-            text: Vec::new(alloc),
-            count: 0,
-        },
-    }
+    let items = Vec::with_capacity(alloc, items)?;
+    let text = Vec::with_capacity(alloc, marks)?;
+    Ok(Listed {
+        items,
+        marks: Marks { text, count: 0 },
+    })
 }
 
 fn list_row(
@@ -136,52 +132,29 @@ fn push_marks(
         return Ok(marks);
     }
     match row.live() {
-        Some(live) => {
-            let values = marks_in(alloc, row, &live, terms, base, page, marks.count + 1)?;
-            push_values(alloc, marks, values.as_slice())
-        }
+        Some(live) => push_live_marks(alloc, marks, row, &live, terms, base, page),
         None => Ok(marks),
     }
 }
 
-fn marks_in(
+fn push_live_marks(
     alloc: Global,
+    marks: Marks,
     row: &NoteRow,
     live: &LiveNote<'_>,
     terms: &TextSet,
     base: &str,
     page: &str,
-    number: usize,
-) -> Result<Vec<Value>, AllocError>
-    requires numbers { number + 10 < 2 ^ 64 }
-    ensures marks { IfOk result (λ values. map view values.items
-        ≡ highlights_of live.now.tree.now (note_iri base.now row.now.owner row.now.name)
-        terms.now page.now number) }
-    ensures few { IfOk result (λ values. vec_len values ≤ 10) }
-    ensures whole { IfOk result (λ values. All (λ v. has_float (view v) ≡ false) values.items) }
+) -> Result<Marks, AllocError>
+    requires numbers { marks.count + 11 < 2 ^ 64 }
+    ensures text { IfOk result (λ new. new.text.items ≡ marks.text.items ++ item_commas
+        (items_of (highlights_of live.now.tree.now (note_iri base.now row.now.owner row.now.name)
+        terms.now page.now (marks.count + 1)))) }
+    ensures count { IfOk result (λ new. new.count ≡ marks.count
+        + length (highlights_of live.now.tree.now (note_iri base.now row.now.owner row.now.name)
+        terms.now page.now (marks.count + 1))) }
+    ensures few { IfOk result (λ new. new.count ≤ marks.count + 10) }
 {
-    let note = live.tree.note(alloc)?;
     let iri = note_iri(alloc, base, row.owned_by(), row.name())?;
-    highlight(alloc, &note, iri.as_str(), terms, page, number)
-}
-
-/// Adds marks, each behind a comma.
-#[tactic(auto, using(crate::proofs::PieceLemmas::pieces_left))]
-fn push_values(alloc: Global, marks: Marks, values: &[Value]) -> Result<Marks, AllocError>
-    requires numbers { marks.count + length values.now < 2 ^ 64 }
-    requires whole { All (λ v. has_float (view v) ≡ false) values.now }
-    ensures text { IfOk result (λ new. new.text.items
-        ≡ marks.text.items ++ item_commas (items_of (map view values.now))) }
-    ensures count { IfOk result (λ new. new.count ≡ marks.count + length values.now) }
-{
-    let Marks { text, count } = marks;
-    let mut text = text;
-    for value in values {
-        text = push_comma(text)?;
-        text = push_value(alloc, text, value)?;
-    }
-    Ok(Marks {
-        text,
-        count: count + values.len(),
-    })
+    highlight(alloc, marks, live.tree, iri.as_str(), terms, page)
 }

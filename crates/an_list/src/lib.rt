@@ -4,14 +4,15 @@
 //! ```text
 //! read_site(alloc, "http://a.example", "10")   Ok(site): a page has at most ten items
 //! Paging { page: 2, size: 10, total: 11 }      pages() is 2, start() is 10, and after() is None
-//! highlight(alloc, &note, source, &terms, page, 5)   where the note's text is "A heron." and the
-//!     terms are "heron": Ok of one mark, which has the id page + "#match-5" and quotes "heron"
+//! highlight(alloc, marks, &note, source, &terms, page)   where there are four marks, the note's
+//!     text is "A heron." and the terms are "heron": Ok of the marks and a fifth, which has the id
+//!     page + "#match-5" and quotes "heron"
 //! ```
 #![tactic(auto)]
 
 pub use error::ReadError;
-pub use items::{Listed, Marks, list_items};
-pub use marked::highlight;
+pub use items::{Listed, list_items};
+pub use marked::{Marks, highlight};
 pub use notes::{NoteList, page_of_notes};
 pub use page::{
     PageForm, Paging, Whole, page_iri, page_of, page_text, push_ignored, push_link_member,

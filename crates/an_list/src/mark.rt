@@ -1,75 +1,92 @@
-ghost use Rattle.std.specs.Prelude.{◌≡◌, IfOk};
-ghost use Rattle.serde_json.specs.View.{view};
-ghost use Rattle.an_list.specs.Marks.{quoted, quote_tree, target_tree, mark_tree};
-ghost use Rattle.an_list.specs.Placed.{IsPlacedIn};
+ghost use Rattle.std.specs.Prelude.{◌≡◌, ◌∷◌, ◌++◌, [], IfOk, codes};
+ghost use Rattle.serde_json.specs.Data.{array, item, no_items};
+ghost use Rattle.serde_json.specs.Written.{compact_text};
+ghost use Rattle.an_base.specs.Write.{item_text, member_text};
+ghost use Rattle.an_selectors.specs.Places.{LiesIn};
+ghost use Rattle.an_model.specs.Bodies.{occurrence_in};
+ghost use Rattle.an_list.specs.Marks.{mark_of, mark_tree, quote_tree, target_tree};
 
-use an_base::Text;
+use an_base::{close_items, close_members, push_comma, push_name, push_text_member};
 use an_iri::mark_iri;
-use an_model::NoteOccurrence;
 use an_selectors::{Quote, quote_at};
-use serde_json::{Value, json};
+use an_terms::Occurrence;
 use std::alloc::{AllocError, Global};
 
 /// How many code points of the text stand in a mark before and behind its word.
 const AROUND: usize = 16;
 
-/// The mark of a word of these texts, which are those of the annotation with the IRI `source`, with
-/// this number on a page.
-pub(crate) fn mark(
+/// Writes the mark of a word of this text of the annotation with the IRI `source`, which has this
+/// number on a page, behind a comma.
+pub(crate) fn push_mark(
     alloc: Global,
-    texts: &[Text],
-    word: &NoteOccurrence,
+    out: Vec<u8>,
+    text: &str,
+    word: &Occurrence,
     source: &str,
     page: &str,
     number: usize,
-) -> Result<Value, AllocError>
-    requires placed { IsPlacedIn texts.now word.now }
-    ensures { IfOk result (λ v. view v
-        ≡ mark_tree texts.now source.now page.now number word.now) }
+) -> Result<Vec<u8>, AllocError>
+    requires placed { LiesIn text.now word.now.span }
+    ensures text { IfOk result (λ v. v.items ≡ out.items ++ item_text (mark_tree
+        (text.now ∷ []) source.now page.now number (occurrence_in 0 word.now))) }
 {
+    let quote = quote_at(alloc, text, word.span, AROUND)?;
     let iri = mark_iri(alloc, page, number)?;
-    let target = target(alloc, texts, word, source)?;
-    json!(in alloc; {
-        "id": iri,
-        "motivation": "highlighting",
-        "target": target,
-        "type": "Annotation"
-    })
+    let out = push_comma(out)?;
+    let out = push_mark_of(out, iri.as_str(), source, &quote)?;
+    Ok(out)
 }
 
-/// The word in the annotation.
-fn target(
-    alloc: Global,
-    texts: &[Text],
-    word: &NoteOccurrence,
-    source: &str,
-) -> Result<Value, AllocError>
-    requires placed { IsPlacedIn texts.now word.now }
-    ensures { IfOk result (λ v. view v ≡ target_tree source.now (quoted texts.now word.now)) }
+/// Writes the mark with this IRI of what is quoted of a source.
+fn push_mark_of(out: Vec<u8>, iri: &str, source: &str, quote: &Quote) -> Result<Vec<u8>, AllocError>
+    ensures text { IfOk result (λ v. v.items
+        ≡ out.items ++ compact_text (mark_of iri.now source.now quote.now)) }
 {
-    let quote = quoted(alloc, texts, word)?;
-    let selector = quote_tree(alloc, &quote)?;
-    json!(in alloc; {"selector": [selector], "source": source, "type": "SpecificResource"})
+    let start = out.len();
+    let out = push_text_member(out, "id", iri)?;
+    let out = push_text_member(out, "motivation", "highlighting")?;
+    let out = push_target_member(out, source, quote)?;
+    let out = push_text_member(out, "type", "Annotation")?;
+    let out = close_members(out, start)?;
+    Ok(out)
 }
 
-/// The word as it is written, and what stands around it.
-fn quoted(alloc: Global, texts: &[Text], word: &NoteOccurrence) -> Result<Quote, AllocError>
-    requires placed { IsPlacedIn texts.now word.now }
-    ensures { IfOk result (λ quote. quote ≡ quoted texts.now word.now) }
+/// Writes the part of a source that is quoted, as the target.
+fn push_target_member(out: Vec<u8>, source: &str, quote: &Quote) -> Result<Vec<u8>, AllocError>
+    ensures text { IfOk result (λ v. v.items
+        ≡ out.items ++ member_text (codes "target") (target_tree source.now quote.now)) }
 {
-    quote_at(alloc, texts[word.text].as_str(), word.span, AROUND)
+    let out = push_name(out, "target")?;
+    let start = out.len();
+    let out = push_selector_member(out, quote)?;
+    let out = push_text_member(out, "source", source)?;
+    let out = push_text_member(out, "type", "SpecificResource")?;
+    let out = close_members(out, start)?;
+    Ok(out)
 }
 
-fn quote_tree(alloc: Global, quote: &Quote) -> Result<Value, AllocError>
-    ensures { IfOk result (λ v. view v ≡ quote_tree quote.now) }
+/// Writes the quote as the only selector.
+fn push_selector_member(out: Vec<u8>, quote: &Quote) -> Result<Vec<u8>, AllocError>
+    ensures text { IfOk result (λ v. v.items ≡ out.items
+        ++ member_text (codes "selector") (array (item (quote_tree quote.now) no_items))) }
 {
-    let exact = quote.exact.as_str();
-    let prefix = quote.prefix.as_str();
-    let suffix = quote.suffix.as_str();
-    json!(in alloc; {
-        "exact": exact,
-        "prefix": prefix,
-        "suffix": suffix,
-        "type": "TextQuoteSelector"
-    })
+    let out = push_name(out, "selector")?;
+    let start = out.len();
+    let out = push_comma(out)?;
+    let out = push_quote(out, quote)?;
+    let out = close_items(out, start)?;
+    Ok(out)
+}
+
+fn push_quote(out: Vec<u8>, quote: &Quote) -> Result<Vec<u8>, AllocError>
+    ensures text { IfOk result
+        (λ v. v.items ≡ out.items ++ compact_text (quote_tree quote.now)) }
+{
+    let start = out.len();
+    let out = push_text_member(out, "exact", quote.exact.as_str())?;
+    let out = push_text_member(out, "prefix", quote.prefix.as_str())?;
+    let out = push_text_member(out, "suffix", quote.suffix.as_str())?;
+    let out = push_text_member(out, "type", "TextQuoteSelector")?;
+    let out = close_members(out, start)?;
+    Ok(out)
 }

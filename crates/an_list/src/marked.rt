@@ -1,54 +1,80 @@
-ghost use Rattle.std.specs.Prelude.{◌≡◌, ◌+◌, ◌<◌, ◌≤◌, ◌^◌, All, IfOk, false, map, vec_len};
-ghost use Rattle.serde_json.specs.View.{view};
-ghost use Rattle.serde_json.specs.Written.{has_float};
-ghost use Rattle.an_base.specs.TextSet.{has_text};
-ghost use Rattle.an_list.specs.Marks.{highlights_of};
+ghost use Rattle.std.specs.Prelude.{◌≡◌, ◌+◌, ◌++◌, ◌<◌, ◌≤◌, ◌^◌, All, IfOk, length};
+ghost use Rattle.serde_json.specs.View.{items_of};
+ghost use Rattle.an_base.specs.Write.{item_commas};
+ghost use Rattle.an_terms.specs.Terms.{IsWordOf};
+ghost use Rattle.an_list.specs.Marks.{highlights_of, text_marks};
 
-use crate::mark::mark;
+use crate::mark::push_mark;
 use an_base::TextSet;
-use an_model::{Note, NoteOccurrence};
-use serde_json::Value;
+use an_model::KeptNote;
+use an_terms::{Occurrence, sought_occurrences};
 use std::alloc::{AllocError, Global};
 
 /// How many words of an annotation are marked.
 const MAX_MARKS: usize = 10;
 
-/// The annotations that mark the words of an annotation by which a search found it (match
+/// Annotations that mark words, as they are written, each behind a comma, and how many they are.
+#[derive(Drop)]
+pub struct Marks {
+    pub text: Vec<u8>,
+    pub count: usize,
+}
+
+/// Adds the annotations that mark the words of an annotation by which a search found it (match
 /// annotations of the IIIF Content Search API 2.0): the first ten whose term is one of `terms`, in
 /// their order. `source` is the IRI of the annotation, and `page` that of the page on which the
-/// marks stand, numbered on from `number`. The only error is want of memory.
+/// marks stand, where they are numbered on. The only error is want of memory.
 pub fn highlight(
     alloc: Global,
-    note: &Note,
+    marks: Marks,
+    note: &KeptNote,
     source: &str,
     terms: &TextSet,
     page: &str,
-    number: usize,
-) -> Result<Vec<Value>, AllocError>
+) -> Result<Marks, AllocError>
     // So that ten marks can be numbered.
-    requires numbers { number + 10 < 2 ^ 64 }
-    ensures marks { IfOk result (λ values. map view values.items
-        ≡ highlights_of note.now source.now terms.now page.now number) }
-    ensures few { IfOk result (λ values. vec_len values ≤ 10) }
-    ensures whole { IfOk result (λ values. All (λ v. has_float (view v) ≡ false) values.items) }
+    requires numbers { marks.count + 11 < 2 ^ 64 }
+    ensures text { IfOk result (λ new. new.text.items ≡ marks.text.items ++ item_commas (items_of
+        (highlights_of note.now source.now terms.now page.now (marks.count + 1)))) }
+    ensures count { IfOk result (λ new. new.count ≡ marks.count
+        + length (highlights_of note.now source.now terms.now page.now (marks.count + 1))) }
+    ensures few { IfOk result (λ new. new.count ≤ marks.count + 10) }
 {
-    let texts = note.texts();
-    let mut marks = Vec::new(alloc);
-    for word in note.occurrences() {
-        if marks.len() == MAX_MARKS {
-            return Ok(marks);
-        }
-        if is_sought(terms, word) {
-            let mark = mark(alloc, texts, word, source, page, number + marks.len())?;
-            marks.push(mark)?;
-        }
+    let texts = note.texts(alloc)?;
+    let most = marks.count + MAX_MARKS;
+    let mut marks = marks;
+    for text in texts.as_slice() {
+        let text = text.as_str();
+        let words = sought_occurrences(alloc, text, terms, most - marks.count)?;
+        marks = push_words(alloc, marks, text, words.as_slice(), source, page)?;
     }
     Ok(marks)
 }
 
-/// Whether the word's term is one of those that are sought.
-fn is_sought(terms: &TextSet, word: &NoteOccurrence) -> bool
-    ensures { result ≡ has_text word.now.term terms.now }
+/// Adds the marks of words of a text.
+fn push_words(
+    alloc: Global,
+    marks: Marks,
+    text: &str,
+    words: &[Occurrence],
+    source: &str,
+    page: &str,
+) -> Result<Marks, AllocError>
+    requires placed { All (IsWordOf text.now) words.now }
+    requires numbers { marks.count + length words.now < 2 ^ 64 }
+    ensures text { IfOk result (λ new. new.text.items ≡ marks.text.items ++ item_commas (items_of
+        (text_marks text.now source.now page.now (marks.count + 1) words.now))) }
+    ensures count { IfOk result (λ new. new.count ≡ marks.count + length words.now) }
 {
-    terms.has(word.term.as_str())
+    let Marks { text: out, count } = marks;
+    let mut out = out;
+    let mut number = count;
+    for word in words {
+        number += 1;
+        out = push_mark(alloc, out, text, word, source, page, number)?;
+    }
+    Ok(Marks {
+        text: out,
+        count: number,
+    })
 }

@@ -20,6 +20,9 @@ use an_base::{
 };
 use std::alloc::{AllocError, Global};
 
+/// How much room a page usually takes beside its items and its marks.
+const FRAME: usize = 1024;
+
 /// A list that is served in pages.
 #[derive(Drop)]
 pub struct Whole {
@@ -141,7 +144,9 @@ pub fn page_text(
         → marks.now ≡ item_commas marked → IfOk result (λ text. text ≡ compact_text (list_page
         context.now whole.now paging.page paging.size paging.total list marked ignored.now)) }
 {
-    let out = push_head(alloc, Vec::new(alloc), context, whole, paging, marks)?;
+    let room = items.len().saturating_add(marks.len());
+    let out = Vec::with_capacity(alloc, room.saturating_add(FRAME))?;
+    let out = push_head(alloc, out, context, whole, paging, marks)?;
     let out = push_content(alloc, out, whole, paging, items, ignored)?;
     let out = push_place(alloc, out, whole, paging)?;
     let out = close_members(out, 0)?;

@@ -16,6 +16,7 @@ use crate::register::Register;
 use an_base::{Name, TermTotal};
 use an_policy::{Classes, Who, may};
 use an_postings::Postings;
+use an_slots::is_among;
 use std::alloc::{AllocError, Global};
 
 impl Register {
@@ -182,7 +183,7 @@ fn all_read(alloc: Global, classes: &Classes, who: &Who<'_>) -> Result<Vec<usize
 }
 
 /// The places of the live rows that the caller may read, whatever manifest they are on. No list is
-/// kept of them: all rows are looked at.
+/// kept of them: all rows are looked at, and each class is judged once.
 pub(crate) fn readable_anywhere(
     alloc: Global,
     rows: &[Filed],
@@ -192,17 +193,29 @@ pub(crate) fn readable_anywhere(
     ensures places { IfOk result (λ places. places.items
         ≡ places_from (reads_within (identity who.now) classes.now None) 0 rows.now) }
 {
+    let read = all_read(alloc, classes, who)?;
+    places_of(alloc, rows, read.as_slice())
+}
+
+/// The places of the live rows of these classes, which ascend.
+fn places_of(alloc: Global, rows: &[Filed], read: &[usize]) -> Result<Vec<usize>, AllocError>
+    requires rises { Rises 0 read.now }
+    ensures { IfOk result (λ places. places.items ≡ places_from
+        (λ row. is_under None row.note && has row.class read.now) 0 rows.now) }
+{
     let mut places = Vec::new(alloc);
     for (place, row) in rows.iter().enumerate() {
-        if is_readable(row, classes, who) {
+        if is_of(row, read) {
             places.push(place)?;
         }
     }
     Ok(places)
 }
 
-fn is_readable(row: &Filed, classes: &Classes, who: &Who<'_>) -> bool
-    ensures { result ≡ reads_within (identity who.now) classes.now None row.now }
+/// Whether the row is live, and of one of these classes, which ascend.
+fn is_of(row: &Filed, read: &[usize]) -> bool
+    requires rises { Rises 0 read.now }
+    ensures { result ≡ (is_under None row.now.note && has row.now.class read.now) }
 {
-    row.note.get().live().is_some() && classes.readable(who, row.class)
+    row.note.get().live().is_some() && is_among(read, row.class)
 }

@@ -11,7 +11,7 @@ use crate::asks::readable_anywhere;
 use crate::filed::Filed;
 use crate::leaner::{let_go_all, put_over};
 use crate::register::Register;
-use an_base::{Name, TermTotal};
+use an_base::{Name, TermTotal, TryCopy};
 use an_policy::{Classes, Who};
 use std::alloc::{AllocError, Global};
 use std::marker::Model;
@@ -67,6 +67,22 @@ impl Listed {
             room: 0,
             gone: Vec::new(alloc),
         }
+    }
+
+    /// A copy, which shares the annotations and has room for no more rows: lists are copied as they
+    /// stand, which takes a small part of the time in which the rows are put. Its only error is out
+    /// of memory.
+    pub fn copy(&self) -> Result<Listed, AllocError>
+        ensures rows { IfOk result (λ copy. copy.rows ≡ self.now.rows) }
+    {
+        let alloc = *self.rows.allocator();
+        let rows = copied(alloc, self.rows.as_slice())?;
+        Ok(Listed {
+            rows,
+            register: self.register.copy()?,
+            room: 0,
+            gone: Vec::new(alloc),
+        })
     }
 
     /// The rows by their places.
@@ -230,4 +246,14 @@ impl Listed {
         self.register
             .terms_from(alloc, classes, who, manifest, prefix)
     }
+}
+
+fn copied(alloc: Global, rows: &[Filed]) -> Result<Vec<Filed>, AllocError>
+    ensures { IfOk result (λ copies. copies.items ≡ rows.now) }
+{
+    let mut copies = Vec::with_capacity(alloc, rows.len())?;
+    for row in rows {
+        copies.push(row.copy()?)?;
+    }
+    Ok(copies)
 }

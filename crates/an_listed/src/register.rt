@@ -1,8 +1,9 @@
-ghost use Rattle.std.specs.Prelude.{◌≡◌, []};
+ghost use Rattle.std.specs.Prelude.{◌≡◌, [], IfOk};
+ghost use Rattle.an_listed.specs.Leaner.{AreLeaner};
 ghost use Rattle.an_listed.specs.Stands.{Stands};
 
 use an_postings::Postings;
-use std::alloc::Global;
+use std::alloc::{AllocError, Global};
 
 /// What stands beside rows.
 #[derive(Drop)]
@@ -27,5 +28,16 @@ impl Register {
             anywhere: Postings::new(alloc),
             whole: Postings::new(alloc),
         }
+    }
+
+    /// A copy, which has memory for its places alone.
+    pub(crate) fn copy(&self) -> Result<Register, AllocError>
+        ensures leaner { IfOk result (λ copy. AreLeaner self.now copy) }
+    {
+        Ok(Register {
+            words: self.words.copy()?,
+            anywhere: self.anywhere.copy()?,
+            whole: self.whole.copy()?,
+        })
     }
 }

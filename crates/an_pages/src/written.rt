@@ -17,6 +17,10 @@ use std::alloc::{AllocError, Global};
 /// The context of containers (Linked Data Platform 1.0).
 const CONTAINER_CONTEXT: &str = "http://www.w3.org/ns/ldp.jsonld";
 
+/// What a page has besides its items, and a container besides its page, has room in so many bytes,
+/// where the IRIs are short.
+const PAGE_ROOM: usize = 1024;
+
 /// The text of a page as the container holds it, its members in the order of their names. `items`
 /// are the texts of the page's items, each behind a comma.
 pub(crate) fn held_text(
@@ -30,7 +34,8 @@ pub(crate) fn held_text(
     ensures text { (list : Items) → items.now ≡ item_commas list → IfOk result (λ v. v.items
         ≡ compact_text (held_page whole.now paging.page paging.size paging.total list)) }
 {
-    let out = push_content(alloc, Vec::new(alloc), whole, paging, items)?;
+    let room = Vec::with_capacity(alloc, items.len().saturating_add(PAGE_ROOM))?;
+    let out = push_content(alloc, room, whole, paging, items)?;
     let out = push_end(out, paging)?;
     let out = close_members(out, 0)?;
     Ok(out)
@@ -48,7 +53,8 @@ pub(crate) fn own_text(
     ensures text { (list : Items) → items.now ≡ item_commas list → IfOk result (λ text. text
         ≡ compact_text (own_page whole.now paging.page paging.size paging.total list)) }
 {
-    let out = push_text_member(Vec::new(alloc), "@context", NOTE_CONTEXT)?;
+    let room = Vec::with_capacity(alloc, items.len().saturating_add(PAGE_ROOM))?;
+    let out = push_text_member(room, "@context", NOTE_CONTEXT)?;
     let out = push_content(alloc, out, whole, paging, items)?;
     let out = push_part(alloc, out, whole, paging)?;
     let out = push_end(out, paging)?;
@@ -130,7 +136,8 @@ pub(crate) fn container_text(
     ensures text { (tree : Data) → first.now ≡ compact_text tree → IfOk result (λ text. text
         ≡ compact_text (container_tree whole.now tree paging.size paging.total)) }
 {
-    let out = push_contexts(alloc, Vec::new(alloc))?;
+    let room = Vec::with_capacity(alloc, first.len().saturating_add(PAGE_ROOM))?;
+    let out = push_contexts(alloc, room)?;
     let out = push_first(out, first)?;
     let out = push_whole(alloc, out, whole, paging)?;
     let out = close_members(out, 0)?;

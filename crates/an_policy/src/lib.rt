@@ -16,7 +16,9 @@ pub use inner::{
 };
 pub use kind::{Kind, as_seen};
 pub use names::Names;
-pub use permission::{is_member, is_named, may, may_read};
+pub use permission::{
+    deciding_owner, is_member, is_named, may, may_read, owners_add_nobody_to_everybody,
+};
 pub use reader::{Reader, ReaderError, Role, is_user, read_reader, user_of};
 pub use who::{Caller, Who};
 

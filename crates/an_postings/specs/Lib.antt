@@ -7,3 +7,6 @@ pub mod Gather
 pub mod Totals
 pub mod Told
 pub mod Walk
+pub mod Clones
+pub mod Heads
+pub mod HeadOrder

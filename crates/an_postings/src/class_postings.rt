@@ -23,6 +23,21 @@ pub struct ClassPostings {
     pub(crate) count: u128,
 }
 
+/// A copy has memory for its places alone.
+impl Clone for ClassPostings {
+    ghost use Rattle.an_postings.specs.Clones.{IsSameClass};
+
+    ghost is_clone = { IsSameClass };
+
+    fn clone(&self) -> Result<ClassPostings, AllocError> {
+        Ok(ClassPostings {
+            class: self.class,
+            places: self.places.clone()?,
+            count: self.count,
+        })
+    }
+}
+
 /// The postings of one term, ascending by class. Contracts see their list.
 #[derive(Drop)]
 pub(crate) struct TermPostings {
@@ -139,6 +154,18 @@ impl TermPostings {
         ensures ordered { IsOrdered result.now }
     {
         self.lists.as_slice()
+    }
+}
+
+/// A copy has memory for its places alone.
+impl Clone for TermPostings {
+    ghost use Rattle.an_postings.specs.Change.{IsLeaner};
+
+    ghost is_clone = { IsLeaner };
+
+    fn clone(&self) -> Result<TermPostings, AllocError> {
+        let lists = self.lists.clone()?;
+        Ok(TermPostings { lists })
     }
 }
 

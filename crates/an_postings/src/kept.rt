@@ -157,11 +157,25 @@ impl Places {
     /// A copy of them.
     pub fn copied(&self, alloc: Global) -> Result<Vec<u32>, AllocError>
         ensures places { IfOk result (λ places. places.items ≡ self.now.items) }
+        ensures rises { IfOk result (λ places. Rises 0 places.items) }
     {
         match &self.form {
             Form::Few(few) => copied(alloc, few.as_slice()),
             Form::Many(many) => many.copied(alloc),
         }
+    }
+}
+
+/// A copy has memory for its places alone, and none of those that are gone.
+impl Clone for Places {
+    ghost is_clone = { λ old new. new.items ≡ old.items };
+
+    fn clone(&self) -> Result<Places, AllocError> {
+        let few = self.copied(self.alloc)?;
+        Ok(Places {
+            alloc: self.alloc,
+            form: Form::Few(few),
+        })
     }
 }
 

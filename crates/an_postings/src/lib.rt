@@ -28,5 +28,6 @@ mod places;
 mod postings;
 mod prefix;
 mod sorted;
+mod term_key;
 mod totals;
 mod walk;

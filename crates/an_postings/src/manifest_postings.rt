@@ -11,6 +11,7 @@ ghost use Rattle.an_postings.specs.Totals.{Climbs, told_from};
 
 use crate::class_postings::{ClassPostings, TermPostings};
 use crate::prefix::told_in;
+use crate::term_key::{Sought, TermKey};
 use an_base::TermTotal;
 use std::alloc::{AllocError, Global};
 use std::collections::BTreeMap;
@@ -21,7 +22,7 @@ use std::marker::Model;
 #[derive(Drop)]
 pub(crate) struct ManifestPostings {
     alloc: Global,
-    terms: BTreeMap<String, TermPostings>,
+    terms: BTreeMap<TermKey, TermPostings>,
 }
 
 impl Model for ManifestPostings {
@@ -50,7 +51,7 @@ impl ManifestPostings {
         ensures ok { OnOk result (more ≤ room_at (under term.now self.new) class) }
         ensures roomier { IsChangedUnder term.now IsRoomier self.old self.new }
     {
-        match self.terms.get_mut(term) {
+        match self.terms.get_mut(Sought::of(term)) {
             Some(postings) => postings.room_add(class, more),
             None => self.begin(term, class, more),
         }
@@ -63,7 +64,7 @@ impl ManifestPostings {
     {
         let mut postings = TermPostings::new(self.alloc);
         postings.room_add(class, more)?;
-        let key = String::from_str(self.alloc, term)?;
+        let key = TermKey::of(self.alloc, term)?;
         match self.terms.insert(key, postings) {
             Ok(_) => Ok(()),
             Err(_) => Err(AllocError),
@@ -77,7 +78,7 @@ impl ManifestPostings {
             || nat_lt 0 (room_at (under term.now self.old) class)) }
         ensures added { IsChangedUnder term.now (IsAdded class place times) self.old self.new }
     {
-        match self.terms.get_mut(term) {
+        match self.terms.get_mut(Sought::of(term)) {
             Some(postings) => postings.add(class, place, times),
             None => unreachable!(),
         }
@@ -87,7 +88,7 @@ impl ManifestPostings {
     pub fn remove(&mut self, term: &str, class: usize, place: u32)
         ensures removed { IsChangedUnder term.now (IsRemoved class place) self.old self.new }
     {
-        match self.terms.get_mut(term) {
+        match self.terms.get_mut(Sought::of(term)) {
             Some(postings) => postings.remove(class, place),
             None => {}
         }
@@ -98,7 +99,7 @@ impl ManifestPostings {
         requires enough { times ≤ count_at (under term.now self.old) class }
         ensures taken { IsChangedUnder term.now (IsTaken class times) self.old self.new }
     {
-        match self.terms.get_mut(term) {
+        match self.terms.get_mut(Sought::of(term)) {
             Some(postings) => postings.take(class, times),
             None => {}
         }
@@ -128,7 +129,7 @@ impl ManifestPostings {
         ensures out { IsChangedUnder term.now (IsOut stays class place times) self.old self.new }
     {
         if self.take_out_in(term, class, place, times, stays) {
-            drop(self.terms.remove(term));
+            drop(self.terms.remove(Sought::of(term)));
         }
     }
 
@@ -137,7 +138,7 @@ impl ManifestPostings {
         ensures out { IsChangedUnder term.now (IsOut stays class place times) self.old self.new }
         ensures none { result ≡ true → under term.now self.new ≡ [] }
     {
-        match self.terms.get_mut(term) {
+        match self.terms.get_mut(Sought::of(term)) {
             Some(postings) => postings.take_out(class, place, times, stays),
             None => false,
         }
@@ -157,7 +158,7 @@ impl ManifestPostings {
         ensures leaner { IsChangedUnder term.now IsLeaner self.old self.new }
     {
         if self.let_go_in(term, class) {
-            drop(self.terms.remove(term));
+            drop(self.terms.remove(Sought::of(term)));
         }
     }
 
@@ -165,7 +166,7 @@ impl ManifestPostings {
         ensures leaner { IsChangedUnder term.now IsLeaner self.old self.new }
         ensures none { result ≡ true → under term.now self.new ≡ [] }
     {
-        match self.terms.get_mut(term) {
+        match self.terms.get_mut(Sought::of(term)) {
             Some(postings) => postings.let_go(class),
             None => false,
         }
@@ -182,7 +183,7 @@ impl ManifestPostings {
         ensures places { IfOk result (λ places. places.items
             ≡ ascending (flat_map (places_at (under term.now self.now)) classes.now)) }
     {
-        match self.terms.get(term) {
+        match self.terms.get(Sought::of(term)) {
             Some(postings) => postings.places(alloc, classes),
             None => Ok(Vec::new(alloc)),
         }
@@ -194,7 +195,7 @@ impl ManifestPostings {
         ensures others { IfOk result (λ classes. (class : ℕ) → has class classes.items ≡ false
             → places_at (under term.now self.now) class ≡ []) }
     {
-        match self.terms.get(term) {
+        match self.terms.get(Sought::of(term)) {
             Some(postings) => postings.classes(alloc),
             None => Ok(Vec::new(alloc)),
         }
@@ -206,7 +207,7 @@ impl ManifestPostings {
         requires rises { Rises 0 classes.now }
         ensures total { result ≡ capped (sum_by (count_at (under term.now self.now)) classes.now) }
     {
-        match self.terms.get(term) {
+        match self.terms.get(Sought::of(term)) {
             Some(postings) => postings.total(classes),
             None => 0,
         }
@@ -234,9 +235,25 @@ impl ManifestPostings {
         ensures lists { result.now ≡ under term.now self.now }
         ensures ordered { IsOrdered result.now }
     {
-        match self.terms.get(term) {
+        match self.terms.get(Sought::of(term)) {
             Some(postings) => postings.lists(),
             None => &[],
         }
+    }
+}
+
+/// A copy has memory for its places alone.
+impl Clone for ManifestPostings {
+    ghost use Rattle.an_postings.specs.Change.{IsLeaner};
+    ghost use Rattle.an_postings.specs.Clones.{EachUnder};
+
+    ghost is_clone = { EachUnder IsLeaner };
+
+    fn clone(&self) -> Result<ManifestPostings, AllocError> {
+        let terms = self.terms.clone()?;
+        Ok(ManifestPostings {
+            alloc: self.alloc,
+            terms,
+        })
     }
 }

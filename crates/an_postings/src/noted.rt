@@ -130,6 +130,7 @@ impl Noted {
     /// A copy of them.
     pub fn copied(&self, alloc: Global) -> Result<Vec<u32>, AllocError>
         ensures places { IfOk result (λ places. places.items ≡ self.now.items) }
+        ensures rises { IfOk result (λ places. Rises 0 places.items) }
     {
         copied(alloc, &self.all, &self.gone)
     }

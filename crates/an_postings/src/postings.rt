@@ -49,6 +49,18 @@ impl Postings {
         }
     }
 
+    /// A copy, which has memory for its places alone. Its only error is out of memory.
+    pub fn copy(&self) -> Result<Postings, AllocError>
+        ensures places { IfOk result (λ copy. places_in copy ≡ places_in self.now) }
+        ensures count { IfOk result (λ copy. count_in copy ≡ count_in self.now) }
+    {
+        let manifests = self.manifests.clone()?;
+        Ok(Postings {
+            alloc: self.alloc,
+            manifests,
+        })
+    }
+
     /// Takes the memory for so many places more of a manifest, term and class. Where it runs out,
     /// the places and the counts are the same, and there is no less room.
     pub fn room_add(

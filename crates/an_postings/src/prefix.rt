@@ -5,6 +5,7 @@ ghost use Rattle.an_slots.specs.Texts.{texts};
 ghost use Rattle.an_postings.specs.Totals.{Climbs, told_from};
 
 use crate::class_postings::TermPostings;
+use crate::term_key::TermKey;
 use an_base::{TermTotal, Text};
 use std::alloc::{AllocError, Global};
 use std::collections::BTreeMap;
@@ -14,7 +15,7 @@ use std::collections::BTreeMap;
 #[tactic(auto, unfolding(an_base::specs::Totals::capped))]
 pub(crate) fn told_in(
     alloc: Global,
-    terms: &BTreeMap<String, TermPostings>,
+    terms: &BTreeMap<TermKey, TermPostings>,
     prefix: &str,
     classes: &[usize],
 ) -> Result<Vec<TermTotal>, AllocError>
@@ -23,7 +24,7 @@ pub(crate) fn told_in(
         ≡ told_from prefix.now classes.now (texts terms.now.entries)) }
     ensures ascending { OnOk result (Climbs (texts terms.now.entries)) }
 {
-    let start = String::from_str(alloc, prefix)?;
+    let start = TermKey::of(alloc, prefix)?;
     let mut told = Vec::new(alloc);
     for (term, postings) in terms.range(start..) {
         if !has_prefix(term.as_str(), prefix) {

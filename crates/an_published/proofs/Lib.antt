@@ -1,5 +1,4 @@
 pub mod Lists
 pub mod Adding
 pub mod Steps
-pub mod Copies
 pub mod Crossings

@@ -8,7 +8,6 @@
 //! ```
 #![tactic(auto)]
 
-pub use copy::look_at;
 pub use event::KeptEvent;
 pub use history::{Head, Mark, begin, extend};
 pub use lock::{StoreWriter, align, earn, publish};
@@ -16,7 +15,6 @@ pub use published::{Addition, Published};
 pub use seat::{Seat, Shown};
 pub use seat_knowledge::Naming;
 
-mod copy;
 mod event;
 mod history;
 mod lock;

@@ -19,3 +19,4 @@ pub mod PlaceLemmas
 pub mod TurnLemmas
 pub mod MigrationLemmas
 pub mod FormerLemmas
+pub mod QuickLemmas

@@ -274,7 +274,7 @@ fn if_audience(owner: Option<&Name>, audience: Audience) -> Result<Audience, Row
 }
 
 #[tactic(auto, unfolding(crate::specs::Valid::is_valid_audience))]
-fn is_valid_audience(owner: Option<&Name>, audience: &Audience) -> bool
+pub(crate) fn is_valid_audience(owner: Option<&Name>, audience: &Audience) -> bool
     ensures { result ≡ is_valid_audience (option_copied owner.entry) audience.now }
 {
     is_manifest_group(&audience.outer) && is_inner(owner, audience)

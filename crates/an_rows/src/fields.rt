@@ -154,7 +154,7 @@ fn seconds_in(tree: &Value, member: &str) -> Option<i64>
     }
 }
 
-fn moment_of(seconds: i64) -> Option<Moment>
+pub(crate) fn moment_of(seconds: i64) -> Option<Moment>
     ensures { result ≡ only_if is_moment seconds }
 {
     Moment::new(seconds)
@@ -171,7 +171,7 @@ pub(crate) fn group_in(alloc: Global, tree: &Value, member: &str) -> Result<Grou
     }
 }
 
-fn group_of(alloc: Global, text: &str) -> Result<Group, RowError>
+pub(crate) fn group_of(alloc: Global, text: &str) -> Result<Group, RowError>
     ensures group { Gives (λ g. g) RowError.Memory result
         (ok_or (group_named text.now) RowError.Bytes) }
 {
@@ -223,7 +223,7 @@ pub(crate) fn creator_in(alloc: Global, tree: &Value) -> Result<Shared<Text>, Ro
     }
 }
 
-fn creator_of(alloc: Global, text: &str) -> Result<Shared<Text>, RowError>
+pub(crate) fn creator_of(alloc: Global, text: &str) -> Result<Shared<Text>, RowError>
     ensures { Gives (λ t. t) RowError.Memory result
         (ok_or (only_if is_user text.now) RowError.Bytes) }
 {

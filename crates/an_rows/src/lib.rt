@@ -23,6 +23,7 @@ pub use turning::migration;
 
 mod activities;
 mod changes;
+mod cut;
 mod fields;
 mod format;
 mod inner;
@@ -30,7 +31,9 @@ mod laws;
 mod manifests;
 mod members;
 mod notes;
+mod quick;
 mod readers;
 mod refusal;
 mod row;
 mod turning;
+mod valid;

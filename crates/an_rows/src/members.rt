@@ -11,8 +11,8 @@ use an_base::{
     push_text_member,
 };
 use an_policy::{Group, group_text};
-use json::Writer;
 use std::alloc::{AllocError, Global};
+use std::io::Write;
 
 /// Writes whether a row is live, behind a comma.
 pub(crate) fn push_flag(out: Vec<u8>, live: bool) -> Result<Vec<u8>, AllocError>
@@ -27,9 +27,13 @@ pub(crate) fn push_flag(out: Vec<u8>, live: bool) -> Result<Vec<u8>, AllocError>
 fn push_boolean(out: Vec<u8>, flag: bool) -> Result<Vec<u8>, AllocError>
     ensures text { IfOk result (λ v. v.items ≡ out.items ++ compact_text (boolean flag)) }
 {
-    let mut writer = Writer::new(out);
-    writer.boolean(flag)?;
-    Ok(writer.into_inner())
+    let mut out = out;
+    if flag {
+        out.extend_from_slice(b"true")?;
+        return Ok(out);
+    }
+    out.extend_from_slice(b"false")?;
+    Ok(out)
 }
 
 /// Writes the last member of a row but an activity, behind a comma.
@@ -50,12 +54,15 @@ pub(crate) fn push_moment(out: Vec<u8>, name: &str, moment: Moment) -> Result<Ve
     Ok(out)
 }
 
+#[tactic(auto, using(crate::proofs::PartLemmas::seconds_text))]
 fn push_seconds(out: Vec<u8>, seconds: i64) -> Result<Vec<u8>, AllocError>
     ensures text { IfOk result (λ v. v.items ≡ out.items ++ compact_text (moment_tree seconds)) }
 {
-    let mut writer = Writer::new(out);
-    writer.i64(seconds)?;
-    Ok(writer.into_inner())
+    let mut out = out;
+    match write!(out, "{seconds}") {
+        Ok(()) => Ok(out),
+        Err(_) => Err(AllocError),
+    }
 }
 
 /// Writes when something was changed, behind a comma; nothing where it wasn't.

@@ -225,7 +225,7 @@ fn live_note_named(
     Ok(live_row(owner, name, version, live))
 }
 
-fn live_row(owner: Name, name: Name, version: u32, live: ReadNote) -> NoteRow
+pub(crate) fn live_row(owner: Name, name: Name, version: u32, live: ReadNote) -> NoteRow
     ensures row { result ≡ record {
       owner = owner;
       name = name;
@@ -298,7 +298,7 @@ fn live_note_on(
 }
 
 /// What is kept of the annotation that a tree is.
-fn note_of(alloc: Global, tree: &Value) -> Result<KeptNote, RowError>
+pub(crate) fn note_of(alloc: Global, tree: &Value) -> Result<KeptNote, RowError>
     requires tree { IsTrue (is_tree (view tree.now)) }
     ensures note { Gives (λ n. n) RowError.Memory result
         (ok_or (result_ok (note_of (view tree.now))) RowError.Bytes) }

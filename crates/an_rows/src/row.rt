@@ -1,4 +1,4 @@
-ghost use Rattle.std.specs.Prelude.{◌≡◌, ◌++◌, IfOk, Ok};
+ghost use Rattle.std.specs.Prelude.{◌≡◌, ◌++◌, IfErr, IfOk, IfSome, Ok};
 ghost use Rattle.std.specs.Option.{ok_or};
 ghost use Rattle.std.specs.Result.{result_ok};
 ghost use Rattle.serde_json.specs.View.{view};
@@ -13,6 +13,7 @@ use crate::activities::{activity_in, push_activity};
 use crate::format::Format;
 use crate::manifests::{manifest_row_in, push_manifest};
 use crate::notes::{note_row_in, push_note};
+use crate::quick::{quick_activity, quick_note};
 use crate::readers::{push_reader, reader_row_in};
 use crate::refusal::RowError;
 use an_base::{Bytes, Shared, TreeError, close_members, read_value};
@@ -86,8 +87,50 @@ pub fn read_row(
     row_of_text(alloc, format, tab, bytes)
 }
 
-#[tactic(auto, unfolding(crate::specs::RowRead::row_of_text))]
 fn row_of_text(alloc: Global, format: Format, tab: u8, bytes: &[u8]) -> Result<Row, RowError>
+    ensures row { Gives (λ r. r) RowError.Memory result (row_of_text format tab bytes.now) }
+{
+    match quick_row(alloc, format, tab, bytes)? {
+        Some(row) => Ok(row),
+        None => whole_row(alloc, format, tab, bytes),
+    }
+}
+
+/// The row, where it is one of the many that are written today and cut easily.
+fn quick_row(alloc: Global, format: Format, tab: u8, bytes: &[u8]) -> Result<Option<Row>, RowError>
+    ensures row { IfOk result (λ found. IfSome found
+        (λ row. row_of_text format tab bytes.now ≡ Ok row)) }
+    ensures memory { IfErr result (λ e. e ≡ RowError.Memory) }
+{
+    match format {
+        Format::First => Ok(None),
+        Format::Second => quick_row_of(alloc, tab, bytes),
+    }
+}
+
+fn quick_row_of(alloc: Global, tab: u8, bytes: &[u8]) -> Result<Option<Row>, RowError>
+    ensures row { IfOk result (λ found. IfSome found
+        (λ row. row_of_text Format.Second tab bytes.now ≡ Ok row)) }
+    ensures memory { IfErr result (λ e. e ≡ RowError.Memory) }
+{
+    match tab {
+        3 => match quick_note(alloc, bytes) {
+            Ok(Some(row)) => Ok(Some(Row::Note(shared(alloc, row)?))),
+            Ok(None) => Ok(None),
+            Err(_) => Err(RowError::Memory),
+        },
+        4 => match quick_activity(alloc, bytes) {
+            Ok(Some(activity)) => Ok(Some(Row::Activity(shared(alloc, activity)?))),
+            Ok(None) => Ok(None),
+            Err(_) => Err(RowError::Memory),
+        },
+        _ => Ok(None),
+    }
+}
+
+/// The row as its JSON value says it.
+#[tactic(auto, unfolding(crate::specs::RowRead::row_of_text))]
+fn whole_row(alloc: Global, format: Format, tab: u8, bytes: &[u8]) -> Result<Row, RowError>
     ensures row { Gives (λ r. r) RowError.Memory result (row_of_text format tab bytes.now) }
 {
     let tree = value_in(alloc, bytes)?;
@@ -145,9 +188,10 @@ fn row_in(alloc: Global, format: Format, tab: u8, tree: &Value) -> Result<Row, R
     }
 }
 
-/// The row, which its copies will share.
+/// The row, which its copies will share. Its only error is want of memory.
 fn shared<R: Drop>(alloc: Global, row: R) -> Result<Shared<R>, RowError>
-    ensures { Gives (λ r. r) RowError.Memory result (Ok row) }
+    ensures row { Gives (λ r. r) RowError.Memory result (Ok row) }
+    ensures memory { IfErr result (λ e. e ≡ RowError.Memory) }
 {
     match Shared::new(alloc, row) {
         Ok(shared) => Ok(shared),

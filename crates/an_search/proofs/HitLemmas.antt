@@ -200,3 +200,16 @@ pub suited_rise : (s : State) (who : Identity) (manifest : Option (List ℕ)) (w
     → Rises 0 (filter (is_suited_at s.notes wanted) (candidate_places s who manifest wanted.terms))
 suited_rise s who manifest wanted =
     Rises-kept (is_suited_at s.notes wanted) 0 (candidate_places s who manifest wanted.terms) (candidates_rise s who manifest wanted.terms)
+
+-- ---- where only terms are wanted all candidates suit
+
+alone_in : (s : State) (wanted : Wanted) (kept : NoteState → Bool) → wants_terms_alone wanted ≡ true
+    → filter (is_suited_at s.notes wanted) (places_from kept 0 s.notes) ≡ places_from kept 0 s.notes
+alone_in s wanted kept alone =
+    tested_places (suits wanted) kept [] s.notes
+    ∙ same_places (λ row. kept row && suits wanted row) kept 0 s.notes (λ row. ap (λ b. kept row && b) (alone_suits wanted row alone) ∙ sym (and_true (kept row)))
+
+pub alone_places : (s : State) (who : Identity) (manifest : Option (List ℕ)) (wanted : Wanted) (terms : List (List ℕ)) → wants_terms_alone wanted ≡ true
+    → filter (is_suited_at s.notes wanted) (candidate_places s who manifest terms) ≡ candidate_places s who manifest terms
+alone_places s who manifest wanted [] alone = alone_in s wanted (is_sought s who manifest) alone
+alone_places s who manifest wanted (term ∷ terms) alone = alone_in s wanted (λ row. is_sought s who manifest row && has_term term row) alone

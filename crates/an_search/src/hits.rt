@@ -72,7 +72,8 @@ pub(crate) fn hits_within<T: Look, L: Ledger>(
     with_terms(alloc, look, who, manifest, suited, others.as_slice())
 }
 
-/// The places of those of the candidates that have what is wanted but for terms.
+/// The places of those of the candidates that have what is wanted but for terms. Where only terms
+/// are wanted that are all of them: each is fetched, and none is read.
 fn suited_places<T: Look, L: Ledger>(
     alloc: Global,
     look: &T,
@@ -92,7 +93,20 @@ fn suited_places<T: Look, L: Ledger>(
 {
     let terms = wanted.terms.as_slice();
     let places = candidate_places(alloc, look, who, manifest, terms)?;
-    suited_among(alloc, look, places.as_slice(), wanted, steps)
+    if wants_terms_alone(wanted) {
+        fetch_each(look, places.as_slice(), steps);
+        return Ok(places);
+    }
+    together(alloc, look, places.as_slice(), wanted, steps)
+}
+
+/// Fetches the annotation at each of these places, of which nothing has to be read.
+fn fetch_each<T: Look, L: Ledger>(look: &T, places: &[usize], steps: &mut Steps<L>)
+    ensures steps { steps.new ≡ steps.old + length places.now }
+{
+    for place in places {
+        let _ = look.note_at(*place, steps);
+    }
 }
 
 /// The places of the annotations that the caller may read and that have the first of the terms, or
@@ -121,74 +135,8 @@ pub(crate) struct Held<'a> {
     pub(crate) row: Option<&'a NoteRow>,
 }
 
-/// Those of the places where the annotations have what is wanted but for terms. Where only terms
-/// are wanted nothing of an annotation is read, so that none has to be waited for.
-fn suited_among<T: Look, L: Ledger>(
-    alloc: Global,
-    look: &T,
-    places: &[usize],
-    wanted: &Wanted,
-    steps: &mut Steps<L>,
-) -> Result<Vec<usize>, AllocError>
-    ensures places { IfOk result (λ suited. suited.items
-        ≡ filter (is_suited_at (T.state look.now).notes wanted.now) places.now) }
-    ensures steps { OnOk result (steps.new ≡ steps.old + length places.now) }
-    ensures steps_most { steps.new ≤ steps.old + length places.now }
-    ensures steps_least { steps.old ≤ steps.new }
-{
-    if wants_terms_alone(wanted) {
-        one_by_one(alloc, look, places, wanted, steps)
-    } else {
-        together(alloc, look, places, wanted, steps)
-    }
-}
-
-/// The same, where each is judged once it is fetched.
-#[tactic(auto, using(an_list::proofs::PieceLemmas::pieces_left))]
-fn one_by_one<T: Look, L: Ledger>(
-    alloc: Global,
-    look: &T,
-    places: &[usize],
-    wanted: &Wanted,
-    steps: &mut Steps<L>,
-) -> Result<Vec<usize>, AllocError>
-    ensures places { IfOk result (λ suited. suited.items
-        ≡ filter (is_suited_at (T.state look.now).notes wanted.now) places.now) }
-    ensures steps { OnOk result (steps.new ≡ steps.old + length places.now) }
-    ensures steps_most { steps.new ≤ steps.old + length places.now }
-    ensures steps_least { steps.old ≤ steps.new }
-{
-    let mut suited = Vec::with_capacity(alloc, places.len())?;
-    let mut last = known_first(wanted);
-    for place in places {
-        if is_suited_at(look, *place, wanted, &mut last, steps) {
-            suited.push(*place)?;
-        }
-    }
-    Ok(suited)
-}
-
-/// Whether there is an annotation at the place that was deleted or has what is wanted but for
-/// terms.
-fn is_suited_at<'a, T: Look, L: Ledger>(
-    look: &'a T,
-    place: usize,
-    wanted: &Wanted,
-    last: &mut Last<'a>,
-    steps: &mut Steps<L>,
-) -> bool
-    requires known { AreKnown wanted.now last.old }
-    ensures suited { result ≡ is_suited_at (T.state look.now).notes wanted.now place }
-    ensures known { AreKnown wanted.now last.new }
-    ensures step { steps.new ≡ steps.old + 1 }
-{
-    match look.note_at(place, steps) {
-        Some(row) => suits(row, wanted, last),
-        None => false,
-    }
-}
-
-/// The same, where some are fetched before the first of them is judged.
+/// Those of the places where the annotations have what is wanted but for terms. Some are fetched
+/// before the first of them is judged.
 fn together<T: Look, L: Ledger>(
     alloc: Global,
     look: &T,

@@ -10,3 +10,4 @@ pub mod WrittenLemmas
 pub mod NoteLemmas
 pub mod NoteTreeLemmas
 pub mod LabelLemmas
+pub mod PageLemmas

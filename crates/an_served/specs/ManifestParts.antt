@@ -2,11 +2,13 @@
 -- written of one that is served.
 use Rattle.std.specs.Prelude.{ℕ, ◌-◌, ◌≤◌, ◌≡◌, List, [], ◌∷◌, ◌++◌, codes, length}
 use Rattle.std.specs.Prelude.{slice_range, if◌then◌else◌}
+use Rattle.json.specs.Print.{escape}
 use Rattle.serde_json.specs.Data.{Data, Members, no_members, member}
 use Rattle.serde_json.specs.Written.{compact_text}
 use Rattle.an_base.specs.Cut.{is_before, below, members_in}
 use Rattle.an_base.specs.Items.{trees_in}
 use Rattle.an_base.specs.Write.{member_text, commas, item_commas}
+use Rattle.an_iri.specs.Iris.{manifest_iri}
 use Rattle.an_manifest.specs.declared.cut.Cut.{Cut}
 
 -- the members whose names stand behind this one
@@ -58,3 +60,8 @@ ending_text members services =
     let back = beyond (codes "items") members in
     commas (below (codes "service") back) ++ (member_text (codes "service") services
     ++ commas (beyond (codes "service") back))
+
+-- the text of the page of a canvas, up to the canvas's number
+unfoldable pub page_front : List ℕ → List ℕ → List ℕ
+page_front base name =
+    codes "{\"id\":\"" ++ (escape (manifest_iri base name) ++ codes "/canvases/")

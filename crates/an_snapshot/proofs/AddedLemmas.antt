@@ -1,5 +1,5 @@
 -- What an entry adds to a state's changes.
-use Rattle.std.proofs.Common.{◌≡◌, List, [], ◌∷◌, ◌++◌, All, refl, sym, ap, ◌∙◌}
+use Rattle.std.proofs.Common.{◌≡◌, List, [], ◌∷◌, ◌++◌, All, refl, sym, ap, subst, ◌∙◌}
 use Rattle.std.specs.List.{flat_map}
 use Rattle.std.proofs.lemmas.List.{map-append}
 use Rattle.std.proofs.lemmas.List.Elements.{All-append}
@@ -12,10 +12,12 @@ use Rattle.an_state.specs.declared.entry.Entry.{Entry}
 use Rattle.an_state.specs.declared.entry.Entry.TheVariants.{Restored, Done}
 use Rattle.an_state.specs.declared.entry.Row.{Row}
 use Rattle.an_state.specs.declared.entry.Row.TheVariants as kept
-use Rattle.an_snapshot.specs.Changes.{AreChanges, IsChangeFiled, activities_in, added_by, added_by_row}
+use Rattle.an_snapshot.specs.Changes.{AreChanges, IsChangeFiled, KeptChanges, activities_in, added_by, added_by_row}
+use Rattle.an_snapshot.specs.Pairs.{Extends}
 use Rattle.an_snapshot.specs.declared.change.FiledChange.{FiledChange}
 use Rattle.an_snapshot.proofs.AllLemmas.{All-gives, All-nil}
 use Rattle.an_snapshot.proofs.ChangeLemmas.{change-grown}
+use Rattle.an_snapshot.proofs.PairLemmas.{Extends-refl}
 use Rattle.an_snapshot.proofs.StepLemmas.{listing-grown}
 
 -- ---- activities
@@ -49,26 +51,39 @@ entry-adds (Done command moment by rows activities) s =
 
 -- ---- changes
 
-pub changes-empty : AreChanges empty [] []
-changes-empty = record { activities = refl; filed = All-nil (IsChangeFiled []) }
+pub changes-empty : (kept : KeptChanges) → kept.rows ≡ [] → AreChanges empty [] kept
+changes-empty kept none = record { activities = ap activities_in none; filed = subst (All (IsChangeFiled [] kept.pairs)) (sym none) (All-nil (IsChangeFiled [] kept.pairs)) }
 
--- with more classes the changes are kept still
-pub changes-grown : (s : State) (old new : List Audience) (changes : List FiledChange) → Grows old new → AreChanges s old changes → AreChanges s new changes
-changes-grown s old new changes grows are = record {
-  activities = are.activities;
-  filed = All-gives (IsChangeFiled old) (IsChangeFiled new) changes (change-grown old new grows) are.filed;
+-- with more classes and pairs the changes are kept still
+pub changes-grown : (s : State) (old new : List Audience) (before after : KeptChanges) → Grows old new → Extends before.pairs after.pairs → after.rows ≡ before.rows → AreChanges s old before → AreChanges s new after
+changes-grown s old new before after grows extends rows are = record {
+  activities = ap activities_in rows ∙ are.activities;
+  filed = subst (All (IsChangeFiled new after.pairs)) (sym rows)
+      (All-gives (IsChangeFiled old before.pairs) (IsChangeFiled new after.pairs) before.rows (change-grown old new grows before.pairs after.pairs extends) are.filed);
 }
+
+-- the same with the same pairs
+pub classes-grown : (s : State) (old new : List Audience) (kept : KeptChanges) → Grows old new → AreChanges s old kept → AreChanges s new kept
+classes-grown s old new kept grows = changes-grown s old new kept kept grows (Extends-refl kept.pairs) refl
+
+-- the same where the entry's rows are planned too
+pub changes-prepared : (s t : State) (first old new : List Audience) (before after : KeptChanges) → t ≡ s → Grows first old → Grows old new → Extends before.pairs after.pairs → after.rows ≡ before.rows
+    → AreChanges s first before → AreChanges t new after
+changes-prepared s t first old new before after same grows more extends rows are =
+    subst (λ (u : State). AreChanges u new after) (sym same) (classes-grown s old new after more (changes-grown s first old before after grows extends rows are))
 
 pub ruleset kept_changes = (changes-grown, listing-grown)
 
 -- behind an entry its changes are kept too
-pub changes-after : (entry : Entry) (s : State) (classes : List Audience) (before added : List FiledChange) → AreChanges s classes before
-    → activities_in added ≡ added_by entry → All (IsChangeFiled classes) added → AreChanges (after s entry) classes (before ++ added)
-changes-after entry s classes before added are is filed = record {
+pub changes-after : (entry : Entry) (s : State) (classes : List Audience) (before later : KeptChanges) (added : List FiledChange) → AreChanges s classes before
+    → later.rows ≡ before.rows ++ added → later.pairs ≡ before.pairs
+    → activities_in added ≡ added_by entry → All (IsChangeFiled classes before.pairs) added → AreChanges (after s entry) classes later
+changes-after entry s classes before later added are rows pairs is filed = record {
   activities =
-      map-append (λ (change : FiledChange). change.activity) before added
+      ap activities_in rows
+      ∙ map-append (λ (change : FiledChange). change.activity) before.rows added
       ∙ ap (λ (l : List Activity). l ++ activities_in added) are.activities
       ∙ ap (λ (l : List Activity). s.activities ++ l) is
       ∙ sym (entry-adds entry s);
-  filed = All-append (IsChangeFiled classes) before added are.filed filed;
+  filed = rw (rows, pairs) (All-append (IsChangeFiled classes before.pairs) before.rows added are.filed filed);
 }

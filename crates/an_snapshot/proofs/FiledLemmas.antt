@@ -5,6 +5,7 @@ use Rattle.std.proofs.lemmas.Bool.{cases_Bool, and_parts}
 use Rattle.std.proofs.lemmas.Option.{same_Some}
 use Rattle.an_base.specs.Outcome.{passes}
 use Rattle.an_keyed.specs.Key.{Key, same_key}
+use Rattle.an_policy.specs.Audience.{deciding}
 use Rattle.an_policy.specs.Group.{same_group}
 use Rattle.an_policy.specs.declared.group.Audience.{Audience}
 use Rattle.an_policy.specs.declared.group.Group.{Group}
@@ -96,5 +97,5 @@ all-map f p (x ∷ xs) = rw (all-map f p xs) refl
 pub filed-kept : (rows : List Row) (s : State) (old new : List Audience) (listed : List Filed) → Grows old new → keep_groups s rows ≡ true → IsListing s old listed → All (IsFiled (with_rows rows s) new) listed
 filed-kept rows s old new listed grows keeps listing =
     All-weaker (λ filed. stands_on_live s filed.note) (IsFiled s old) (IsFiled (with_rows rows s) new) listed
-    (λ filed stands is audience then. grows audience filed.class (is audience (audience-kept rows s filed.note audience keeps stands then)))
+    (λ filed stands is audience then. grows (deciding audience) filed.class (is audience (audience-kept rows s filed.note audience keeps stands then)))
     (sym (all-map (λ (filed : Filed). filed.note) (stands_on_live s) listed) ∙ ap (list_all (stands_on_live s)) listing.notes ∙ listing.stand) listing.filed

@@ -8,3 +8,9 @@ pub mod ReadLemmas
 pub mod StepLemmas
 pub mod ChangeLemmas
 pub mod AddedLemmas
+pub mod PairLemmas
+pub mod PairListLemmas
+pub mod SeenListLemmas
+pub mod PageLemmas
+pub mod StreamLemmas
+pub mod CopyLemmas

@@ -7,7 +7,7 @@ use Rattle.std.proofs.lemmas.List.Elements.{All-head, All-tail}
 use Rattle.std.proofs.lemmas.List.Quantifiers.{position-Some}
 use Rattle.std.proofs.lemmas.Option.{slice_get_read}
 use Rattle.an_base.specs.Outcome.{passes}
-use Rattle.an_policy.specs.Audience.{Identity, is_in, is_inside, is_owner, may}
+use Rattle.an_policy.specs.Audience.{Identity, deciding, is_in, is_inside, is_owner, may}
 use Rattle.an_policy.specs.declared.group.Audience.{Audience}
 use Rattle.an_state.specs.Sound.{stands_on_live, is_live_manifest}
 use Rattle.an_state.specs.State.{State, ManifestState, NoteState, LiveNote, manifest_row}
@@ -18,23 +18,28 @@ use Rattle.an_policy.specs.Classes.{class_of, same_audience}
 use Rattle.an_listed.specs.Filed.{reads, reads_within}
 use Rattle.an_listed.specs.declared.filed.Filed.{Filed}
 use Rattle.an_policy.proofs.AudienceLemmas.{same_audience-true}
+use Rattle.an_policy.proofs.DecidingLemmas.{may_deciding}
 use Rattle.an_snapshot.proofs.AllLemmas.{All-gives, All-weaker}
 use Rattle.an_snapshot.specs.Listing.{IsFiled, IsListing}
 
 -- ---- one annotation
 
 -- the audience of a class
-pub class-audience : (a : Audience) (classes : List Audience) (k : ℕ) → class_of a classes ≡ Some k → slice_get classes k ≡ Some a
+class-audience : (a : Audience) (classes : List Audience) (k : ℕ) → class_of a classes ≡ Some k → slice_get classes k ≡ Some a
 class-audience a classes k is =
     let at = position-Some (λ audience. same_audience audience a) classes k a is in
     slice_get_read classes (length classes) k a refl at.0 (sym (same_audience-true (get_or classes k a) a at.1))
 
+-- who may read what has an audience may read what is of its class
+pub class-reads : (who : Identity) (a : Audience) (classes : List Audience) (k : ℕ) → class_of (deciding a) classes ≡ Some k → passes (may who) (slice_get classes k) ≡ may who a
+class-reads who a classes k is = ap (passes (may who)) (class-audience (deciding a) classes k is) ∙ may_deciding who a
+
 module _ (s : State) (classes : List Audience) (who : Identity) where
   read-live : (row : NoteState) (class : ℕ) (live : LiveNote) (found : Option ManifestState) → passes (λ m. is_some m.live) found ≡ true
-      → ((a : Audience) → option_map (λ m. note_audience m row live) found ≡ Some a → class_of a classes ≡ Some class)
+      → ((a : Audience) → option_map (λ m. note_audience m row live) found ≡ Some a → class_of (deciding a) classes ≡ Some class)
       → reads who classes class ≡ passes (λ m. may who (note_audience m row live)) found
   read-live row class live None stands filed = absurd (cc)
-  read-live row class live (Some m) stands filed = ap (passes (may who)) (class-audience (note_audience m row live) classes class (filed (note_audience m row live) refl))
+  read-live row class live (Some m) stands filed = class-reads who (note_audience m row live) classes class (filed (note_audience m row live) refl)
 
   -- who may read the annotation may read its manifest, since the outer group is asked of both
   read-shown : (row : NoteState) (class : ℕ) (live : LiveNote) (found : Option ManifestState) → passes (λ m. is_some m.live) found ≡ true
@@ -57,7 +62,7 @@ module _ (s : State) (classes : List Audience) (who : Identity) where
   shown_within (Some m) live = within (Some m) live
 
   either : (sought : Option (List ℕ)) (row : NoteState) (class : ℕ) (live : Option LiveNote)
-      → ((a : Audience) → option_and_then (λ l. option_map (λ m. note_audience m row l) (manifest_row s l.manifest)) live ≡ Some a → class_of a classes ≡ Some class)
+      → ((a : Audience) → option_and_then (λ l. option_map (λ m. note_audience m row l) (manifest_row s l.manifest)) live ≡ Some a → class_of (deciding a) classes ≡ Some class)
       → (elim live [ None ↦ true | Some l ↦ is_live_manifest s l.manifest ]) ≡ true
       → (within sought live && reads who classes class)
       ≡ (shown_within sought live && passes (λ l. passes (λ m. may who (note_audience m row l)) (manifest_row s l.manifest)) live)

@@ -3,10 +3,12 @@ use Rattle.std.proofs.Common.{◌≡◌, true, List, [], ◌∷◌, ◌++◌, Al
 use Rattle.std.specs.List.{flat_map}
 use Rattle.std.proofs.lemmas.Bool.{and_parts}
 use Rattle.std.proofs.lemmas.List.Elements.{All-append, All-cons, All-head, All-tail}
+use Rattle.an_policy.specs.Audience.{deciding}
 use Rattle.an_policy.specs.Classes.{Grows}
 use Rattle.an_policy.specs.declared.group.Audience.{Audience}
 use Rattle.an_state.specs.Entries.{with_row, with_rows, after}
-use Rattle.an_state.specs.State.{State, ManifestState, NoteState, empty, is_distinct}
+use Rattle.an_keyed.proofs.PutLemmas.{distinct-put_row}
+use Rattle.an_state.specs.State.{State, ManifestState, NoteState, empty, is_distinct, keys_are_distinct, reader_key}
 use Rattle.an_state.specs.View.{audience_of_note}
 use Rattle.an_state.specs.declared.activity.Activity.{Activity}
 use Rattle.an_state.specs.declared.entry.Entry.{Entry}
@@ -34,7 +36,7 @@ use Rattle.an_snapshot.proofs.StandOver.{stand-rows}
 
 pub step-grown : (s : State) (manifests : List ManifestState) (old new : List Audience) → Grows old new → (step : PlannedRow) → IsStepOver s manifests old step → IsStepOver s manifests new step
 step-grown s manifests old new grows (Other row) is = is
-step-grown s manifests old new grows (Note row filed) is = (is.0, λ audience then. grows audience filed.class (is.1 audience then))
+step-grown s manifests old new grows (Note row filed) is = (is.0, λ audience then. grows (deciding audience) filed.class (is.1 audience then))
 
 pub step-behind : (rows : List Row) (s : State) (manifests : List ManifestState) → manifests ≡ (with_rows rows empty).manifests → (classes : List Audience) (step : PlannedRow)
     → IsStepOver s manifests classes step → IsStep (with_rows rows s) classes step
@@ -97,17 +99,35 @@ steps-filed s classes (step ∷ steps) all =
     All-append (IsFiled s classes) (filed_in step) (flat_map filed_in steps)
     (step-filed s classes step (All-head (IsStep s classes) step steps all)) (steps-filed s classes steps (All-tail (IsStep s classes) step steps all))
 
+-- ---- the names of readers
+
+readers-row : (s : State) (row : Row) → keys_are_distinct reader_key s.readers ≡ true → keys_are_distinct reader_key (with_row s row).readers ≡ true
+readers-row s (kept.Reader row) distinct = distinct-put_row reader_key row s.readers distinct
+readers-row s (kept.Manifest row) distinct = distinct
+readers-row s (kept.Note row) distinct = distinct
+readers-row s (kept.Activity activity) distinct = distinct
+
+readers-rows : (rows : List Row) (s : State) → keys_are_distinct reader_key s.readers ≡ true → keys_are_distinct reader_key (with_rows rows s).readers ≡ true
+readers-rows [] s distinct = distinct
+readers-rows (row ∷ rows) s distinct = readers-rows rows (with_row s row) (readers-row s row distinct)
+
+-- no entry gives two readers one name
+readers-after : (s : State) (entry : Entry) → keys_are_distinct reader_key s.readers ≡ true → keys_are_distinct reader_key (after s entry).readers ≡ true
+readers-after s (Restored row) distinct = readers-row s row distinct
+readers-after s (Done command moment by rows activities) distinct = readers-rows rows s distinct
+
 -- ---- a listing
 
 pub listing-empty : IsListing empty [] []
-listing-empty = record { notes = refl; filed = All-nil (IsFiled empty []); distinct = distinct-empty; stand = refl }
+listing-empty = record { notes = refl; filed = All-nil (IsFiled empty []); distinct = distinct-empty; readers = refl; stand = refl }
 
 -- with more classes it is a listing still
 pub listing-grown : (s : State) (old new : List Audience) (rows : List Filed) → Grows old new → IsListing s old rows → IsListing s new rows
 listing-grown s old new rows grows listing = record {
   notes = listing.notes;
-  filed = All-gives (IsFiled s old) (IsFiled s new) rows (λ filed is audience then. grows audience filed.class (is audience then)) listing.filed;
+  filed = All-gives (IsFiled s old) (IsFiled s new) rows (λ filed is audience then. grows (deciding audience) filed.class (is audience then)) listing.filed;
   distinct = listing.distinct;
+  readers = listing.readers;
   stand = listing.stand;
 }
 
@@ -127,5 +147,6 @@ listing-after entry s old new before behind listing is notes filed = record {
   notes = notes;
   filed = filed-after entry s new behind filed;
   distinct = distinct-after s entry listing.distinct;
+  readers = readers-after s entry listing.readers;
   stand = fits-stand s entry is;
 }

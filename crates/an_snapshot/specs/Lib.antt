@@ -4,4 +4,8 @@ pub mod Over
 pub mod Steps
 pub mod Plan
 pub mod Listing
+pub mod Pairs
+pub mod PairHash
+pub mod PairLists
 pub mod Changes
+pub mod Stream

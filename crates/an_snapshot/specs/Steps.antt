@@ -1,5 +1,6 @@
 -- For private clauses: the steps that rows come to.
 use Rattle.std.specs.Prelude.{◌≡◌, ℕ, List, [], ◌∷◌, Some, ⊤}
+use Rattle.an_policy.specs.Audience.{deciding}
 use Rattle.an_policy.specs.Classes.{class_of}
 use Rattle.an_policy.specs.declared.group.Audience.{Audience}
 use Rattle.an_state.specs.State.{State, ManifestState, NoteState}
@@ -40,11 +41,12 @@ abbrev pub IsStep : State → List Audience → PlannedRow → Type 0
 IsStep s classes (Other row) = IsOther row
 IsStep s classes (Note row filed) = (filed.note ≡ row) × IsFiled s classes filed
 
--- a live annotation whose manifest has a row then is filed under the class of its audience
+-- a live annotation whose manifest has a row then is filed under the class of what of its audience
+-- decides who may read it
 abbrev pub IsFiledOver : State → List ManifestState → List Audience → NoteState → ℕ → Type 0
 IsFiledOver s manifests classes row class =
     (audience : Audience) → audience_over s manifests row ≡ Some audience
-    → class_of audience classes ≡ Some class
+    → class_of (deciding audience) classes ≡ Some class
 
 -- the same over these manifests
 abbrev pub IsStepOver : State → List ManifestState → List Audience → PlannedRow → Type 0

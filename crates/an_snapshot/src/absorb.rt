@@ -28,9 +28,9 @@ pub(crate) fn take_room(
     entry: &Entry,
 ) -> Result<(), AllocError>
     requires listing { IsListing book.old.state classes.old listed.old.rows }
-    requires changes { AreChanges book.old.state classes.old changes.old.rows }
+    requires changes { AreChanges book.old.state classes.old changes.old }
     ensures listing { IsListing book.new.state classes.new listed.new.rows }
-    ensures changes { AreChanges book.new.state classes.new changes.new.rows }
+    ensures changes { AreChanges book.new.state classes.new changes.new }
     ensures state { book.new.state ≡ book.old.state }
 {
     changes_of(alloc, classes, changes, entry)?;
@@ -49,9 +49,9 @@ pub(crate) fn absorb(
     entry: &Entry,
 ) -> Result<(), AllocError>
     requires listing { IsListing book.old.state classes.old listed.old.rows }
-    requires changes { AreChanges book.old.state classes.old changes.old.rows }
+    requires changes { AreChanges book.old.state classes.old changes.old }
     ensures listing { IsListing book.new.state classes.new listed.new.rows }
-    ensures changes { AreChanges book.new.state classes.new changes.new.rows }
+    ensures changes { AreChanges book.new.state classes.new changes.new }
     ensures ok { OnOk result (book.new.state ≡ state_with book.old.state entry.now) }
     ensures err { OnErr result (book.new.state ≡ book.old.state) }
 {

@@ -4,15 +4,17 @@ ghost use Rattle.std.specs.Option.{option_copied};
 ghost use Rattle.an_policy.specs.Classes.{Grows};
 ghost use Rattle.an_snapshot.specs.Changes.{IsChangeFiled, IsClassOf, activities_in, added_by};
 ghost use Rattle.an_snapshot.specs.Changes.{added_by_row};
+ghost use Rattle.an_snapshot.specs.Pairs.{Extends};
 
 use crate::change::{ClassChange, FiledChange};
 use crate::changes::Changes;
+use crate::deciding::deciding_class;
 use an_base::{Shared, TryCopy, to_u32};
 use an_policy::{Audience, Classes};
 use an_state::{Activity, Entry, Row};
 use std::alloc::{AllocError, Global};
 
-/// The changes that the entry adds, each with its classes. Takes all memory that they need.
+/// The changes that the entry adds, each with its pair. Takes all memory that they need.
 pub(crate) fn changes_of(
     alloc: Global,
     classes: &mut Classes,
@@ -21,12 +23,14 @@ pub(crate) fn changes_of(
 ) -> Result<Vec<FiledChange>, AllocError>
     ensures grows { Grows classes.old classes.new }
     ensures rows { changes.new.rows ≡ changes.old.rows }
+    ensures extends { Extends changes.old.pairs changes.new.pairs }
     ensures added { IfOk result (λ added. activities_in added.items ≡ added_by entry.now) }
-    ensures filed { IfOk result (λ added. All (IsChangeFiled classes.new) added.items) }
+    ensures filed { IfOk result
+        (λ added. All (IsChangeFiled classes.new changes.new.pairs) added.items) }
     ensures room { IfOk result (λ added. length added.items ≤ changes.new.room) }
 {
     let activities = added_by(alloc, entry)?;
-    let added = file_all(alloc, classes, activities)?;
+    let added = file_all(alloc, classes, changes, activities)?;
     changes.make_room(added.len())?;
     Ok(added)
 }
@@ -70,7 +74,7 @@ fn add_rows(added: &mut Vec<Shared<Activity>>, rows: &[Row]) -> Result<(), Alloc
     Ok(())
 }
 
-fn add_activities(
+pub(crate) fn add_activities(
     added: &mut Vec<Shared<Activity>>,
     activities: &[Shared<Activity>],
 ) -> Result<(), AllocError>
@@ -92,30 +96,40 @@ fn add_activity(
     Ok(())
 }
 
-/// Each of the activities with its classes.
-fn file_all(
+/// Each of the activities with its pair.
+pub(crate) fn file_all(
     alloc: Global,
     classes: &mut Classes,
+    changes: &mut Changes,
     activities: Vec<Shared<Activity>>,
 ) -> Result<Vec<FiledChange>, AllocError>
     ensures grows { Grows classes.old classes.new }
+    ensures rows { changes.new.rows ≡ changes.old.rows }
+    ensures extends { Extends changes.old.pairs changes.new.pairs }
     ensures added { IfOk result (λ added. activities_in added.items ≡ activities.items) }
-    ensures filed { IfOk result (λ added. All (IsChangeFiled classes.new) added.items) }
+    ensures filed { IfOk result
+        (λ added. All (IsChangeFiled classes.new changes.new.pairs) added.items) }
 {
     let mut added = Vec::with_capacity(alloc, activities.len())?;
     for activity in activities {
-        added.push(file(classes, activity)?)?;
+        added.push(file(classes, changes, activity)?)?;
     }
     Ok(added)
 }
 
-fn file(classes: &mut Classes, activity: Shared<Activity>) -> Result<FiledChange, AllocError>
+fn file(
+    classes: &mut Classes,
+    changes: &mut Changes,
+    activity: Shared<Activity>,
+) -> Result<FiledChange, AllocError>
     ensures grows { Grows classes.old classes.new }
+    ensures rows { changes.new.rows ≡ changes.old.rows }
+    ensures extends { Extends changes.old.pairs changes.new.pairs }
     ensures activity { IfOk result (λ change. change.activity ≡ activity) }
-    ensures filed { IfOk result (λ change. IsChangeFiled classes.new change) }
+    ensures filed { IfOk result (λ change. IsChangeFiled classes.new changes.new.pairs change) }
 {
-    let classes = classes_of(classes, activity.get())?;
-    Ok(FiledChange { activity, classes })
+    let pair = changes.number_of(classes_of(classes, activity.get())?)?;
+    Ok(FiledChange { activity, pair })
 }
 
 /// The classes of an activity's audiences, which have them then.
@@ -131,15 +145,19 @@ fn classes_of(classes: &mut Classes, activity: &Activity) -> Result<ClassChange,
     Ok(ClassChange { before, after })
 }
 
-/// The class of an audience, if there is one, which has one then. Want of memory is its only error,
-/// which more than 2^32 classes are answered with too.
+/// The class of what of an audience decides who may read, if there is one, which has one then. Want
+/// of memory is its only error, which more than 2^32 classes are answered with too.
 fn class_of(classes: &mut Classes, audience: Option<&Audience>) -> Result<Option<u32>, AllocError>
     ensures grows { Grows classes.old classes.new }
     ensures class { IfOk result
         (λ class. IsClassOf classes.new (option_copied audience.entry) class) }
 {
     match audience {
-        Some(audience) => Ok(Some(to_u32(classes.add(audience)?)?)),
+        Some(audience) => {
+            let owner = audience.owner.as_ref();
+            let class = deciding_class(classes, &audience.outer, &audience.inner, owner)?;
+            Ok(Some(to_u32(class)?))
+        }
         None => Ok(None),
     }
 }

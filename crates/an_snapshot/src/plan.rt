@@ -1,5 +1,5 @@
 ghost use Rattle.std.specs.Prelude.{◌≡◌, All, IfOk, Some, map, option_map, true};
-ghost use Rattle.an_policy.specs.Classes.{Grows, class_of};
+ghost use Rattle.an_policy.specs.Classes.{Grows};
 ghost use Rattle.an_state.specs.State.{is_distinct};
 ghost use Rattle.an_snapshot.specs.Fits.{notes_stand};
 ghost use Rattle.an_snapshot.specs.Listing.{IsListing};
@@ -8,12 +8,13 @@ ghost use Rattle.an_snapshot.specs.Steps.{IsFiledOver, IsStepOver};
 ghost use Rattle.an_snapshot.specs.Steps.{row_of_step};
 ghost use Rattle.an_snapshot.specs.declared.planned_row.PlannedRow.TheVariants.{Note};
 
+use crate::deciding::deciding_class;
 use crate::fits::stand;
 use crate::last_rows::{LastRows, left_of};
 use crate::planned_row::PlannedRow;
-use an_base::{Name, Shared, TryCopy};
+use an_base::{Shared, TryCopy};
 use an_listed::{Filed, Listed};
-use an_policy::{Audience, Classes, Group, Inner};
+use an_policy::Classes;
 use an_state::{Book, NoteRow, Row};
 use std::alloc::{AllocError, Global};
 
@@ -110,8 +111,8 @@ fn note_step(row: Shared<NoteRow>, class: usize) -> Result<PlannedRow, AllocErro
     Ok(PlannedRow::Note(row, Filed { note, class }))
 }
 
-/// The class of an annotation's audience, which has one then where the annotation is live and its
-/// manifest has a row.
+/// The class of what decides who may read an annotation, which has one then where the annotation is
+/// live and its manifest has a row.
 fn class_in(
     book: &Book,
     classes: &mut Classes,
@@ -124,48 +125,12 @@ fn class_in(
 {
     match row.live() {
         Some(live) => match left.manifest(book, live.manifest) {
-            Some(manifest) => class_of(classes, manifest.group(), live.group, row.owned_by()),
+            Some(manifest) => {
+                let owner = Some(row.owned_by());
+                deciding_class(classes, manifest.group(), live.group, owner)
+            }
             None => Ok(0),
         },
         None => Ok(0),
     }
-}
-
-/// The class of an audience in parts, which has one then.
-fn class_of(
-    classes: &mut Classes,
-    outer: &Group,
-    inner: &Inner,
-    owner: &Name,
-) -> Result<usize, AllocError>
-    ensures grows { Grows classes.old classes.new }
-    ensures class { IfOk result (λ class. class_of
-        (record { outer = outer.now; inner = inner.now; owner = Some owner.now }) classes.new
-        ≡ Some class) }
-{
-    match classes.class_of_parts(outer, inner, Some(owner)) {
-        Some(class) => Ok(class),
-        None => add_class(classes, outer, inner, owner),
-    }
-}
-
-fn add_class(
-    classes: &mut Classes,
-    outer: &Group,
-    inner: &Inner,
-    owner: &Name,
-) -> Result<usize, AllocError>
-    ensures grows { Grows classes.old classes.new }
-    ensures class { IfOk result (λ class. class_of
-        (record { outer = outer.now; inner = inner.now; owner = Some owner.now }) classes.new
-        ≡ Some class) }
-{
-    let outer = outer.copy()?;
-    let inner = inner.copy()?;
-    let owner = Some(owner.copy()?);
-    classes.add(&Audience {
-        outer,
-        inner,
-        owner,
-    })
 }

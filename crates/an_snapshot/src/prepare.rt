@@ -113,17 +113,8 @@ fn filed_in(alloc: Global, steps: &[PlannedRow]) -> Result<Vec<Filed>, AllocErro
     for step in steps {
         match step {
             PlannedRow::Other(_) => {}
-            PlannedRow::Note(_, row) => filed.push(copy_filed(row)?)?,
+            PlannedRow::Note(_, row) => filed.push(row.copy()?)?,
         }
     }
     Ok(filed)
-}
-
-fn copy_filed(filed: &Filed) -> Result<Filed, AllocError>
-    ensures { IfOk result (λ copy. copy ≡ filed.now) }
-{
-    Ok(Filed {
-        note: filed.note.copy()?,
-        class: filed.class,
-    })
 }

@@ -1,141 +1,119 @@
-ghost use Rattle.std.specs.Prelude.{◌≡◌, ◌≤◌, All, IfOk, drop, is_some, length, take};
+ghost use Rattle.std.specs.Prelude.{◌≡◌, ◌^◌, ◌<◌, All, IfOk, drop, is_some, length, take};
+ghost use Rattle.std.specs.List.{count_by, sum_by};
 ghost use Rattle.std.specs.Option.{option_copied};
 ghost use Rattle.an_policy.specs.Audience.{identity};
-ghost use Rattle.an_policy.specs.Seen.{as_seen};
-ghost use Rattle.an_snapshot.specs.Changes.{IsChangeFiled, audience_in, kind_in, seen_in};
+ghost use Rattle.an_snapshot.specs.Changes.{IsChangeFiled, audience_in, kind_in, kinds_in};
+ghost use Rattle.an_snapshot.specs.Changes.{numbers_in, seen_in};
+ghost use Rattle.an_snapshot.specs.PairLists.{kind_at, lists_seen};
 
 use crate::change::{ClassChange, FiledChange};
+use crate::changes::Changes;
+use crate::pair_lists::PairLists;
+use crate::seen_lists::lists_seen;
+use crate::stream::{Stream, page};
 use an_policy::{Audience, Classes, Kind, Who, as_seen};
 use an_state::Seen;
 use std::alloc::{AllocError, Global};
-
-/// What changes of these classes are for a caller, if it sees them. It is judged once for changes
-/// of the same classes that stand in a row.
-#[derive(Clone, Copy)]
-struct Verdict {
-    classes: ClassChange,
-    kind: Option<Kind>,
-}
 
 /// Of the changes that the caller sees those from `start` on, and at most `count` of them.
 pub(crate) fn slice_seen(
     alloc: Global,
     classes: &Classes,
-    changes: &[FiledChange],
+    changes: &Changes,
     who: &Who<'_>,
     start: usize,
     count: usize,
 ) -> Result<Vec<Seen>, AllocError>
-    requires filed { All (IsChangeFiled classes.now) changes.now }
+    requires filed { All (IsChangeFiled classes.now changes.now.pairs) changes.now.rows }
     ensures seen { IfOk result (λ seen. seen.items
-        ≡ take count (drop start (seen_in (identity who.now) changes.now))) }
+        ≡ take count (drop start (seen_in (identity who.now) changes.now.rows))) }
 {
-    let place = place_behind(classes, changes, who, start);
-    first_seen(alloc, classes, &changes[place..], who, count)
+    let kinds = kinds_in(alloc, classes, changes.pairs(), who)?;
+    let filed = changes.lists();
+    let lists = lists_seen(alloc, filed, kinds.as_slice())?;
+    let stream = Stream {
+        rows: changes.as_slice(),
+        kinds: kinds.as_slice(),
+        filed,
+        lists: lists.as_slice(),
+    };
+    page(alloc, &stream, start, count)
 }
 
 /// How many of the changes the caller sees.
-pub(crate) fn count_seen(classes: &Classes, changes: &[FiledChange], who: &Who<'_>) -> usize
-    requires filed { All (IsChangeFiled classes.now) changes.now }
-    ensures count { result ≡ length (seen_in (identity who.now) changes.now) }
+pub(crate) fn count_seen(classes: &Classes, changes: &Changes, who: &Who<'_>) -> usize
+    requires filed { All (IsChangeFiled classes.now changes.now.pairs) changes.now.rows }
+    ensures count { result ≡ length (seen_in (identity who.now) changes.now.rows) }
 {
-    let mut verdict = of_no_class();
+    let lists = changes.lists();
+    let rest = &changes.as_slice()[lists.count()..];
+    count_listed(classes, changes.pairs(), lists, who)
+        + count_rest(classes, changes.pairs(), rest, who)
+}
+
+/// How many places the lists of what the caller sees have.
+fn count_listed(classes: &Classes, pairs: &[ClassChange], lists: &PairLists, who: &Who<'_>) -> usize
+    requires few { sum_by (λ list. length list) (lists_seen
+        (kinds_in (identity who.now) classes.now pairs.now) lists.now.lists) < 2 ^ 64 }
+    ensures { result ≡ sum_by (λ list. length list) (lists_seen
+        (kinds_in (identity who.now) classes.now pairs.now) lists.now.lists) }
+{
+    let mut count = 0;
+    for (number, pair) in pairs.iter().enumerate() {
+        let Some(list) = lists.list(number) else {
+            return count;
+        };
+        if kind_in(classes, who, *pair).is_some() {
+            count += list.len();
+        }
+    }
+    count
+}
+
+/// How many of these changes the caller sees.
+fn count_rest(
+    classes: &Classes,
+    pairs: &[ClassChange],
+    changes: &[FiledChange],
+    who: &Who<'_>,
+) -> usize
+    ensures { result ≡ count_by (λ number. is_some (kind_at
+        (kinds_in (identity who.now) classes.now pairs.now) number)) (numbers_in changes.now) }
+{
     let mut count = 0;
     for change in changes {
-        verdict = judge(classes, who, verdict, change);
-        if sees(verdict) {
+        if kind_of(classes, pairs, who, change.pair).is_some() {
             count += 1;
         }
     }
     count
 }
 
-/// Where the changes begin that come after so many which the caller sees.
-fn place_behind(classes: &Classes, changes: &[FiledChange], who: &Who<'_>, count: usize) -> usize
-    requires filed { All (IsChangeFiled classes.now) changes.now }
-    ensures within { result ≤ length changes.now }
-    ensures behind { seen_in (identity who.now) (drop result changes.now)
-        ≡ drop count (seen_in (identity who.now) changes.now) }
-{
-    let mut verdict = of_no_class();
-    let mut left = count;
-    for (at, change) in changes.iter().enumerate() {
-        if left == 0 {
-            return at;
-        }
-        verdict = judge(classes, who, verdict, change);
-        if sees(verdict) {
-            left -= 1;
-        }
-    }
-    changes.len()
-}
-
-/// The first of the changes that the caller sees, at most so many.
-fn first_seen(
+/// What the changes of each pair are for the caller.
+fn kinds_in(
     alloc: Global,
     classes: &Classes,
-    changes: &[FiledChange],
+    pairs: &[ClassChange],
     who: &Who<'_>,
-    count: usize,
-) -> Result<Vec<Seen>, AllocError>
-    requires filed { All (IsChangeFiled classes.now) changes.now }
+) -> Result<Vec<Option<Kind>>, AllocError>
     ensures { IfOk result
-        (λ seen. seen.items ≡ take count (seen_in (identity who.now) changes.now)) }
+        (λ kinds. kinds.items ≡ kinds_in (identity who.now) classes.now pairs.now) }
 {
-    let mut verdict = of_no_class();
-    let mut seen = Vec::new(alloc);
-    for change in changes {
-        if seen.len() == count {
-            return Ok(seen);
-        }
-        verdict = judge(classes, who, verdict, change);
-        if let Some(one) = change.activity.get().seen_as(verdict.kind)? {
-            seen.push(one)?;
-        }
+    let mut kinds = Vec::with_capacity(alloc, pairs.len())?;
+    for pair in pairs {
+        kinds.push(kind_in(classes, who, *pair))?;
     }
-    Ok(seen)
+    Ok(kinds)
 }
 
-/// Whether the caller of a verdict sees its changes.
-fn sees(verdict: Verdict) -> bool
-    ensures { result ≡ is_some verdict.kind }
+/// What the changes of the pair of this number are for the caller.
+fn kind_of(classes: &Classes, pairs: &[ClassChange], who: &Who<'_>, number: u32) -> Option<Kind>
+    ensures { result
+        ≡ kind_at (kinds_in (identity who.now) classes.now pairs.now) number }
 {
-    match verdict.kind {
-        Some(_) => true,
-        None => false,
-    }
-}
-
-/// What changes with no audiences are for anybody.
-fn of_no_class() -> Verdict
-    ensures classes { result.classes ≡ record { before = None; after = None } }
-    ensures kind { result.kind ≡ None }
-{
-    Verdict {
-        classes: ClassChange {
-            before: None,
-            after: None,
-        },
-        kind: None,
-    }
-}
-
-/// What the change is for the caller: the same as the last one, where it has the same classes.
-fn judge(classes: &Classes, who: &Who<'_>, last: Verdict, change: &FiledChange) -> Verdict
-    requires last { last.kind ≡ kind_in (identity who.now) classes.now last.classes }
-    requires filed { IsChangeFiled classes.now change.now }
-    ensures verdict { result.kind ≡ kind_in (identity who.now) classes.now result.classes }
-    ensures kind { result.kind ≡ as_seen (identity who.now) change.now.activity.before
-        change.now.activity.after }
-{
-    if change.classes == last.classes {
-        last
-    } else {
-        Verdict {
-            classes: change.classes,
-            kind: kind_in(classes, who, change.classes),
-        }
+    match pairs.get(number as usize) {
+        Some(pair) => kind_in(classes, who, *pair),
+        None => None,
     }
 }
 

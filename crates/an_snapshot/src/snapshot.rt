@@ -8,8 +8,9 @@ ghost use Rattle.an_snapshot.specs.Absorbed.{absorbed, nothing};
 
 use crate::absorb::{absorb, take_room};
 use crate::changes::Changes;
+use crate::copying::{copy_book, copy_changes, copy_classes};
 use crate::seen::{count_seen, slice_seen};
-use an_base::{Name, TermTotal};
+use an_base::{Name, TermTotal, TryCopy};
 use an_listed::Listed;
 use an_policy::{Classes, Who};
 use an_state::{Book, Entry, Seen};
@@ -42,7 +43,7 @@ impl Model for Snapshot {
 
     ghost invariant = { λ s. record {
       listing : IsListing s.book.state s.classes s.listed.rows;
-      changes : AreChanges s.book.state s.classes s.changes.rows;
+      changes : AreChanges s.book.state s.classes s.changes;
     } };
 }
 
@@ -180,7 +181,7 @@ impl Snapshot {
         ensures count { result
             ≡ length (seen_by (identity who.now) self.now.state.activities) }
     {
-        count_seen(&self.classes, self.changes.as_slice(), who)
+        count_seen(&self.classes, &self.changes, who)
     }
 
     /// Those of them from `start` on, and at most `count`.
@@ -194,7 +195,25 @@ impl Snapshot {
         ensures seen { IfOk result (λ seen. seen.items
             ≡ take count (drop start (seen_by (identity who.now) self.now.state.activities))) }
     {
-        let changes = self.changes.as_slice();
-        slice_seen(alloc, &self.classes, changes, who, start, count)
+        slice_seen(alloc, &self.classes, &self.changes, who, start, count)
+    }
+}
+
+impl TryCopy for Snapshot {
+    /// An equal snapshot, which shares the rows. Lists are copied as they stand, and no word is
+    /// looked up again.
+    fn copy(&self) -> Result<Snapshot, AllocError> {
+        let mut classes = copy_classes(self.alloc, &self.classes)?;
+        let changes = copy_changes(self.alloc, &mut classes, self.book.activities())?;
+        let listed = self.listed.copy()?;
+        let book = copy_book(self.alloc, &self.book)?;
+        Ok(Snapshot {
+            alloc: self.alloc,
+            book,
+            classes,
+            listed,
+            changes,
+            count: self.count,
+        })
     }
 }

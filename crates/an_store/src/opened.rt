@@ -16,8 +16,9 @@ ghost use Rattle.an_published.specs.Rule.{Ready, Shows, notice};
 
 use crate::store::Store;
 use crate::under_lock::UnderLock;
+use an_base::TryCopy;
 use an_keep::Keeper;
-use an_published::{Head, Naming, Published, Seat, StoreWriter, begin, look_at, publish};
+use an_published::{Head, Naming, Published, Seat, StoreWriter, begin, publish};
 use an_shelf::{Loaded, NotOpened, OpenError, load};
 use an_snapshot::Snapshot;
 use an_state::Book;
@@ -182,7 +183,7 @@ fn begin_writer<K: Keeper, R: Wait>(
         (drop made.1.behind made.1.log.items) made.1.desk.shown.value
         book.now.state (K.told keeper.now)) }
 {
-    let other = match look_at(alloc, book) {
+    let other = match snapshot.copy() {
         Ok(other) => other,
         Err(error) => {
             drop(snapshot);

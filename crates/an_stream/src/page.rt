@@ -20,6 +20,12 @@ use std::alloc::{AllocError, Global};
 /// The context of changes (IIIF Change Discovery API 1.0).
 const CHANGES_CONTEXT: &str = "http://iiif.io/api/discovery/1/context.json";
 
+/// Most activities have room in so many bytes.
+const ACTIVITY_ROOM: usize = 256;
+
+/// What a page has besides its activities has room in so many bytes, where its IRI is short.
+const PAGE_ROOM: usize = 1024;
+
 /// The stream as a list that is served in pages.
 pub(crate) fn changes_whole(alloc: Global, base: &str) -> Result<Whole, AllocError>
     ensures whole { IfOk result (λ whole. whole ≡ changes_whole base.now) }
@@ -67,8 +73,10 @@ pub(crate) fn page_text(
         (page_count paging.total paging.size) paging.page (start_of paging.page paging.size)
         (items_of (map (activity base.now) activities.now)))) }
 {
-    let items = push_activities(alloc, Vec::new(alloc), base, activities)?;
-    let out = push_head(alloc, Vec::new(alloc), whole, paging)?;
+    let listed = Vec::with_capacity(alloc, activities.len().saturating_mul(ACTIVITY_ROOM))?;
+    let items = push_activities(alloc, listed, base, activities)?;
+    let room = Vec::with_capacity(alloc, items.len().saturating_add(PAGE_ROOM))?;
+    let out = push_head(alloc, room, whole, paging)?;
     let out = push_array_member(out, "orderedItems", items.as_slice())?;
     let out = push_place(alloc, out, whole, paging)?;
     let out = close_members(out, 0)?;

@@ -1,5 +1,7 @@
 pub mod HtmlLemmas
 mod HtmlRows
+mod SoughtLemmas
 pub mod SpanLemmas
 pub mod TermsLemmas
 mod TermsRows
+mod WordLemmas

@@ -15,7 +15,7 @@ use Rattle.an_terms.specs.Terms.{term_of, placed, occurrence_of, occurrences_of,
 -- ---- the pieces of a text, as code points
 
 -- none is empty, and each can be written in UTF-8
-abbrev ArePieces : List (List ℕ) → Type 0
+abbrev pub ArePieces : List (List ℕ) → Type 0
 ArePieces [] = Unit {0}
 ArePieces (q ∷ qs) = (0 < length q) × (scalars q ≡ true) × ArePieces qs
 
@@ -24,7 +24,7 @@ ArePieces-attach true c qs is h = (omega arith, and_from (scalar c) true is refl
 ArePieces-attach false c [] is h = (omega arith, and_from (scalar c) true is refl, tt)
 ArePieces-attach false c (q ∷ qs) is h = (omega arith, and_from (scalar c) (scalars q) is h.1, h.2)
 
-ArePieces-cut : (rule : Rule) (before cs after : List ℕ) → scalars cs ≡ true → ArePieces (cut rule before cs after)
+pub ArePieces-cut : (rule : Rule) (before cs after : List ℕ) → scalars cs ≡ true → ArePieces (cut rule before cs after)
 unfolding cut
 ArePieces-cut rule before [] after h = tt
 ArePieces-cut rule before (c ∷ cs) after h =
@@ -36,7 +36,7 @@ concat-attach true c qs = refl
 concat-attach false c [] = refl
 concat-attach false c (q ∷ qs) = refl
 
-concat-cut : (rule : Rule) (before cs after : List ℕ) → concat (cut rule before cs after) ≡ cs
+pub concat-cut : (rule : Rule) (before cs after : List ℕ) → concat (cut rule before cs after) ≡ cs
 unfolding cut
 concat-cut rule before [] after = refl
 concat-cut rule before (c ∷ cs) after =

@@ -1,5 +1,7 @@
-ghost use Rattle.std.specs.Prelude.{◌≡◌, ◌↔◌, All, AllPairs, IfOk, IsTrue, Some};
-ghost use Rattle.std.specs.Option.{option_copied};
+ghost use Rattle.std.specs.Prelude.{◌≡◌, All, AllPairs, IfOk};
+ghost use Rattle.std.specs.Char.{is_ascii_alphanumeric};
+ghost use Rattle.std.specs.List.{list_any};
+ghost use Rattle.unicode_segmentation.specs.Segments.{has_alphanumeric};
 ghost use Rattle.an_terms.specs.Terms.{occurrences_of, IsWordOf, StandsBefore};
 
 use crate::occurrence::Occurrence;
@@ -17,30 +19,35 @@ pub fn occurrences(alloc: Global, text: &str) -> Result<Vec<Occurrence>, AllocEr
     ensures ascending { IfOk result (λ v. AllPairs StandsBefore v.items) }
 {
     let mut found = Vec::new(alloc);
-    let mut words = text.unicode_words();
-    let mut word = words.next();
     let mut start = 0;
     for piece in text.split_word_bounds() {
         let end = start + char_count(piece);
-        if is_next(word, piece) {
+        if is_word(piece) {
             let term = term_of(alloc, piece)?;
             found.push(Occurrence {
                 term,
                 span: Span { start, end },
             })?;
-            word = words.next();
         }
         start = end;
     }
     Ok(found)
 }
 
-/// Whether the piece is the next word.
-fn is_next(word: Option<&str>, piece: &str) -> bool
-    ensures { IsTrue result ↔ (option_copied word.entry ≡ Some piece.now) }
+/// Whether a text has an alphanumeric character.
+pub(crate) fn is_word(text: &str) -> bool
+    ensures { result ≡ has_alphanumeric text.now }
 {
-    match word {
-        Some(word) => word == piece,
-        None => false,
+    if text.is_ascii() {
+        return has_ascii_alphanumeric(text);
     }
+    // The words of a text have all such characters of it.
+    text.unicode_words().next().is_some()
+}
+
+/// Whether a text has an ASCII letter or digit.
+fn has_ascii_alphanumeric(text: &str) -> bool
+    ensures { result ≡ list_any is_ascii_alphanumeric text.now }
+{
+    text.as_bytes().iter().any(|b| b.is_ascii_alphanumeric())
 }

@@ -12,45 +12,32 @@ mod clock;
 mod filed;
 mod host;
 mod progress;
-mod std_link;
 mod tcp_door;
 mod tcp_link;
 
 use account::Account;
 use an_app::{Ran, Status, run};
 use an_keep::SureKeeper;
+use an_outside::{StdLink, words_of};
 use clock::RealClock;
 use filed::{close, run_at};
 use host::Host;
 use sqlite::Unknown;
+use std::io;
 use std::net::{Net, TcpListener, TcpStream};
 use std::process::ExitCode;
-use std::rt::Env;
 use std::sync::Wait;
 use std::thread::Threads;
-use std::{env, io};
-use std_link::StdLink;
 use tcp_door::TcpDoor;
 
 /// Does what the words behind the program's name say, over standard input and output and at a port,
-/// and ends with the status of `run`. A word that isn't UTF-8 is in no form.
+/// and ends with the status of `run`.
 fn main(rt: HostRuntime) -> ExitCode {
     let status = match words_of(&rt) {
         Ok(words) => run_words(&rt, &rt, words.as_slice()),
-        Err(error) => if error.kind() == io::ErrorKind::OutOfMemory {
-            Status::Memory
-        } else {
-            run_words(&rt, &rt, &[])
-        },
+        Err(_) => Status::Memory,
     };
     ExitCode::from(status.code())
-}
-
-/// The words behind the program's name.
-fn words_of<R: Env + AllocGlobal>(rt: &R) -> io::Result<Vec<String>> {
-    let mut words = env::args(rt)?;
-    drop(words.next());
-    Ok(words.collect(rt.alloc())?)
 }
 
 /// Does what the words say. The first is the store: `-` is an empty one in memory, and any other is

@@ -17,7 +17,7 @@ returns c =
     let base = c.args.base.now in
     record {
       text = λ manifests items.
-          let first = c.in_ok-out.ensures.text contexts (c.as_bytes.ensures.value ∙ contexts_text) ∙ ap (λ before. before ++ member_text (codes "@context") (array contexts)) c.new.ensures.items in
+          let first = c.in_ok-out.ensures.text contexts (c.as_bytes.ensures.value ∙ contexts_text) ∙ ap (λ before. before ++ member_text (codes "@context") (array contexts)) c.in_ok-room.ensures.items in
           let id = c.in_ok-out-2.ensures.text ∙ ap (λ iri. c.in_ok-out.out.items ++ member_text (codes "id") (string iri)) (c.as_str.ensures.value ∙ c.in_ok-iri.ensures.iri) in
           c.from_vec.ensures.value
           ∙ c.in_ok-out-7.ensures.text []

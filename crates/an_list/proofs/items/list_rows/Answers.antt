@@ -8,7 +8,7 @@ use Rattle.an_list.proofs.items.list_rows.Goals as goal
 use Rattle.an_list.proofs.items.list_rows.Goals.{in-Some+in_ok-listed-in-Some, in-None}
 
 pub loop-place-init : goal.loop-place-init
-loop-place-init g c = (c.nothing_listed-listed.ensures.nothing _ _ _, omega (arith, c.nothing_listed-listed.ensures.none), omega arith)
+loop-place-init g c = (c.in_ok-listed.ensures.nothing _ _ _, omega (arith, c.in_ok-listed.ensures.none), omega arith)
 
 pub loop-place-preserved : goal.loop-place-preserved
 loop-place-preserved g c =

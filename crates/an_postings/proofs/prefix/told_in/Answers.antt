@@ -5,7 +5,7 @@ use Rattle.an_postings.proofs.prefix.told_in.Goals as goal
 pub loop-term-init : goal.loop-term-init
 loop-term-init c =
     let es = c.args.terms.now.entries in
-    let is = c.into_iter-term-iterator.ensures.into_iter_gives ∙ c.range-term-items.ensures.between tt ∙ ap (λ (p : List ℕ). inside p c.args.classes.now es) c.in_ok-start.ensures.ok in
+    let is = c.into_iter-term-iterator.ensures.into_iter_gives ∙ c.range-term-items.ensures.between tt ∙ ap (λ (p : List ℕ). inside p c.args.classes.now es) c.in_ok-start.ensures.text in
     record {
       told = rw (c.new-told.ensures.items, is) (told-inside c.args.prefix.now c.args.classes.now es);
       fades = rw is (Fades-inside c.args.prefix.now c.args.classes.now es c.range-term-items.ensures.ordered);

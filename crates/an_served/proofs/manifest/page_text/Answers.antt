@@ -1,16 +1,13 @@
-use Rattle.std.proofs.Common.{[], ◌++◌, codes, ap, sym, refl, ◌∙◌, append-nil}
-use Rattle.serde_json.specs.Data.{string, member, no_members}
-use Rattle.an_base.specs.Write.{member_text}
-use Rattle.an_iri.specs.Iris.{canvas_page_iri}
+use Rattle.std.proofs.Common.{◌++◌, codes, decimal, ap, sym, ◌∙◌, append_assoc}
+use Rattle.an_served.specs.ManifestParts.{page_front}
+use Rattle.an_served.proofs.PageLemmas.{page_parts}
 use Rattle.an_served.proofs.manifest.page_text.Goals as goal
 
 pub returns : goal.returns
-returns c =
-    let id = string (canvas_page_iri c.args.base.now c.args.name.now c.args.number) in
-    let kind = string (codes "AnnotationPage") in
-    let named = c.in_ok-out-2.ensures.text
-    ∙ ap (λ t. t ++ member_text (codes "id") (string c.as_str.result.now)) c.in_ok-out.ensures.items
-    ∙ ap (λ iri. member_text (codes "id") (string iri)) (c.as_str.ensures.value ∙ c.in_ok-id.ensures.iri) in
-    let both = c.in_ok-out-3.ensures.text ∙ ap (λ t. t ++ member_text (codes "type") kind) named
-    ∙ ap (λ t. member_text (codes "id") id ++ t) (sym (append-nil (member_text (codes "type") kind))) in
-    c.in_ok-out-4.ensures.text [] (member (codes "id") id (member (codes "type") kind no_members)) both refl
+returns c base name is =
+    let front = page_front base name in
+    let digits = decimal c.args.number in
+    let behind = codes "?page=1\",\"type\":\"AnnotationPage\"}" in
+    c.in_ok-extend_from_slice-2.ensures.items ∙ ap (λ t. c.in_ok-out.out.items ++ t) c.as_bytes.ensures.value
+    ∙ ap (λ t. t ++ behind) (c.in_ok-out.ensures.text ∙ ap (λ t. t ++ digits) (c.in_ok-extend_from_slice.ensures.items ∙ ap (λ t. t ++ c.args.front.now) c.clear.ensures.items ∙ is))
+    ∙ append_assoc front digits behind ∙ sym (page_parts base name c.args.number c.ranges.number.fits)

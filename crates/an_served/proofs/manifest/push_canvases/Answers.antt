@@ -60,7 +60,7 @@ loop-cut-preserved c =
     let held = subst (IsCutAt (codes "annotations") (object members)) (sym (h.cut_is ∙ ap (cuts_at (codes "annotations")) h.ready.is))
     (holds (codes "annotations") members h.ready.some h.ready.order) in
     let text = c.parted.ensures.front ∙ canvas_text _ _ _ _ _ _ _ _ h ∙ ap compact_text h.ready.is in
-    let page = c.as_slice.ensures.value ∙ c.in_ok-page.ensures in
+    let page = c.as_slice-in-loop-cut.ensures.value ∙ c.in_ok-page.ensures base name (c.as_slice.ensures.value ∙ c.in_ok-front.ensures) in
     let canvas = c.in_ok-out.ensures.canvas members one h.ready.order held text page
     ∙ ap (λ t. a ++ compact_text (with_one_more (codes "annotations") one t)) (sym h.ready.is) in
     record {

@@ -11,11 +11,12 @@ use Rattle.an_snapshot.specs.Listing.{IsFiled}
 use Rattle.an_snapshot.specs.Plan.{state_behind}
 use Rattle.an_snapshot.specs.Steps.{row_of_step}
 use Rattle.an_snapshot.proofs.StepLemmas.{after-behind, filed-behind, listing-after, listing-grown, steps-filed}
-use Rattle.an_snapshot.specs.Changes.{IsChangeFiled}
+use Rattle.an_snapshot.specs.Changes.{IsChangeFiled, KeptChanges}
 use Rattle.an_snapshot.specs.declared.change.FiledChange.{FiledChange}
-use Rattle.an_snapshot.proofs.AddedLemmas.{changes-after, changes-grown}
+use Rattle.an_snapshot.proofs.AddedLemmas.{changes-after, changes-grown, changes-prepared}
 use Rattle.an_snapshot.proofs.AllLemmas.{All-gives}
 use Rattle.an_snapshot.proofs.ChangeLemmas.{change-grown}
+use Rattle.an_snapshot.proofs.PairLemmas.{Extends-refl}
 use Rattle.an_snapshot.proofs.absorb.absorb.Goals as goal
 
 pub returns-in-Some-clause-listing : goal.returns-in-Some-clause-listing
@@ -48,7 +49,7 @@ returns-in-Some-clause-changes c =
     let first : List Audience = c.args.classes.now in
     let old : List Audience = c.changes_of.new.classes in
     let new : List Audience = c.prepare.new.classes in
-    let before : List FiledChange = c.args.changes.now.rows in
+    let changes : KeptChanges = c.changes_of.new.changes in
     let added : List FiledChange = c.in_ok-added.added.items in
     let steps = c.in-Some.prepared.steps.items in
     let activities : List Activity = c.in-Some.prepared.activities.items in
@@ -59,6 +60,20 @@ returns-in-Some-clause-changes c =
     ∙ ap (λ (l : List Row). state_behind s l activities) planned.1
     ∙ ap (state_behind s (rows_of entry)) planned.3
     ∙ after-behind s entry in
-    let kept = changes-grown s old new before c.prepare.ensures.grows (changes-grown s first old before c.changes_of.ensures.grows c.requires.changes) in
-    let filed = All-gives (IsChangeFiled old) (IsChangeFiled new) added (change-grown old new c.prepare.ensures.grows) c.in_ok-added.ensures.filed in
-    rw (state, c.add_changes.ensures.rows, c.changes_of.ensures.rows) (changes-after entry s new before added kept c.in_ok-added.ensures.added filed)
+    let kept = changes-grown s first new c.args.changes.now changes (λ audience class is. c.prepare.ensures.grows audience class (c.changes_of.ensures.grows audience class is)) c.changes_of.ensures.extends c.changes_of.ensures.rows c.requires.changes in
+    let filed = All-gives (IsChangeFiled old changes.pairs) (IsChangeFiled new changes.pairs) added (change-grown old new c.prepare.ensures.grows changes.pairs changes.pairs (Extends-refl changes.pairs)) c.in_ok-added.ensures.filed in
+    rw state (changes-after entry s new changes c.add_changes.new.changes added kept c.add_changes.ensures.rows c.add_changes.ensures.pairs c.in_ok-added.ensures.added filed)
+
+pub returns-in_err-added-clause-changes : goal.returns-in_err-added-clause-changes
+returns-in_err-added-clause-changes c =
+    changes-grown c.args.book.now.state c.args.classes.now c.changes_of.new.classes c.args.changes.now c.changes_of.new.changes c.changes_of.ensures.grows c.changes_of.ensures.extends c.changes_of.ensures.rows c.requires.changes
+
+pub returns-in_err-prepared-clause-changes : goal.returns-in_err-prepared-clause-changes
+returns-in_err-prepared-clause-changes c =
+    changes-prepared c.args.book.now.state c.prepare.new.book.state c.args.classes.now c.changes_of.new.classes c.prepare.new.classes c.args.changes.now c.changes_of.new.changes
+    c.prepare.ensures.state c.changes_of.ensures.grows c.prepare.ensures.grows c.changes_of.ensures.extends c.changes_of.ensures.rows c.requires.changes
+
+pub returns-in-None-clause-changes : goal.returns-in-None-clause-changes
+returns-in-None-clause-changes c =
+    changes-prepared c.args.book.now.state c.prepare.new.book.state c.args.classes.now c.changes_of.new.classes c.prepare.new.classes c.args.changes.now c.changes_of.new.changes
+    c.prepare.ensures.state c.changes_of.ensures.grows c.prepare.ensures.grows c.changes_of.ensures.extends c.changes_of.ensures.rows c.requires.changes

@@ -8,4 +8,5 @@ invariant-loop-change l =
     (goal.iterator-loop-change).can_next l.change-iterator ×
     (goal.iterator-loop-change).is_finite l.change-iterator ×
     (l.changes.rows ++ into_iter_items l.change-iterator ≡ l.fn.changes.rows ++ l.fn.added.items) ×
-    (length (into_iter_items l.change-iterator) ≤ l.changes.room)
+    (length (into_iter_items l.change-iterator) ≤ l.changes.room) ×
+    (l.changes.pairs ≡ l.fn.changes.pairs)

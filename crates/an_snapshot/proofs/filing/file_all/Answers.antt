@@ -23,14 +23,18 @@ loop-activity-preserved c =
     let items : c.push.new.self.items ≡ added ++ change ∷ [] = c.in_ok-push.ensures.items in
     let old = c.loop-activity.classes in
     let new = c.file.new.classes in
+    let before = c.loop-activity.changes.pairs in
+    let later = c.file.new.changes.pairs in
     record {
       next = tt;
       finite = tt;
       grows = λ a k e. c.file.ensures.grows a k (c.loop-activity.invariant.grows a k e);
       added = ap (λ (l : List FiledChange). activities_in l ++ left) items ∙ pushed added change c.in-Some.activity left c.in_ok-file.ensures.activity
           ∙ ap (λ (l : List Activity). activities_in added ++ l) (sym next) ∙ c.loop-activity.invariant.added;
-      filed = subst (All (IsChangeFiled new)) (sym items)
-          (All-push (IsChangeFiled new) added change
-          (All-gives (IsChangeFiled old) (IsChangeFiled new) added (change-grown old new c.file.ensures.grows) c.loop-activity.invariant.filed)
+      rows = c.file.ensures.rows ∙ c.loop-activity.invariant.rows;
+      extends = λ number pair is. c.file.ensures.extends number pair (c.loop-activity.invariant.extends number pair is);
+      filed = subst (All (IsChangeFiled new later)) (sym items)
+          (All-push (IsChangeFiled new later) added change
+          (All-gives (IsChangeFiled old before) (IsChangeFiled new later) added (change-grown old new c.file.ensures.grows before later c.file.ensures.extends) c.loop-activity.invariant.filed)
           c.in_ok-file.ensures.filed);
     }

@@ -1,5 +1,4 @@
-use Rattle.std.proofs.Common.{refl, ap, ◌∙◌, sym, subst}
-use Rattle.std.proofs.lemmas.Bool.{false≢true}
+use Rattle.std.proofs.Common.{ap, ◌∙◌, sym, subst}
 use Rattle.unicode_segmentation.specs.Iter.{word_bounds_left}
 use Rattle.std.proofs.lemmas.List.Elements.{All-same}
 use Rattle.std.specs.List.{AllPairs}
@@ -10,23 +9,23 @@ use Rattle.an_terms.proofs.words.occurrences.Goals as goal
 
 pub loop-piece-init : goal.loop-piece-init
 loop-piece-init c =
-    HasCome-start _ _ _ _ _ _ c.utf8.text c.new-found.ensures.items c.next-word.ensures.steps c.unicode_words-words.ensures.left
+    HasCome-start _ _ _ c.utf8.text c.new-found.ensures.items
     (ap word_bounds_left c.into_iter-piece-iterator.ensures.into_iter_gives ∙ c.split_word_bounds-piece-items.ensures.left)
 
 pub loop-piece-preserved-in_ok-push : goal.loop-piece-preserved-in_ok-push
 loop-piece-preserved-in_ok-push c =
     rw c.in_ok-push.ensures.items
-    (HasCome-word _ _ _ _ _ _ _ _ _ c.loop-piece.invariant c.in-Some.ensures.steps (c.if-is_next.ensures.0 refl) c.char_count.ensures.count
-    c.char_count.ensures.bound _ _ _ c.in_ok-term.ensures.term c.next-word-then-is_next.ensures.steps)
+    (HasCome-word _ _ _ _ _ _ _ c.loop-piece.invariant c.in-Some.ensures.steps (sym c.if-is_word.ensures) c.char_count.ensures.count
+    c.char_count.ensures.bound _ c.in_ok-term.ensures.term)
 
 pub loop-piece-preserved : goal.loop-piece-preserved
 loop-piece-preserved c =
-    HasCome-other _ _ _ _ _ _ _ _ _ c.loop-piece.invariant c.in-Some.ensures.steps (λ is. false≢true (c.if-is_next.ensures.1 is))
+    HasCome-other _ _ _ _ _ _ _ c.loop-piece.invariant c.in-Some.ensures.steps (sym c.if-is_word.ensures)
     c.char_count.ensures.count c.char_count.ensures.bound
 
 pub returns : goal.returns
 returns c =
-    let value = HasCome-end _ _ _ _ _ _ c.loop-piece.invariant c.in-None.ensures.steps.0 in
+    let value = HasCome-end _ _ _ _ c.loop-piece.invariant c.in-None.ensures.steps.0 in
     record {
       value = value;
       words = All-same (IsWordOf c.args.text.now) _ _ value (All-IsWordOf c.args.text.now c.utf8.text);

@@ -18,5 +18,5 @@ returns c =
     ∙ ap (λ (a : Absorbed). let s = a.state in seen_by who s.activities) c.self.view_is in
     record {
       seen = subst (λ (l : List Seen). IfOk c.slice_seen.result (λ seen. seen.items ≡ take c.args.count (drop c.args.start l)))
-          (ap (seen_in who) c.as_slice-changes.ensures.rows ∙ whole) c.slice_seen.ensures.seen;
+          whole c.slice_seen.ensures.seen;
     }

@@ -16,4 +16,4 @@ returns c =
     seen-is who inside.changes.rows
     ∙ ap (λ (l : List Activity). seen_by who l) c.self.invariant.changes.activities
     ∙ ap (λ (a : Absorbed). let s = a.state in seen_by who s.activities) c.self.view_is in
-    record { count = c.count_seen.ensures.count ∙ ap (λ (l : List Seen). length l) (ap (seen_in who) c.as_slice.ensures.rows ∙ whole) }
+    record { count = c.count_seen.ensures.count ∙ ap (λ (l : List Seen). length l) whole }

@@ -1,0 +1,7 @@
+use Rattle.std.proofs.Common.{◌≡◌, take}
+use Rattle.an_state.specs.State.{State}
+use Rattle.an_snapshot.proofs.copying.copy_notes.Given as goal
+
+-- the rows so far are copied
+abbrev pub invariant-loop-row : goal.invariant-loop-row
+invariant-loop-row l = let s : State = record l.fn.copy.state { notes = take l.row-index l.rows } in l.copy.state ≡ s
