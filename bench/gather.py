@@ -1,20 +1,18 @@
 """gather.py PROGRAM WORK ANNOTATIONS MANIFESTS BEFORE: times searches in all manifests; gather.sh
 has the rest."""
-import json
 import os
 import sqlite3
 import sys
 import time
 
-from served import MANIFEST, RawConnection, Server, note_text, play, reader_line, request
+from served import MANIFEST, note_text, reader_line
+from timing import ROUNDS, SECONDS, Shown, filled, has_terms, has_total, timed
 
 # The bounds that are shown: microseconds, and times. Then the other owners, and how many
 # annotations have the rare word and the one that is neither rare nor frequent.
 RARE_TIME, SOME_TIME, FREQUENT_TIME, COMPLETION, COLLECTION = 100, 300, 4000, 1000, 10000
 NAMED, GROWTH = 4 / 3, 1.2
 OWNERS, RARE, SOME = 1000, 5, 1000
-# A round takes about so many seconds. A connection has at most so many requests, each a batch.
-SECONDS, MOST, BATCH, ROUNDS = 1.0, 900, 30, 3
 
 
 # ---- the texts
@@ -57,67 +55,6 @@ class Corpus:
         """How many public annotations have a word, on all manifests or on one."""
         return sum(word in text.split() for _, _, on, group, text in self.rows()
                    if group == "public" and manifest in (None, on))
-
-
-class Shown:
-    def __init__(self):
-        self.over = 0
-
-    def row(self, what, found, most, unit):
-        is_over = found > most
-        self.over += is_over
-        print(f"{what}: {found:.2f} {unit}, of at most {most:.2f} {unit}:"
-              f" {'over' if is_over else 'ok'}", flush=True)
-
-
-# ---- the server
-
-def filled(program, work, given, name):
-    """A store with these lines, and how its import ended."""
-    store = os.path.join(work, name)
-    ended = play(program, store, ["import"], given, seconds=1800)
-    if ended.status != 0:
-        raise SystemExit(f"imported with status {ended.status}: {ended.printed[:300]!r}")
-    server = Server(program, store, workers=4)
-    assert server.wait_until_it_listens(600)
-    return server, ended
-
-
-def timed(server, target, is_due):
-    """The microseconds of a processor that a request takes: the least of several rounds. Its body
-    has to be as it is due."""
-    asked = request("GET", target)
-    connection = RawConnection(server.port)
-    begun = time.monotonic()
-    [(status, body)] = connection.ask(asked)
-    took = time.monotonic() - begun
-    connection.close()
-    if status != 200 or not is_due(json.loads(body)):
-        raise SystemExit(f"{target}: {status} {body[:300]!r}")
-    # A batch of long replies is short, so that the server needn't wait for the reader.
-    batch = max(1, min(BATCH, (1 << 18) // len(body)))
-    count = max(5, min(20000, int(SECONDS / max(took, 1e-5)))) // batch * batch or batch
-    return min(timed_round(server, asked, batch, count, body) for _ in range(ROUNDS))
-
-
-def timed_round(server, asked, batch, count, due):
-    before, left = server.used(), count
-    while left > 0:
-        connection = RawConnection(server.port)
-        for _ in range(min(left, MOST) // batch):
-            for status, body in connection.ask(asked * batch, batch):
-                assert (status, body) == (200, due)
-        connection.close()
-        left -= min(left, MOST) // batch * batch
-    return (server.used() - before) / count * 1e6
-
-
-def has_total(total):
-    return lambda tree: tree["partOf"]["total"] == total
-
-
-def has_terms(terms):
-    return lambda tree: {it["value"]: it["total"] for it in tree["items"]} == terms
 
 
 # ---- SQLite

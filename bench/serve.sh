@@ -7,8 +7,8 @@
 #   connections that are kept: requests a second, and microseconds of a processor a request;
 # - the same over 8 with a writer at full speed beside: what is left of the requests a second, and
 #   the time of the slowest percent;
-# - a PUT over one connection, beside one at a desk with a new store, which `session` serves over
-#   standard input and output: microseconds of a processor each;
+# - a PUT over one connection to a new store, beside one at a desk with another, which `session`
+#   serves over standard input and output: microseconds of a processor each;
 # - the memory of the server, beside that of the process of the import.
 # The store stands in TMPDIR; its import waits for the disk once a line, so a slow disk takes long.
 # Asks by wrk, of which a thread takes a processor of its own. Installs by apt-get, where they
@@ -120,6 +120,10 @@ for what in annotation manifest search; do
   echo "  and $(awk '/Requests\/sec/ { printf "%d", $2 }' "$work/written") writes a second"
 done
 
+# The desk has a new store, so the server of the writes has one too.
+stop "$server"
+beginning | "$program" "$work/put.db" import >/dev/null
+serve "$work/put.db" "$port" 8
 before=$(taken "$server")
 write put "$seconds"
 put=$(each "$(($(taken "$server") - before))" "$work/written")
