@@ -14,10 +14,13 @@ use Rattle.an_anchor.specs.declared.counted.Counted.{Counted}
 use Rattle.an_anchor.specs.declared.counted.Window.{Window}
 
 -- an item that doesn't stand on the page is none of one that do
-off-page : (window : Window) (place : ℕ) → has_place window place ≡ false → meets window place 1 ≡ false
-off-page window place off = by (nat_le window.start place) (nat_lt place (window.start + window.size)) refl refl off
+off-page : (window : Window) (place : ℕ) → has_place window place ≡ false
+    → meets window place 1 ≡ false
+off-page window place off =
+    by (nat_le window.start place) (nat_lt place (window.start + window.size)) refl refl off
   where
-    by : (from to : Bool) → nat_le window.start place ≡ from → nat_lt place (window.start + window.size) ≡ to → (from && to) ≡ false
+    by : (from to : Bool) → nat_le window.start place ≡ from
+        → nat_lt place (window.start + window.size) ≡ to → (from && to) ≡ false
         → meets window place 1 ≡ false
     by false to before b off =
         let late : nat_lt window.start (place + 1) ≡ false = grind (arith, nat_tests, before) in
@@ -36,28 +39,42 @@ off-page window place off = by (nat_le window.start place) (nat_lt place (window
 
 module _ (item : Comment → Data) (window : Window) where
   abbrev written : List Comment → List ℕ
-  written comments = item_commas (items_of (map item (take window.size (drop window.start comments))))
+  written comments =
+      item_commas (items_of (map item (take window.size (drop window.start comments))))
 
-  pub counted-none : (counted : Counted) → counted.items.items ≡ [] → counted.total ≡ 0 → HasCounted item window [] counted
+  pub counted-none : (counted : Counted) → counted.items.items ≡ [] → counted.total ≡ 0
+      → HasCounted item window [] counted
   counted-none counted items total = record {
-    items = items ∙ sym (ap (λ shown. item_commas (items_of (map item shown))) (ap (take window.size) (drop_all window.start [] (omega arith)) ∙ take_all window.size [] (omega arith)));
+    items =
+        items
+        ∙ sym (ap (λ shown. item_commas (items_of (map item shown)))
+        (ap (take window.size) (drop_all window.start [] (omega arith))
+        ∙ take_all window.size [] (omega arith)));
     total = total;
   }
 
-  module _ (comments : List Comment) (old new : Counted) (has : HasCounted item window comments old) where
+  module _ (comments : List Comment) (old new : Counted)
+      (has : HasCounted item window comments old) where
     -- one that stands on the page, and was written
-    pub counted-shown : (comment : Comment) → has_place window old.total ≡ true → new.items.items ≡ old.items.items ++ item_text (item comment) → new.total ≡ old.total + 1
+    pub counted-shown : (comment : Comment) → has_place window old.total ≡ true
+        → new.items.items ≡ old.items.items ++ item_text (item comment) → new.total ≡ old.total + 1
         → HasCounted item window (comments ++ comment ∷ []) new
-    counted-shown comment on items total = by (nat_le window.start old.total) (nat_lt old.total (window.start + window.size)) refl refl on
+    counted-shown comment on items total =
+        by (nat_le window.start old.total)
+        (nat_lt old.total (window.start + window.size)) refl refl on
       where
-        by : (from to : Bool) → nat_le window.start old.total ≡ from → nat_lt old.total (window.start + window.size) ≡ to → (from && to) ≡ true
+        by : (from to : Bool) → nat_le window.start old.total ≡ from
+            → nat_lt old.total (window.start + window.size) ≡ to → (from && to) ≡ true
             → HasCounted item window (comments ++ comment ∷ []) new
         by true true from to on =
             let first : window.start ≤ old.total = grind (arith, nat_tests, from) in
             let last : old.total < window.start + window.size = grind (arith, nat_tests, to) in
-            let shown = window-shown window.start window.size comments comment (omega (arith, has.total, first)) (omega (arith, has.total, last)) in
+            let shown =
+            window-shown window.start window.size comments comment (omega (arith, has.total, first))
+            (omega (arith, has.total, last)) in
             let before = take window.size (drop window.start comments) in
-            let grown : written (comments ++ comment ∷ []) ≡ written comments ++ item_text (item comment) =
+            let grown : written (comments ++ comment ∷ [])
+            ≡ written comments ++ item_text (item comment) =
             ap (λ shown. item_commas (items_of (map item shown))) shown
             ∙ ap (λ trees. item_commas (items_of trees)) (map-append item before (comment ∷ []))
             ∙ item_commas-append (map item before) (item comment ∷ [])
@@ -70,16 +87,20 @@ module _ (item : Comment → Data) (window : Window) where
         by true false a b on = absurd (cc on)
 
     -- others, of which none stands on the page
-    pub counted-passed : (more : List Comment) → meets window old.total (length more) ≡ false → new.items.items ≡ old.items.items → new.total ≡ old.total + length more
+    pub counted-passed : (more : List Comment) → meets window old.total (length more) ≡ false
+        → new.items.items ≡ old.items.items → new.total ≡ old.total + length more
         → HasCounted item window (comments ++ more) new
     counted-passed more off items total =
         let past = window-passed window.start window.size comments more (rw has.total at off) in
         record {
-          items = items ∙ has.items ∙ sym (ap (λ shown. item_commas (items_of (map item shown))) past);
+          items =
+              items ∙ has.items ∙ sym (ap (λ shown. item_commas (items_of (map item shown))) past);
           total = omega (arith, total, has.total, length-append comments more);
         }
 
     -- one that doesn't
-    pub counted-off : (comment : Comment) → has_place window old.total ≡ false → new.items.items ≡ old.items.items → new.total ≡ old.total + 1
+    pub counted-off : (comment : Comment) → has_place window old.total ≡ false
+        → new.items.items ≡ old.items.items → new.total ≡ old.total + 1
         → HasCounted item window (comments ++ comment ∷ []) new
-    counted-off comment off items total = counted-passed (comment ∷ []) (off-page window old.total off) items total
+    counted-off comment off items total =
+        counted-passed (comment ∷ []) (off-page window old.total off) items total

@@ -9,13 +9,15 @@ module _ {A : Type 0} (start size : ℕ) where
   window xs = take size (drop start xs)
 
   -- one more, which stands on the page
-  pub window-shown : (xs : List A) (x : A) → start ≤ length xs → length xs < start + size → window (xs ++ x ∷ []) ≡ window xs ++ x ∷ []
+  pub window-shown : (xs : List A) (x : A) → start ≤ length xs → length xs < start + size
+      → window (xs ++ x ∷ []) ≡ window xs ++ x ∷ []
   window-shown xs x from to =
       let rest = length-drop start xs in
       let more = length-append (drop start xs) (x ∷ []) in
       let few : length (drop start xs) ≤ size = omega (arith, rest, from, to) in
       let fits : length (drop start xs ++ x ∷ []) ≤ size = omega (arith, rest, more, from, to) in
-      ap (take size) (drop-append-le start xs (x ∷ []) from) ∙ take_all size (drop start xs ++ x ∷ []) fits
+      ap (take size) (drop-append-le start xs (x ∷ []) from)
+      ∙ take_all size (drop start xs ++ x ∷ []) fits
       ∙ ap (λ front. front ++ x ∷ []) (sym (take_all size (drop start xs) few))
 
   empty : (ys : List A) → length ys ≤ 0 → ys ≡ []
@@ -24,11 +26,15 @@ module _ {A : Type 0} (start size : ℕ) where
 
   -- more, of which none does
   pub window-passed : (xs ys : List A)
-      → (nat_lt 0 (length ys) && nat_lt start (length xs + length ys) && nat_lt (length xs) (start + size)) ≡ false
+      → (nat_lt 0 (length ys) && nat_lt start (length xs + length ys)
+      && nat_lt (length xs) (start + size)) ≡ false
       → window (xs ++ ys) ≡ window xs
-  window-passed xs ys off = by (nat_lt 0 (length ys)) (nat_lt start (length xs + length ys)) (nat_lt (length xs) (start + size)) refl refl refl off
+  window-passed xs ys off =
+      by (nat_lt 0 (length ys)) (nat_lt start (length xs + length ys))
+      (nat_lt (length xs) (start + size)) refl refl refl off
     where
-      by : (some late early : Bool) → nat_lt 0 (length ys) ≡ some → nat_lt start (length xs + length ys) ≡ late → nat_lt (length xs) (start + size) ≡ early
+      by : (some late early : Bool) → nat_lt 0 (length ys) ≡ some
+          → nat_lt start (length xs + length ys) ≡ late → nat_lt (length xs) (start + size) ≡ early
           → (some && late && early) ≡ false → window (xs ++ ys) ≡ window xs
       by false late early none b c off =
           let nothing : length ys ≤ 0 = grind (arith, nat_tests, none) in
@@ -42,5 +48,6 @@ module _ {A : Type 0} (start size : ℕ) where
           let full : start + size ≤ length xs = grind (arith, nat_tests, after) in
           let from : start ≤ length xs = omega (arith, full) in
           let enough : size ≤ length (drop start xs) = omega (arith, length-drop start xs, full) in
-          ap (take size) (drop-append-le start xs ys from) ∙ take-append-le size (drop start xs) ys enough
+          ap (take size) (drop-append-le start xs ys from)
+          ∙ take-append-le size (drop start xs) ys enough
       by true true true a b c off = absurd (cc off)

@@ -36,7 +36,8 @@ unfolding percent_decode
 decode-plain [] h = refl
 decode-plain (b ∷ []) h = refl
 decode-plain (b ∷ c ∷ []) h = refl
-decode-plain (b ∷ c ∷ d ∷ rest) h = rw h.0.0 (ap (λ more. b ∷ more) (decode-plain (c ∷ d ∷ rest) h.1))
+decode-plain (b ∷ c ∷ d ∷ rest) h =
+    rw h.0.0 (ap (λ more. b ∷ more) (decode-plain (c ∷ d ∷ rest) h.1))
 
 pub split-plain : (text : List ℕ) → AllByRecursion IsPlain text → split ampersand text ≡ text ∷ []
 unfolding split
@@ -47,15 +48,22 @@ pub plus-plain : (text : List ℕ) → AllByRecursion IsPlain text → map plus_
 plus-plain [] h = refl
 plus-plain (b ∷ text) h = rw h.0.2 (ap (λ more. b ∷ more) (plus-plain text h.1))
 
-page-plain : (text : List ℕ) → AllByRecursion IsPlain text → AllByRecursion IsPlain (codes "page=" ++ text)
-page-plain text h = ((refl, refl, refl), ((refl, refl, refl), ((refl, refl, refl), ((refl, refl, refl), ((refl, refl, refl), h)))))
+page-plain : (text : List ℕ) → AllByRecursion IsPlain text
+    → AllByRecursion IsPlain (codes "page=" ++ text)
+page-plain text h = (
+  (refl, refl, refl),
+  ((refl, refl, refl), ((refl, refl, refl), ((refl, refl, refl), ((refl, refl, refl), h)))),
+)
 
 -- the query has one pair
-pub page-pair : (text : List ℕ) → AllByRecursion IsPlain text → raw_pairs (codes "page=" ++ text) ≡ (codes "page", text) ∷ []
+pub page-pair : (text : List ℕ) → AllByRecursion IsPlain text
+    → raw_pairs (codes "page=" ++ text) ≡ (codes "page", text) ∷ []
 unfolding raw_pairs
 page-pair text h =
-    ap (λ pieces. map split_pair (filter is_nonempty pieces)) (split-plain (codes "page=" ++ text) (page-plain text h))
-    ∙ ap (λ b. map split_pair (cond b ((codes "page=" ++ text) ∷ []) [])) (lt-ltb 0 (length (codes "page=" ++ text)) (some (codes "page=") text))
+    ap (λ pieces. map split_pair (filter is_nonempty pieces))
+    (split-plain (codes "page=" ++ text) (page-plain text h))
+    ∙ ap (λ b. map split_pair (cond b ((codes "page=" ++ text) ∷ []) []))
+    (lt-ltb 0 (length (codes "page=" ++ text)) (some (codes "page=") text))
   where
     some : (xs ys : List ℕ) → 0 < length ((112 ∷ 97 ∷ 103 ∷ 101 ∷ 61 ∷ []) ++ ys)
     some xs ys = omega arith
@@ -71,37 +79,55 @@ not-sign c s never h = by (nat_eq c s) refl
 
 pub digits-plain : (ds : List ℕ) → AllDigits 10 ds → AllByRecursion IsPlain ds
 digits-plain [] h = tt
-digits-plain (d ∷ ds) h =
-    ((not-sign d 37 (λ k. omega (arith, k)) h.0, not-sign d 38 (λ k. omega (arith, k)) h.0, not-sign d 43 (λ k. omega (arith, k)) h.0), digits-plain ds h.1)
+digits-plain (d ∷ ds) h = (
+  (
+    not-sign d 37 (λ k. omega (arith, k)) h.0,
+    not-sign d 38 (λ k. omega (arith, k)) h.0,
+    not-sign d 43 (λ k. omega (arith, k)) h.0,
+  ),
+  digits-plain ds h.1,
+)
 
 small : (p : ℕ) → p ≤ 999999999 → p < 2 ^ 64
 small p le = omega (arith, le)
 
 -- a plain text of UTF-8 is read as it is
-read-plain : (text : List ℕ) → AllByRecursion IsPlain text → is_utf8 text ≡ true → form_text text ≡ Some text
+read-plain : (text : List ℕ) → AllByRecursion IsPlain text → is_utf8 text ≡ true
+    → form_text text ≡ Some text
 read-plain text plain h =
-    ap (λ read. only_if is_utf8 read) (ap percent_decode (plus-plain text plain) ∙ decode-plain text plain)
+    ap (λ read. only_if is_utf8 read)
+    (ap percent_decode (plus-plain text plain) ∙ decode-plain text plain)
     ∙ ap (λ (b : Bool). if b then Some text else None) h
 
-pair-read : (raw : List ℕ × List ℕ) (name value : List ℕ) → form_text raw.0 ≡ Some name → form_text raw.1 ≡ Some value
+pair-read : (raw : List ℕ × List ℕ) (name value : List ℕ) → form_text raw.0 ≡ Some name
+    → form_text raw.1 ≡ Some value
     → decoded_pair raw ≡ Some (record { name = name; value = value })
 pair-read raw name value first second = rw (first, second) refl
 
 name-plain : AllByRecursion IsPlain (codes "page")
-name-plain = ((refl, refl, refl), ((refl, refl, refl), ((refl, refl, refl), ((refl, refl, refl), tt))))
+name-plain =
+    ((refl, refl, refl), ((refl, refl, refl), ((refl, refl, refl), ((refl, refl, refl), tt))))
 
-pub page-pairs : (p : ℕ) → p < 2 ^ 64 → pairs_of (codes "page=" ++ decimal p) ≡ Some (record { name = codes "page"; value = decimal p } ∷ [])
+pub page-pairs : (p : ℕ) → p < 2 ^ 64
+    → pairs_of (codes "page=" ++ decimal p)
+    ≡ Some (record { name = codes "page"; value = decimal p } ∷ [])
 page-pairs p few =
     let plain = digits-plain (decimal p) (decimal_is_IsNumeral p few).0.1 in
-    let text : is_utf8 (decimal p) ≡ true = is_utf8-from_IsUtf8 (decimal p) (IsUtf8-from_ascii (decimal p) (IsAscii-decimal p few)) in
+    let text : is_utf8 (decimal p) ≡ true =
+    is_utf8-from_IsUtf8 (decimal p) (IsUtf8-from_ascii (decimal p) (IsAscii-decimal p few)) in
     ap (λ raw. all_there (map decoded_pair raw)) (page-pair (decimal p) plain)
-    ∙ ap (λ one. all_there (one ∷ [])) (pair-read (codes "page", decimal p) (codes "page") (decimal p) (read-plain (codes "page") name-plain (ascii (codes "page") refl)) (read-plain (decimal p) plain text))
+    ∙ ap (λ one. all_there (one ∷ []))
+    (pair-read (codes "page", decimal p) (codes "page") (decimal p)
+    (read-plain (codes "page") name-plain (ascii (codes "page") refl))
+    (read-plain (decimal p) plain text))
 
 -- ---- the number itself
 
 digits-ascii : (ds : List ℕ) → AllDigits 10 ds → list_all is_ascii_digit ds ≡ true
 digits-ascii [] h = refl
-digits-ascii (d ∷ ds) h = let (low, high) = digit_from_value d h.0 in rw (digits-ascii ds h.1) (grind (arith, nat_tests, low, high))
+digits-ascii (d ∷ ds) h =
+    let (low, high) = digit_from_value d h.0 in
+    rw (digits-ascii ds h.1) (grind (arith, nat_tests, low, high))
 
 decimal-form : (p : ℕ) → 1 ≤ p → p < 2 ^ 64 → is_decimal (decimal p) ≡ true
 decimal-form p one few =
@@ -120,28 +146,35 @@ number p one le =
 
 segments : segments_of (codes "changes") ≡ Some (codes "changes" ∷ [])
 unfolding percent_decode
-segments = ap (λ read. all_there (read ∷ [])) (ap (λ (b : Bool). if b then Some (codes "changes") else None) (ascii (codes "changes") refl))
+segments =
+    ap (λ read. all_there (read ∷ []))
+    (ap (λ (b : Bool). if b then Some (codes "changes") else None) (ascii (codes "changes") refl))
 
 none-given : given_of (Page ∷ []) [] ≡ Ok []
 unfolding given_of raw_pairs split
 none-given = refl
 
 -- one pair is given once
-one-given : (p : ℕ) → p < 2 ^ 64 → given_of (Page ∷ []) (codes "page=" ++ decimal p) ≡ Ok (record { name = codes "page"; value = decimal p } ∷ [])
+one-given : (p : ℕ) → p < 2 ^ 64
+    → given_of (Page ∷ []) (codes "page=" ++ decimal p)
+    ≡ Ok (record { name = codes "page"; value = decimal p } ∷ [])
 unfolding given_of
 one-given p few = rw (page-pairs p few) refl
 
-page-parts : (p : ℕ) → target_parts (page_target p) ≡ Some (codes "changes", codes "page=" ++ decimal p)
+page-parts : (p : ℕ)
+    → target_parts (page_target p) ≡ Some (codes "changes", codes "page=" ++ decimal p)
 page-parts p = search rules
 
 pub changes-routed : route_of (Some Get) (codes "/changes") ≡ Ok (route.Read read.Changes)
 unfolding route_of path_of
 changes-routed = rw segments (rw none-given refl)
 
-pub page-routed : (p : ℕ) → 1 ≤ p → p ≤ 999999999 → route_of (Some Get) (page_target p) ≡ Ok (route.Read (read.ChangesPage p))
+pub page-routed : (p : ℕ) → 1 ≤ p → p ≤ 999999999
+    → route_of (Some Get) (page_target p) ≡ Ok (route.Read (read.ChangesPage p))
 unfolding route_of path_of
 page-routed p one le =
     ap (route_to (Some Get)) (page-parts p) ∙ routed
   where
-    routed : route_to (Some Get) (Some (codes "changes", codes "page=" ++ decimal p)) ≡ Ok (route.Read (read.ChangesPage p))
+    routed : route_to (Some Get) (Some (codes "changes", codes "page=" ++ decimal p))
+        ≡ Ok (route.Read (read.ChangesPage p))
     routed = rw segments (rw (one-given p (small p le)) (rw (number p one le) refl))

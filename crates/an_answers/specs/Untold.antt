@@ -15,8 +15,8 @@ GroupsUntold =
     (site : Site) (view : View) (prefer : Prefer) (read : Read)
     → answer_of site (blotted_view view) prefer read ≡ answer_of site view prefer read
 
--- where each annotation and each activity has one inner group, a caller is answered as from its view
--- of the state before, of which only the inner groups aren't given
+-- where each annotation and each activity has one inner group, a caller is answered as from its
+-- view of the state before, of which only the inner groups aren't given
 abbrev pub AnsweredAlike : Type 0
 AnsweredAlike =
     (s : FormerState) (caller : Caller) (site : Site) (prefer : Prefer) (read : Read)

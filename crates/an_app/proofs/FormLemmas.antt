@@ -16,16 +16,24 @@ use Rattle.an_app.specs.declared.form.Form.TheVariants as form
 abbrev Within : ℕ → ℕ → Type 0
 Within most number = (0 < number) × (number ≤ most)
 
-within-one : (most number : ℕ) (some : Bool) → nat_lt 0 number ≡ some → number ≤ most → IfSome (if some then Some number else None) (Within most)
+within-one : (most number : ℕ) (some : Bool) → nat_lt 0 number ≡ some → number ≤ most
+    → IfSome (if some then Some number else None) (Within most)
 within-one most number true is few = (grind (arith, nat_tests, is), few)
 within-one most number false is few = tt
 
-within-most : (most number : ℕ) (few : Bool) → nat_le number most ≡ few → IfSome (option_and_then (only_if (nat_lt 0)) (if few then Some number else None)) (Within most)
-within-most most number true is = within-one most number (nat_lt 0 number) refl (grind (arith, nat_tests, is))
+within-most : (most number : ℕ) (few : Bool) → nat_le number most ≡ few
+    → IfSome (option_and_then (only_if (nat_lt 0)) (if few then Some number else None))
+    (Within most)
+within-most most number true is =
+    within-one most number (nat_lt 0 number) refl (grind (arith, nat_tests, is))
 within-most most number false is = tt
 
-within-digits : (most : ℕ) (word : List ℕ) (digits : Bool) → IfSome (option_and_then (only_if (nat_lt 0)) (if digits then only_if (λ n. nat_le n most) (digits_value 10 word) else None)) (Within most)
-within-digits most word true = within-most most (digits_value 10 word) (nat_le (digits_value 10 word) most) refl
+within-digits : (most : ℕ) (word : List ℕ) (digits : Bool)
+    → IfSome (option_and_then (only_if (nat_lt 0))
+    (if digits then only_if (λ n. nat_le n most) (digits_value 10 word) else None))
+    (Within most)
+within-digits most word true =
+    within-most most (digits_value 10 word) (nat_le (digits_value 10 word) most) refl
 within-digits most word false = tt
 
 pub within : (most : ℕ) (word : List ℕ) → IfSome (from_one most word) (Within most)
@@ -33,12 +41,15 @@ within most word = within-digits most word (is_decimal word)
 
 -- ---- forms
 
-served-parts : (site : Option Site) (port workers connections : Option ℕ) (a b : ℕ) → b ≤ 64 → IfSome port (Within a) → IfSome workers (Within b) → IfSome (serving_of site port workers connections) IsServed
+served-parts : (site : Option Site) (port workers connections : Option ℕ) (a b : ℕ) → b ≤ 64
+    → IfSome port (Within a) → IfSome workers (Within b)
+    → IfSome (serving_of site port workers connections) IsServed
 served-parts None port workers connections a b few p w = tt
 served-parts (Some site) None workers connections a b few p w = tt
 served-parts (Some site) (Some port) None connections a b few p w = tt
 served-parts (Some site) (Some port) (Some workers) None a b few p w = tt
-served-parts (Some site) (Some port) (Some workers) (Some connections) a b few p w = let (some, most) = w in (p.0, omega (arith, some), omega (arith, few, most))
+served-parts (Some site) (Some port) (Some workers) (Some connections) a b few p w =
+    let (some, most) = w in (p.0, omega (arith, some), omega (arith, few, most))
 
 within-workers : (word : List ℕ) → IfSome (workers_of word) (Within 64)
 unfolding workers_of
@@ -48,14 +59,17 @@ within-port : (word : List ℕ) → IfSome (port_of word) (Within 65535)
 unfolding port_of
 within-port word = within 65535 word
 
-served-at : (settings : Option Site) (port : Option ℕ) (words : List (List ℕ)) → IfSome port (Within 65535) → IfSome (serving_at settings port words) IsServed
+served-at : (settings : Option Site) (port : Option ℕ) (words : List (List ℕ))
+    → IfSome port (Within 65535) → IfSome (serving_at settings port words) IsServed
 served-at settings port [] is = tt
 served-at settings port (workers ∷ []) is = tt
 served-at settings port (workers ∷ connections ∷ []) is =
-    served-parts settings port (workers_of workers) (connections_of connections) 65535 64 (omega arith) is (within-workers workers)
+    served-parts settings port (workers_of workers) (connections_of connections) 65535 64
+    (omega arith) is (within-workers workers)
 served-at settings port (workers ∷ connections ∷ word ∷ words) is = tt
 
-served-in : (settings : Option Site) (words : List (List ℕ)) → IfSome (serving_in settings words) IsServed
+served-in : (settings : Option Site) (words : List (List ℕ))
+    → IfSome (serving_in settings words) IsServed
 unfolding serving_in
 served-in settings [] = tt
 served-in settings (port ∷ words) = served-at settings (port_of port) words (within-port port)
@@ -82,7 +96,8 @@ served-export [] = tt
 served-export (by ∷ []) = tt
 served-export (by ∷ word ∷ words) = tt
 
-served-site : (by : List ℕ) (site : Option Site) → IfSome (option_map (λ site. form.Harvest site by) site) IsServed
+served-site : (by : List ℕ) (site : Option Site)
+    → IfSome (option_map (λ site. form.Harvest site by) site) IsServed
 served-site by None = tt
 served-site by (Some site) = tt
 
@@ -97,7 +112,8 @@ served-seed : (count : ℕ) (seed : Option ℕ) → IfSome (option_map (form.Tri
 served-seed count None = tt
 served-seed count (Some seed) = tt
 
-served-size : (count seed : Option ℕ) → IfSome (option_and_then (λ count. option_map (form.Trial count) seed) count) IsServed
+served-size : (count seed : Option ℕ)
+    → IfSome (option_and_then (λ count. option_map (form.Trial count) seed) count) IsServed
 served-size None seed = tt
 served-size (Some count) seed = served-seed count seed
 
@@ -107,7 +123,8 @@ served-trial (count ∷ []) = tt
 served-trial (count ∷ seed ∷ []) = served-size (trial_size count) (trial_seed seed)
 served-trial (count ∷ seed ∷ word ∷ words) = tt
 
-if-served : (b : Bool) (one other : Option Form) → IfSome one IsServed → IfSome other IsServed → IfSome (if b then one else other) IsServed
+if-served : (b : Bool) (one other : Option Form) → IfSome one IsServed → IfSome other IsServed
+    → IfSome (if b then one else other) IsServed
 if-served true one other first second = first
 if-served false one other first second = second
 

@@ -11,7 +11,8 @@ use Rattle.an_serve.proofs.IsolationLemmas.{request_alike}
 use Rattle.an_state.specs.State.{State}
 use Rattle.an_state.specs.View.{view_by}
 
-pub steps_alike : (site : Site) (s t : State) (caller : Caller) (prefer : Prefer) (read : Read) → SeesAlike s t caller
+pub steps_alike : (site : Site) (s t : State) (caller : Caller) (prefer : Prefer) (read : Read)
+    → SeesAlike s t caller
     → cost_of site (view_by s caller) prefer read ≡ cost_of site (view_by t caller) prefer read
 steps_alike site s t caller prefer read same = ap (λ view. cost_of site view prefer read) same
 

@@ -1,11 +1,11 @@
 -- The claim from the top down, in one file: how a run ends, which store it opens, what a connection
--- is, what an answer is, what a caller sees, who may read, which writes are accepted, and which cells
--- stand for a state.
+-- is, what an answer is, what a caller sees, who may read, which writes are accepted, and which
+-- cells stand for a state.
 --
 -- First come the definitions, passed on from the files where they stand, in the order in which they
--- are read. Then each is said once more: a function as an equation, which the check holds against the
--- definition, since `refl` is taken only where both sides are the same; a relation as a function from
--- it to what it comes to, whose body is what it is given.
+-- are read. Then each is said once more: a function as an equation, which the check holds against
+-- the definition, since `refl` is taken only where both sides are the same; a relation as a
+-- function from it to what it comes to, whose body is what it is given.
 use Rattle.std.specs.Prelude.{◌≡◌, ◌⊎◌, ℕ, ℤ, List, [], ◌∷◌, ◌++◌, filter, Bool, ◌&&◌, ◌||◌, refl}
 use Rattle.std.specs.Prelude.{if◌then◌else◌, is_none, Option, Some, None, Result, Ok, Err}
 use Rattle.an_base.specs.Outcome.{first_of}
@@ -104,8 +104,8 @@ left-while-told last s leaves = leaves
 
 -- ---- 3. A connection
 
--- each request is answered at a list of events that goes on from what was known, and what it adds is
--- known after it
+-- each request is answered at a list of events that goes on from what was known, and what it adds
+-- is known after it
 pub ran-on
     : {E : Type 0} (rules : Rules E) (item : Item E) (trail : List (Item E)) (from to : Known E)
     → Ran rules (item ∷ trail) from to
@@ -178,7 +178,8 @@ pub step-is
 unfolding step
 step-is s moment caller command = refl
 
--- the refusals before the tree is read, the tree's own, and those of what it asks for, in this order
+-- the refusals before the tree is read, the tree's own, and those of what it asks for, in this
+-- order
 pub step-by-is
     : (s : State) (moment : ℤ) (command : Command) (who : Identity)
     → step_by s moment command who

@@ -16,8 +16,8 @@ OpensStore (form.Session site) = ⊤
 OpensStore (form.Serve serving) = ⊤
 OpensStore (form.Trial count seed) = ⊥
 
--- Only a run whose store was opened ends so. After a failed write, a fault of the keeper and want of
--- memory it may have been opened or not.
+-- Only a run whose store was opened ends so. After a failed write, a fault of the keeper and want
+-- of memory it may have been opened or not.
 abbrev pub IsOfOpened : Status → Type 0
 IsOfOpened status.Done = ⊤
 IsOfOpened status.Misunderstood = ⊤

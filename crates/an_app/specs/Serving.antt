@@ -24,9 +24,10 @@ pub record DoorEnd : Type 0 where
   pub faults : ℕ
 
 -- How the workers of an open store end at a door, bound to a port for so many connections, where
--- `Failed` says that the line's count of write faults rose. `Done` is for a door that has ended, each
--- of whose links was handed in. Nothing is read.
-unfoldable pub ServesTo : DoorEnd → Type 0 → ℕ → ℕ → Option Traffic → Option Traffic → Status → Type 0
+-- `Failed` says that the line's count of write faults rose. `Done` is for a door that has ended,
+-- each of whose links was handed in. Nothing is read.
+unfoldable pub ServesTo : DoorEnd → Type 0 → ℕ → ℕ → Option Traffic → Option Traffic → Status
+    → Type 0
 ServesTo door Failed port most old new Done = Serves port most door.tally old new
 ServesTo door Failed port most old new DoorFailed =
     (0 < door.faults) × Writes door_text old new

@@ -23,8 +23,8 @@ ended_status ended.ReadFault = status.ReadFault
 ended_status ended.WriteFault = status.WriteFault
 ended_status ended.Memory = status.Memory
 
--- From the state with which the store was opened one connection was served, each of whose writes was
--- kept before its reply was written, and the state that they led to is left kept.
+-- From the state with which the store was opened one connection was served, each of whose writes
+-- was kept before its reply was written, and the state that they led to is left kept.
 pub record SessionOpened (outside : Outside) (clock : ℤ → Bool) (site : Site) (old new : Line)
     (end : Status) : Type 0 where
   pub state : State
@@ -38,8 +38,8 @@ pub record SessionOpened (outside : Outside) (clock : ℤ → Bool) (site : Site
   pub legal : IsLegal behind.list
   pub leaves : Keeps (told_at behind.list) (state_at behind.list) outside.after
 
--- How a run of `session` ends, with moments that the clock tells. It prints nothing of its own where
--- the store is opened.
+-- How a run of `session` ends, with moments that the clock tells. It prints nothing of its own
+-- where the store is opened.
 abbrev pub SessionAt : Outside → (ℤ → Bool) → Site → Line → Line → Status → Type 0
 SessionAt outside clock site old new status =
     SessionOpened outside clock site old new status

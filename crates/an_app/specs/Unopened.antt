@@ -42,16 +42,16 @@ Unopened Cause Failed old new Misunderstood = ⊥
 Unopened Cause Failed old new NoReader = ⊥
 Unopened Cause Failed old new DoorFailed = ⊥
 
--- what may keep a store from being opened; of damage, that the cells are damaged so which the keeper
--- told before, where it tells them still
+-- what may keep a store from being opened; of damage, that the cells are damaged so which the
+-- keeper told before, where it tells them still
 abbrev pub IsCause : Outside → OpenError → Type 0
 IsCause outside error.Keeper = outside.keeper_can_fail
 IsCause outside (error.Damaged tab key) =
     WasDamagedBy outside.before outside.after (error.Damaged tab key)
 IsCause outside error.Memory = ⊥
 
--- the cells of a run whose store isn't opened: none was changed, unless memory ran out once those of
--- the first format were turned into today's
+-- the cells of a run whose store isn't opened: none was changed, unless memory ran out once those
+-- of the first format were turned into today's
 abbrev pub LeavesCells : Status → Told → Told → Type 0
 LeavesCells Memory before after = StaysOrRenews before after
 LeavesCells other before after = StaysOrBegins before after

@@ -18,18 +18,27 @@ record Parts (text : List ℕ) : Type 0 where
   pub first : get_or text 0 0 ≡ 48 → length text ≡ 1
 
 parts_of : (text : List ℕ) → is_decimal text ≡ true → Parts text
-parts_of text h = record { some = grind (arith, nat_tests); digits = grind (arith, nat_tests); first = grind (arith, nat_tests) }
+parts_of text h = record {
+  some = grind (arith, nat_tests);
+  digits = grind (arith, nat_tests);
+  first = grind (arith, nat_tests);
+}
 
 -- the number that is read has the text as its own
-pub decimal_is_text : (text : List ℕ) (n : ℕ) → is_decimal text ≡ true → ParsesUnsigned {E = ParseIntError} 32 10 text (Ok n) → decimal n ≡ text
+pub decimal_is_text : (text : List ℕ) (n : ℕ) → is_decimal text ≡ true
+    → ParsesUnsigned {E = ParseIntError} 32 10 text (Ok n) → decimal n ≡ text
 decimal_is_text text n h parsed =
     let parts = parts_of text h in
     let read : ((0 < length text) × (digits_value 10 text < 2 ^ 32)) × (n ≡ digits_value 10 text) =
     parse_digits digits_are_numerals {E = ParseIntError} 32 text (Ok n) parsed parts.digits in
-    ap decimal read.1 ∙ decimal-digits_value digits_are_numerals text parts.digits parts.some parts.first (omega arith)
+    ap decimal read.1
+    ∙ decimal-digits_value digits_are_numerals text parts.digits parts.some parts.first
+    (omega arith)
 
 -- digits that can't be read are of a number beyond 32 bits
-pub decimal_of-unread : (greatest : ℕ) (text : List ℕ) (e : ParseIntError) → greatest < 2 ^ 32 → is_decimal text ≡ true → ParsesUnsigned {E = ParseIntError} 32 10 text (Err e) → None ≡ decimal_of greatest text
+pub decimal_of-unread : (greatest : ℕ) (text : List ℕ) (e : ParseIntError) → greatest < 2 ^ 32
+    → is_decimal text ≡ true → ParsesUnsigned {E = ParseIntError} 32 10 text (Err e)
+    → None ≡ decimal_of greatest text
 decimal_of-unread greatest text e small h parsed =
     let parts = parts_of text h in
     let unread : ¬ ((0 < length text) × (digits_value 10 text < 2 ^ 32)) =

@@ -12,11 +12,13 @@ use Rattle.an_base.specs.Front.{after_front}
 
 -- what `strip_prefix` leaves
 pub front-stripped : (front text : List ℕ) (r : Option (Bor (List ℕ)))
-    → MatchOption r (FindsTextPrefix front text None) (λ x. StripsPrefix (FindsTextPrefix front) text x.now)
+    → MatchOption r (FindsTextPrefix front text None)
+    (λ x. StripsPrefix (FindsTextPrefix front) text x.now)
     → option_map (λ s. s.now) r ≡ after_front front text
 front-stripped front text None h = sym (cond-false _ _ _ (sym (starts_text false front text h)))
 front-stripped front text (Some x) (n, found, rest, size) =
-    let starts = starts_text true front text (n, found, subst (IsCharBoundary text) (sym found.0) found.2) in
+    let starts =
+    starts_text true front text (n, found, subst (IsCharBoundary text) (sym found.0) found.2) in
     ap Some (rest ∙ ap (λ k. drop k text) found.0) ∙ sym (cond-true _ _ _ (sym starts))
 
 -- after a front that stands there
@@ -26,16 +28,22 @@ starts-there (b ∷ front) rest = rw (eq-eqb b b refl) (starts-there front rest)
 
 pub front-there : (front rest : List ℕ) → after_front front (front ++ rest) ≡ Some rest
 front-there front rest =
-    ap (λ (b : Bool). if b then Some (drop (length front) (front ++ rest)) else None) (starts-there front rest) ∙ ap Some (drop-append_seam front rest)
+    ap (λ (b : Bool). if b then Some (drop (length front) (front ++ rest)) else None)
+    (starts-there front rest)
+    ∙ ap Some (drop-append_seam front rest)
 
 -- what stands after a front is all but the front
-pub front-cut : (front text rest : List ℕ) → after_front front text ≡ Some rest → text ≡ front ++ rest
+pub front-cut : (front text rest : List ℕ) → after_front front text ≡ Some rest
+    → text ≡ front ++ rest
 front-cut [] text rest is = cc is
 front-cut (b ∷ front) [] rest is = absurd (cc is)
 front-cut (b ∷ front) (c ∷ text) rest is = by (nat_eq b c) refl is (front-cut front text rest)
   where
-    by : (same : Bool) → nat_eq b c ≡ same → (if same && starts_with nat_eq text front then Some (drop (length front) text) else None) ≡ Some rest
-        → (after_front front text ≡ Some rest → text ≡ front ++ rest) → c ∷ text ≡ b ∷ (front ++ rest)
+    by : (same : Bool) → nat_eq b c ≡ same
+        → (if same && starts_with nat_eq text front then Some (drop (length front) text) else None)
+        ≡ Some rest
+        → (after_front front text ≡ Some rest → text ≡ front ++ rest)
+        → c ∷ text ≡ b ∷ (front ++ rest)
     by true same is cut =
         let equal : c ≡ b = grind (arith, nat_tests, same) in
         ap (λ c. c ∷ text) equal ∙ ap (λ t. b ∷ t) (cut is)

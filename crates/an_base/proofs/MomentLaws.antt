@@ -40,22 +40,31 @@ text_has_form t date time =
 
 text_read : (t : DateTime) → date_time_in (date_time_text t) ≡ t
 text_read t =
-    same_parts (date_time_in (date_time_text t)) t (omega arith) (omega arith) (omega arith) (omega arith) (omega arith) (omega arith)
+    same_parts (date_time_in (date_time_text t)) t (omega arith) (omega arith) (omega arith)
+    (omega arith) (omega arith) (omega arith)
 
 -- ## What is read
 
 -- the bytes of a text from a place on
-byte_at : (text : List ℕ) (k : ℕ) → has_form text ≡ true → k < 20 → drop k text ≡ slice_index text k ∷ drop (suc k) text
+byte_at : (text : List ℕ) (k : ℕ) → has_form text ≡ true → k < 20
+    → drop k text ≡ slice_index text k ∷ drop (suc k) text
 byte_at text k h low = drop-cons text k 0 (omega (arith, form_length text h))
 
-tens : (text : List ℕ) (at : ℕ) → has_form text ≡ true → IsTrue (has_digits at) → 48 + number_at text at / 10 ≡ slice_index text at
+tens : (text : List ℕ) (at : ℕ) → has_form text ≡ true → IsTrue (has_digits at)
+    → 48 + number_at text at / 10 ≡ slice_index text at
 tens text at h digits = omega (arith, digits_at text at h digits)
 
-ones : (text : List ℕ) (at : ℕ) → has_form text ≡ true → IsTrue (has_digits at) → 48 + number_at text at % 10 ≡ slice_index text (at + 1)
+ones : (text : List ℕ) (at : ℕ) → has_form text ≡ true → IsTrue (has_digits at)
+    → 48 + number_at text at % 10 ≡ slice_index text (at + 1)
 ones text at h digits = omega (arith, digits_at text at h digits)
 
 -- a text of the form is its twenty bytes
-text_bytes : (text : List ℕ) → has_form text ≡ true → text ≡ slice_index text 0 ∷ slice_index text 1 ∷ slice_index text 2 ∷ slice_index text 3 ∷ slice_index text 4 ∷ slice_index text 5 ∷ slice_index text 6 ∷ slice_index text 7 ∷ slice_index text 8 ∷ slice_index text 9 ∷ slice_index text 10 ∷ slice_index text 11 ∷ slice_index text 12 ∷ slice_index text 13 ∷ slice_index text 14 ∷ slice_index text 15 ∷ slice_index text 16 ∷ slice_index text 17 ∷ slice_index text 18 ∷ slice_index text 19 ∷ []
+text_bytes : (text : List ℕ) → has_form text ≡ true
+    → text ≡ slice_index text 0 ∷ slice_index text 1 ∷ slice_index text 2 ∷ slice_index text 3
+    ∷ slice_index text 4 ∷ slice_index text 5 ∷ slice_index text 6 ∷ slice_index text 7
+    ∷ slice_index text 8 ∷ slice_index text 9 ∷ slice_index text 10 ∷ slice_index text 11
+    ∷ slice_index text 12 ∷ slice_index text 13 ∷ slice_index text 14 ∷ slice_index text 15
+    ∷ slice_index text 16 ∷ slice_index text 17 ∷ slice_index text 18 ∷ slice_index text 19 ∷ []
 text_bytes text h =
     let a = byte_at text 0 h (omega arith) in
     let b = byte_at text 1 h (omega arith) in
@@ -77,13 +86,16 @@ text_bytes text h =
     let s = byte_at text 17 h (omega arith) in
     let t = byte_at text 18 h (omega arith) in
     let u = byte_at text 19 h (omega arith) in
-    let past : drop 20 text ≡ [] = nil_from_length (drop 20 text) (omega (arith, length-drop 20 text, form_length text h)) in
+    let past : drop 20 text ≡ [] =
+    nil_from_length (drop 20 text) (omega (arith, length-drop 20 text, form_length text h)) in
     cc
 
 text_written : (text : List ℕ) → has_form text ≡ true → text ≡ date_time_text (date_time_in text)
 text_written text h =
-    let century : (100 * number_at text 0 + number_at text 2) / 100 ≡ number_at text 0 = omega (arith, digits_at text 2 h refl) in
-    let year : (100 * number_at text 0 + number_at text 2) % 100 ≡ number_at text 2 = omega (arith, digits_at text 2 h refl) in
+    let century : (100 * number_at text 0 + number_at text 2) / 100 ≡ number_at text 0 =
+    omega (arith, digits_at text 2 h refl) in
+    let year : (100 * number_at text 0 + number_at text 2) % 100 ≡ number_at text 2 =
+    omega (arith, digits_at text 2 h refl) in
     let a = tens text 0 h refl in
     let b = ones text 0 h refl in
     let c = tens text 2 h refl in
@@ -120,13 +132,17 @@ moment_again m h = let same = since_year_zero m h in omega (arith, signed_arith)
 
 seconds_of_moment : (seconds : ℕ) → unsigned_abs (pos seconds -ℤ pos epoch +ℤ pos epoch) ≡ seconds
 seconds_of_moment seconds =
-    let same : pos seconds -ℤ pos epoch +ℤ pos epoch ≡ pos seconds = omega (arith, signed_arith) in ap unsigned_abs same
+    let same : pos seconds -ℤ pos epoch +ℤ pos epoch ≡ pos seconds = omega (arith, signed_arith) in
+    ap unsigned_abs same
 
-moment_of_text : (t : DateTime) → DateHolds t → TimeHolds t → moment_of (date_time_text t) ≡ Ok (pos (seconds_before t) -ℤ pos epoch)
+moment_of_text : (t : DateTime) → DateHolds t → TimeHolds t
+    → moment_of (date_time_text t) ≡ Ok (pos (seconds_before t) -ℤ pos epoch)
 unfolding moment_of
 moment_of_text t date time =
-    let formed : moment_of (date_time_text t) ≡ moment_at (date_time_in (date_time_text t)) = rw (text_has_form t date time) refl in
-    let holds : moment_at t ≡ Ok (pos (seconds_before t) -ℤ pos epoch) = rw (is_date-from t date, is_time-from t time) refl in
+    let formed : moment_of (date_time_text t) ≡ moment_at (date_time_in (date_time_text t)) =
+    rw (text_has_form t date time) refl in
+    let holds : moment_at t ≡ Ok (pos (seconds_before t) -ℤ pos epoch) =
+    rw (is_date-from t date, is_time-from t time) refl in
     formed ∙ ap moment_at (text_read t) ∙ holds
 
 -- each moment is read from its text
@@ -134,7 +150,9 @@ pub moment_read : (m : ℤ) → IsMoment m → moment_of (moment_text m) ≡ Ok 
 unfolding moment_text
 moment_read m h =
     let seconds = unsigned_abs (m +ℤ pos epoch) in
-    let read = moment_of_text (date_time_after seconds) (date_holds seconds (seconds_small m h)) (time_holds seconds) in
+    let read =
+    moment_of_text (date_time_after seconds) (date_holds seconds (seconds_small m h))
+    (time_holds seconds) in
     read ∙ ap (λ n. Ok (pos n -ℤ pos epoch)) (seconds_again seconds) ∙ ap Ok (moment_again m h)
 
 -- what stands behind a moment that is read
@@ -144,7 +162,8 @@ record IsReadAs (text : List ℕ) (m : ℤ) : Type 0 where
   time : is_time (date_time_in text) ≡ true
   value : pos (seconds_before (date_time_in text)) -ℤ pos epoch ≡ m
 
-read_at : (t : DateTime) (m : ℤ) → moment_at t ≡ Ok m → ((is_date t && is_time t) ≡ true) × (pos (seconds_before t) -ℤ pos epoch ≡ m)
+read_at : (t : DateTime) (m : ℤ) → moment_at t ≡ Ok m
+    → ((is_date t && is_time t) ≡ true) × (pos (seconds_before t) -ℤ pos epoch ≡ m)
 read_at t m h = elim (cases_Bool (is_date t && is_time t)) [
   | inl holds ↦
       let same : Ok (pos (seconds_before t) -ℤ pos epoch) ≡ Ok m = rw holds at h in
@@ -158,22 +177,29 @@ read_as text m h = elim (cases_Bool (has_form text)) [
   | inl holds ↦
       let at : moment_at (date_time_in text) ≡ Ok m = rw holds at h in
       let read = read_at (date_time_in text) m at in
-      let parts : (is_date (date_time_in text) ≡ true) × (is_time (date_time_in text) ≡ true) = and_parts (is_date (date_time_in text)) (is_time (date_time_in text)) read.0 in
+      let parts : (is_date (date_time_in text) ≡ true) × (is_time (date_time_in text) ≡ true) =
+      and_parts (is_date (date_time_in text)) (is_time (date_time_in text)) read.0 in
       record { form = holds; date = parts.0; time = parts.1; value = read.1 }
   | inr fails ↦ let never : Err Form ≡ Ok m = rw fails at h in cc
 ]
 
 -- what is read is a moment, and its text is the one that was read
-pub moment_written : (text : List ℕ) (m : ℤ) → moment_of text ≡ Ok m → IsMoment m × (text ≡ moment_text m)
+pub moment_written : (text : List ℕ) (m : ℤ) → moment_of text ≡ Ok m
+    → IsMoment m × (text ≡ moment_text m)
 unfolding moment_text
 moment_written text m h =
     let read : IsReadAs text m = read_as text m h in
     let t = date_time_in text in
     let date : DateHolds t = DateHolds-from t read.date in
     let time : TimeHolds t = TimeHolds-from t read.time in
-    let range : IsMoment (pos (seconds_before t) -ℤ pos epoch) = (omega (arith, signed_arith), omega (arith, signed_arith, days_high t date, time.hour, time.minute, time.second)) in
-    let seconds : unsigned_abs (m +ℤ pos epoch) ≡ seconds_before t = rw (← read.value) (seconds_of_moment (seconds_before t)) in
-    let found : date_time_after (unsigned_abs (m +ℤ pos epoch)) ≡ t = date_time_after-is t (unsigned_abs (m +ℤ pos epoch)) date time seconds in
+    let range : IsMoment (pos (seconds_before t) -ℤ pos epoch) = (
+      omega (arith, signed_arith),
+      omega (arith, signed_arith, days_high t date, time.hour, time.minute, time.second),
+    ) in
+    let seconds : unsigned_abs (m +ℤ pos epoch) ≡ seconds_before t =
+    rw (← read.value) (seconds_of_moment (seconds_before t)) in
+    let found : date_time_after (unsigned_abs (m +ℤ pos epoch)) ≡ t =
+    date_time_after-is t (unsigned_abs (m +ℤ pos epoch)) date time seconds in
     let P : ℤ → Type 0 = λ z. IsMoment z in
     (subst P read.value range, text_written text read.form ∙ ap date_time_text (sym found))
 
@@ -181,7 +207,9 @@ moment_written text m h =
 form_ascii : (k : ℕ) → k < 20 → slice_index form k < 128
 form_ascii k low = elim (cases_lt (slice_index form k) 128) [
   | inl ascii ↦ ascii
-  | inr beyond ↦ absurd (true≢false (list_all_at (λ b. nat_lt b 128) form k 0 low (le-ltb (slice_index form k) 128 beyond)))
+  | inr beyond ↦
+      absurd (true≢false
+      (list_all_at (λ b. nat_lt b 128) form k 0 low (le-ltb (slice_index form k) 128 beyond)))
 ]
 
 form_byte_ascii : (text : List ℕ) (k : ℕ) → has_form text ≡ true → k < 20 → slice_index text k < 128
@@ -204,4 +232,6 @@ pub moment_text-ascii : (m : ℤ) → IsMoment m → IsAscii (moment_text m)
 unfolding moment_text
 moment_text-ascii m h =
     let seconds = unsigned_abs (m +ℤ pos epoch) in
-    form_is_ascii (moment_text m) (text_has_form (date_time_after seconds) (date_holds seconds (seconds_small m h)) (time_holds seconds))
+    form_is_ascii (moment_text m)
+    (text_has_form (date_time_after seconds) (date_holds seconds (seconds_small m h))
+    (time_holds seconds))

@@ -16,6 +16,8 @@ unfolding is_moment
 told m =
     let first : ℤ = negsuc 62_167_219_199 in
     let last : ℤ = pos 253_402_300_799 in (
-      λ is. let parts = and_parts (int_le first m) _ is in (in_order first m parts.0, in_order m last parts.1),
+      λ is.
+          let parts = and_parts (int_le first m) _ is in
+          (in_order first m parts.0, in_order m last parts.1),
       λ is. and_from _ _ (passed (int_le first m) is.0.le) (passed (int_le m last) is.1.le),
     )

@@ -10,7 +10,8 @@ use Rattle.an_base.specs.declared.name.NameError.TheVariants.{Empty, Long, Sign}
 abbrev bad : ℕ → Bool
 bad b = not (is_name_sign b)
 
-none-after : (b : ℕ) (text : List ℕ) → is_name_sign b ≡ true → position bad (b ∷ text) ≡ None → position bad text ≡ None
+none-after : (b : ℕ) (text : List ℕ) → is_name_sign b ≡ true → position bad (b ∷ text) ≡ None
+    → position bad text ≡ None
 none-after b text is h = let fails : bad b ≡ false = ap not is in grind (arith, common_steps)
 
 none-first : (b : ℕ) (text : List ℕ) → is_name_sign b ≡ false → position bad (b ∷ text) ≡ None → ⊥
@@ -19,7 +20,9 @@ none-first b text is h =
     let first : position bad (b ∷ text) ≡ Some 0 = rw passes_ (grind (arith, common_steps)) in
     let none : ◌≡◌ {A = Option ℕ} None (Some 0) = sym h ∙ first in cc
 
-no_sign : (empty long : Bool) (at : Option ℕ) → is_none (first_of (when empty Empty ∷ when long Long ∷ option_map Sign at ∷ [])) ≡ true → at ≡ None
+no_sign : (empty long : Bool) (at : Option ℕ)
+    → is_none (first_of (when empty Empty ∷ when long Long ∷ option_map Sign at ∷ [])) ≡ true
+    → at ≡ None
 no_sign true long at h = absurd (cc)
 no_sign false true at h = absurd (cc)
 no_sign false false None h = refl
@@ -34,10 +37,12 @@ module _ (Holds : ℕ → Type 0) (of_sign : (b : ℕ) → is_name_sign b ≡ tr
   of_signs [] h = tt
   of_signs (b ∷ text) h = by (is_name_sign b) refl (λ later. of_signs text later)
     where
-      by : (sign : Bool) → is_name_sign b ≡ sign → (position bad text ≡ None → AllByRecursion Holds text) → AllByRecursion Holds (b ∷ text)
+      by : (sign : Bool) → is_name_sign b ≡ sign
+          → (position bad text ≡ None → AllByRecursion Holds text) → AllByRecursion Holds (b ∷ text)
       by true is rest = (of_sign b is, rest (none-after b text is h))
       by false is rest = absurd (none-first b text is h)
 
   pub name-signs : (name : List ℕ) → is_name name ≡ true → AllByRecursion Holds name
   name-signs name h =
-      of_signs name (no_bad (is_dash name) (position bad name) (no_sign (length name == 0) (nat_lt 64 (length name)) (bad_sign name) h))
+      of_signs name (no_bad (is_dash name) (position bad name)
+      (no_sign (length name == 0) (nat_lt 64 (length name)) (bad_sign name) h))

@@ -54,19 +54,26 @@ unfolding trees_on_literals
 beyond_least = refl
 
 -- the later of two members counts, and what it replaces is not judged
-twice : tree_of (codes "{\"a\":1.5,\"a\":1}") ≡ Ok (object (member (codes "a") (number (unsigned 1)) no_members))
+twice : tree_of (codes "{\"a\":1.5,\"a\":1}")
+    ≡ Ok (object (member (codes "a") (number (unsigned 1)) no_members))
 unfolding trees_on_literals
 twice = refl
 
-text_of_pair : compact_text (object (member (codes "a") (array no_items) (member (codes "b") (number (unsigned 1)) no_members))) ≡ codes "{\"a\":[],\"b\":1}"
+text_of_pair : compact_text
+    (object
+    (member (codes "a") (array no_items) (member (codes "b") (number (unsigned 1)) no_members)))
+    ≡ codes "{\"a\":[],\"b\":1}"
 unfolding trees_on_literals
 text_of_pair = refl
 
-ascending : tree_of (codes "{\"b\":1,\"a\":[]}") ≡ Ok (object (member (codes "a") (array no_items) (member (codes "b") (number (unsigned 1)) no_members)))
+ascending : tree_of (codes "{\"b\":1,\"a\":[]}")
+    ≡ Ok (object
+    (member (codes "a") (array no_items) (member (codes "b") (number (unsigned 1)) no_members)))
 unfolding trees_on_literals
 ascending = refl
 
-not_ascending : is_tree (object (member (codes "b") null (member (codes "a") null no_members))) ≡ false
+not_ascending : is_tree (object (member (codes "b") null (member (codes "a") null no_members)))
+    ≡ false
 unfolding trees_on_literals
 not_ascending = refl
 

@@ -25,14 +25,21 @@ use Rattle.an_complete.specs.Complete.{asked_terms, ask_form, ask_iri, complete_
 use Rattle.an_list.specs.declared.error.ReadError.TheVariants.{Absent}
 
 unfoldable completions_on_literals : Unit {0}
-unfolding asked_terms ask_form terms_page totals_of capped note_terms note_occurrences texts_of occurrences_of placed term_of caseless unicode_normalization unicode_segmentation byte_serialize percent_encode_byte escape_byte digits
+unfolding asked_terms ask_form terms_page totals_of capped note_terms note_occurrences texts_of
+    occurrences_of placed term_of caseless unicode_normalization unicode_segmentation byte_serialize
+    percent_encode_byte escape_byte digits
 completions_on_literals = tt
 
 abbrev site : Site
 site = record { base = codes "http://a.example"; size = 10 }
 
 abbrev manifest : ManifestState
-manifest = record { name = codes "m1"; version = 1; group = Public; live = Some (record { created = pos 0; modified = None; tree = object no_members }) }
+manifest = record {
+  name = codes "m1";
+  version = 1;
+  group = Public;
+  live = Some (record { created = pos 0; modified = None; tree = object no_members });
+}
 
 abbrev note : List ℕ → List ℕ → NoteState
 note name text = record {
@@ -63,7 +70,10 @@ row-iri : ask_iri site.base (codes "m1") ask ≡ codes "http://a.example/autocom
 unfolding completions_on_literals
 row-iri = refl
 
-row-iri_of_all : ask_iri site.base (codes "m1") (record ask { q = codes "a b"; filters = record unfiltered { motivation = Some []; user = Some (codes "x/y") } })
+row-iri_of_all : ask_iri site.base (codes "m1") (record ask {
+  q = codes "a b";
+  filters = record unfiltered { motivation = Some []; user = Some (codes "x/y") };
+})
     ≡ codes "http://a.example/autocomplete/m1?q=a+b&min=3&motivation=&user=x%2Fy"
 unfolding completions_on_literals
 row-iri_of_all = refl
@@ -77,7 +87,8 @@ row-absent = refl
 abbrev herons : List NoteState
 herons = note (codes "n1") (codes "heron") ∷ note (codes "n2") (codes "heron heron") ∷ []
 
-row-both : asked_terms (view herons) (codes "m1") ask ≡ record { term = codes "heron"; total = 3 } ∷ []
+row-both : asked_terms (view herons) (codes "m1") ask
+    ≡ record { term = codes "heron"; total = 3 } ∷ []
 unfolding completions_on_literals
 row-both = refl
 
@@ -85,11 +96,14 @@ row-first_alone : asked_terms (view (note (codes "n1") (codes "heron") ∷ [])) 
 unfolding completions_on_literals
 row-first_alone = refl
 
-row-folded : asked_terms (view (note (codes "n1") (codes "Two Herons") ∷ [])) (codes "m1") (record ask { q = codes "HER"; min = None }) ≡ record { term = codes "herons"; total = 1 } ∷ []
+row-folded : asked_terms (view (note (codes "n1") (codes "Two Herons") ∷ [])) (codes "m1")
+    (record ask { q = codes "HER"; min = None }) ≡ record { term = codes "herons"; total = 1 } ∷ []
 unfolding completions_on_literals
 row-folded = refl
 
-row-another_user : asked_terms (view herons) (codes "m1") (record ask { filters = record unfiltered { user = Some (codes "http://a.example/readers/tom") } }) ≡ []
+row-another_user : asked_terms (view herons) (codes "m1") (record ask {
+  filters = record unfiltered { user = Some (codes "http://a.example/readers/tom") };
+}) ≡ []
 unfolding completions_on_literals
 row-another_user = refl
 
@@ -99,26 +113,35 @@ row-no_filter : complete_cost (view herons) (codes "m1") ask ≡ 0
 unfolding completions_on_literals
 row-no_filter = refl
 
-row-filter : complete_cost (view herons) (codes "m1") (record ask { filters = record unfiltered { user = Some (codes "http://a.example/readers/tom") } }) ≡ 2
+row-filter : complete_cost (view herons) (codes "m1") (record ask {
+  filters = record unfiltered { user = Some (codes "http://a.example/readers/tom") };
+}) ≡ 2
 unfolding completions_on_literals
 row-filter = refl
 
 -- a filter without a piece lets all pass
-row-empty_filter : complete_cost (view herons) (codes "m1") (record ask { filters = record unfiltered { user = Some (codes " ") } }) ≡ 0
+row-empty_filter : complete_cost (view herons) (codes "m1")
+    (record ask { filters = record unfiltered { user = Some (codes " ") } }) ≡ 0
 unfolding completions_on_literals
 row-empty_filter = refl
 
 -- ---- the page
 
-row-no_terms : compact_text (terms_page (codes "http://a.example/autocomplete/m1?q=her&min=3") [] []) ≡ (
+row-no_terms :
+    compact_text (terms_page (codes "http://a.example/autocomplete/m1?q=her&min=3") [] []) ≡ (
     codes "{\"@context\":\"http://iiif.io/api/search/2/context.json\"," ++ (
-    codes "\"id\":\"http://a.example/autocomplete/m1?q=her&min=3\",\"items\":[],\"type\":\"TermPage\"}"))
+    codes
+    "\"id\":\"http://a.example/autocomplete/m1?q=her&min=3\",\"items\":[],\"type\":\"TermPage\"}"))
 unfolding completions_on_literals
 row-no_terms = refl
 
-row-terms : compact_text (terms_page (codes "http://a.example/autocomplete/m1?q=her") (codes "page" ∷ []) (record { term = codes "heron"; total = 3 } ∷ record { term = codes "hers"; total = 1 } ∷ [])) ≡ (
+row-terms : compact_text (terms_page
+    (codes "http://a.example/autocomplete/m1?q=her") (codes "page" ∷ [])
+    (record { term = codes "heron"; total = 3 } ∷ record { term = codes "hers"; total = 1 } ∷ []))
+    ≡ (
     codes "{\"@context\":\"http://iiif.io/api/search/2/context.json\"," ++ (
     codes "\"id\":\"http://a.example/autocomplete/m1?q=her\",\"ignored\":[\"page\"]," ++ (
-    codes "\"items\":[{\"total\":3,\"value\":\"heron\"},{\"total\":1,\"value\":\"hers\"}],\"type\":\"TermPage\"}")))
+    codes
+    "\"items\":[{\"total\":3,\"value\":\"heron\"},{\"total\":1,\"value\":\"hers\"}],\"type\":\"TermPage\"}")))
 unfolding completions_on_literals
 row-terms = refl

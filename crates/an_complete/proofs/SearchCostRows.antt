@@ -19,14 +19,20 @@ use Rattle.an_state.specs.View.{view_of}
 use Rattle.an_terms.specs.Terms.{term_of, terms_of, placed, occurrences_of}
 
 unfoldable costs_on_literals : Unit {0}
-unfolding candidates hits note_terms note_occurrences texts_of terms_of occurrences_of placed term_of caseless unicode_normalization unicode_segmentation
+unfolding candidates hits note_terms note_occurrences texts_of terms_of occurrences_of placed
+    term_of caseless unicode_normalization unicode_segmentation
 costs_on_literals = tt
 
 abbrev site : Site
 site = record { base = codes "http://a.example"; size = 2 }
 
 abbrev manifest : ManifestState
-manifest = record { name = codes "m1"; version = 1; group = Public; live = Some (record { created = pos 0; modified = None; tree = object no_members }) }
+manifest = record {
+  name = codes "m1";
+  version = 1;
+  group = Public;
+  live = Some (record { created = pos 0; modified = None; tree = object no_members });
+}
 
 abbrev note : List ℕ → Inner → List ℕ → NoteState
 note name group text = record {
@@ -48,29 +54,43 @@ state = record {
   readers = [];
   manifests = manifest ∷ [];
   notes =
-      note (codes "n1") inner.Public (codes "grey heron") ∷ note (codes "n2") inner.Private (codes "heron") ∷ note (codes "n3") inner.Public (codes "heron")
-      ∷ note (codes "n4") inner.Public (codes "egret") ∷ note (codes "n5") inner.Public (codes "heron") ∷ [];
+      note (codes "n1") inner.Public (codes "grey heron")
+      ∷ note (codes "n2") inner.Private (codes "heron")
+      ∷ note (codes "n3") inner.Public (codes "heron")
+      ∷ note (codes "n4") inner.Public (codes "egret")
+      ∷ note (codes "n5") inner.Public (codes "heron") ∷ [];
   activities = [];
 }
 
 abbrev search : Option (List ℕ) → ℕ → QueryRecord
-search q page = record { q = q; filters = record { motivation = None; date = None; user = None }; page = page; ignored = [] }
+search q page = record {
+  q = q;
+  filters = record { motivation = None; date = None; user = None };
+  page = page;
+  ignored = [];
+}
 
 -- three that everybody may read have the word, and one of them stands on the second page
-row-second_page : search_cost site (view_of state anonymous) (codes "m1") (search (Some (codes "heron")) 2) ≡ 4
+row-second_page :
+    search_cost site (view_of state anonymous) (codes "m1") (search (Some (codes "heron")) 2) ≡ 4
 unfolding costs_on_literals
 row-second_page = refl
 
-row-past_the_last : search_cost site (view_of state anonymous) (codes "m1") (search (Some (codes "heron")) 3) ≡ 3
+row-past_the_last :
+    search_cost site (view_of state anonymous) (codes "m1") (search (Some (codes "heron")) 3) ≡ 3
 unfolding costs_on_literals
 row-past_the_last = refl
 
 -- the first word tells what is looked at
-row-first_word : search_cost site (view_of state anonymous) (codes "m1") (search (Some (codes "grey heron")) 1) ≡ 2
+row-first_word :
+    search_cost site (view_of state anonymous) (codes "m1") (search (Some (codes "grey heron")) 1)
+    ≡ 2
 unfolding costs_on_literals
 row-first_word = refl
 
-row-other_word_first : search_cost site (view_of state anonymous) (codes "m1") (search (Some (codes "heron grey")) 1) ≡ 4
+row-other_word_first :
+    search_cost site (view_of state anonymous) (codes "m1") (search (Some (codes "heron grey")) 1)
+    ≡ 4
 unfolding costs_on_literals
 row-other_word_first = refl
 

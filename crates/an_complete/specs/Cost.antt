@@ -34,8 +34,8 @@ complete_cost view manifest ask =
 
 -- ---- for private clauses
 
--- with a filter each annotation is fetched that the caller may read, on this manifest, or where none
--- is named on any that it may read
+-- with a filter each annotation is fetched that the caller may read, on this manifest, or where
+-- none is named on any that it may read
 abbrev pub sought_cost : State → Identity → Option (List ℕ) → Wanted → ℕ
 sought_cost s who manifest filters =
     if wants_nothing filters then 0 else length (sought_places s who manifest)

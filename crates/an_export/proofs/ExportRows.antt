@@ -27,7 +27,11 @@ manifest name group = record {
   name = name;
   version = 2;
   group = group;
-  live = Some (record { created = pos 1_714_557_600; modified = Some (pos 1_714_557_660); tree = tree (codes "a \"b\"") });
+  live = Some (record {
+    created = pos 1_714_557_600;
+    modified = Some (pos 1_714_557_660);
+    tree = tree (codes "a \"b\"");
+  });
 }
 
 abbrev live : List ℕ → Inner → LiveNote
@@ -50,22 +54,37 @@ row-nothing : exported (view [] []) ≡ []
 unfolding exports_on_literals
 row-nothing = refl
 
-row-two_annotations : exported (view (manifest (codes "m1") Public ∷ []) (note (codes "n1") (Some (live (codes "m1") inner.Public)) ∷ note (codes "n2") (Some (live (codes "m1") inner.Private)) ∷ [])) ≡
-    codes "2024-05-01T10:00:00Z - PUT /manifests/m1?version=1&group=public {\"label\":\"a \\\"b\\\"\"}\n" ++ (
-    codes "2024-05-01T10:01:00Z mara PUT /annotations/mara/n1?version=1&manifest=m1&group=public {\"label\":\"c\"}\n" ++
-    codes "2024-05-01T10:01:00Z mara PUT /annotations/mara/n2?version=1&manifest=m1&group=private {\"label\":\"c\"}\n")
+row-two_annotations : exported
+    (view (manifest (codes "m1") Public ∷ [])
+    (note (codes "n1") (Some (live (codes "m1") inner.Public))
+    ∷ note (codes "n2") (Some (live (codes "m1") inner.Private)) ∷ [])) ≡
+    codes
+    "2024-05-01T10:00:00Z - PUT /manifests/m1?version=1&group=public {\"label\":\"a \\\"b\\\"\"}\n"
+    ++ (
+    codes
+    "2024-05-01T10:01:00Z mara PUT /annotations/mara/n1?version=1&manifest=m1&group=public {\"label\":\"c\"}\n" ++
+    codes
+    "2024-05-01T10:01:00Z mara PUT /annotations/mara/n2?version=1&manifest=m1&group=private {\"label\":\"c\"}\n")
 unfolding exports_on_literals
 row-two_annotations = refl
 
-row-two_groups : exported (view (manifest (codes "m1") Public ∷ []) (note (codes "n1") (Some (live (codes "m1") (inner.Names (codes "a" ∷ codes "b" ∷ [])))) ∷ [])) ≡
-    codes "2024-05-01T10:00:00Z - PUT /manifests/m1?version=1&group=public {\"label\":\"a \\\"b\\\"\"}\n" ++
-    codes "2024-05-01T10:01:00Z mara PUT /annotations/mara/n1?version=1&manifest=m1&group=a,b {\"label\":\"c\"}\n"
+row-two_groups : exported
+    (view (manifest (codes "m1") Public ∷ [])
+    (note (codes "n1") (Some (live (codes "m1") (inner.Names (codes "a" ∷ codes "b" ∷ []))))
+    ∷ [])) ≡
+    codes
+    "2024-05-01T10:00:00Z - PUT /manifests/m1?version=1&group=public {\"label\":\"a \\\"b\\\"\"}\n" ++
+    codes
+    "2024-05-01T10:01:00Z mara PUT /annotations/mara/n1?version=1&manifest=m1&group=a,b {\"label\":\"c\"}\n"
 unfolding exports_on_literals
 row-two_groups = refl
 
-row-two_manifests : exported (view (manifest (codes "m2") (Named (codes "team")) ∷ manifest (codes "m1") Private ∷ []) []) ≡
-    codes "2024-05-01T10:00:00Z - PUT /manifests/m2?version=1&group=team {\"label\":\"a \\\"b\\\"\"}\n" ++
-    codes "2024-05-01T10:00:00Z - PUT /manifests/m1?version=1&group=private {\"label\":\"a \\\"b\\\"\"}\n"
+row-two_manifests : exported
+    (view (manifest (codes "m2") (Named (codes "team")) ∷ manifest (codes "m1") Private ∷ []) []) ≡
+    codes
+    "2024-05-01T10:00:00Z - PUT /manifests/m2?version=1&group=team {\"label\":\"a \\\"b\\\"\"}\n" ++
+    codes
+    "2024-05-01T10:00:00Z - PUT /manifests/m1?version=1&group=private {\"label\":\"a \\\"b\\\"\"}\n"
 unfolding exports_on_literals
 row-two_manifests = refl
 
@@ -76,13 +95,16 @@ state = record {
   readers = [];
   manifests = manifest (codes "m1") Public ∷ manifest (codes "m2") Private ∷ [];
   notes =
-      note (codes "n1") (Some (live (codes "m2") inner.Public)) ∷ note (codes "n2") (Some (live (codes "m1") inner.Private))
+      note (codes "n1") (Some (live (codes "m2") inner.Public))
+      ∷ note (codes "n2") (Some (live (codes "m1") inner.Private))
       ∷ note (codes "n3") None ∷ note (codes "n4") (Some (live (codes "m1") inner.Public)) ∷ [];
   activities = [];
 }
 
 row-hidden : exported (view_of state anonymous) ≡
-    codes "2024-05-01T10:00:00Z - PUT /manifests/m1?version=1&group=public {\"label\":\"a \\\"b\\\"\"}\n" ++
-    codes "2024-05-01T10:01:00Z mara PUT /annotations/mara/n4?version=1&manifest=m1&group=public {\"label\":\"c\"}\n"
+    codes
+    "2024-05-01T10:00:00Z - PUT /manifests/m1?version=1&group=public {\"label\":\"a \\\"b\\\"\"}\n" ++
+    codes
+    "2024-05-01T10:01:00Z mara PUT /annotations/mara/n4?version=1&manifest=m1&group=public {\"label\":\"c\"}\n"
 unfolding exports_on_literals
 row-hidden = refl

@@ -1,5 +1,5 @@
--- The text that says inner groups is cut at its commas into the texts of the groups, and so it is read
--- as those.
+-- The text that says inner groups is cut at its commas into the texts of the groups, and so it is
+-- read as those.
 use Rattle.std.proofs.Common.{◌≡◌, ℕ, Bool, true, false, not, List, [], ◌∷◌, ◌++◌, length, refl, sym, ap, ◌∙◌, Ordering, Less, Equal, Greater, arith, IsTrue}
 use Rattle.std.specs.Prelude.{◌&&◌, ◌==◌, nat_le, Option, Some, None}
 use Rattle.std.specs.List.{AllByRecursion, join_with_byte, list_all, slice_split}
@@ -29,7 +29,8 @@ sign-other b is = grind (arith, nat_tests)
 name-other : (name : List ℕ) → is_name name ≡ true → list_all is_other name ≡ true
 name-other name is = all-pass name (name-signs (λ b. is_other b ≡ true) sign-other name is)
   where
-    all-pass : (text : List ℕ) → AllByRecursion (λ b. is_other b ≡ true) text → list_all is_other text ≡ true
+    all-pass : (text : List ℕ) → AllByRecursion (λ b. is_other b ≡ true) text
+        → list_all is_other text ≡ true
     all-pass [] h = refl
     all-pass (b ∷ text) h = and_from _ _ h.0 (all-pass text h.1)
 
@@ -48,17 +49,22 @@ cut-one (b ∷ text) all =
     let parts = and_parts (is_other b) (list_all is_other text) all in
     rw (comma-none (b == 44) parts.0, cut-one text parts.1) refl
 
-cut-first : (text rest : List ℕ) → list_all is_other text ≡ true → cut (text ++ 44 ∷ rest) ≡ text ∷ cut rest
+cut-first : (text rest : List ℕ) → list_all is_other text ≡ true
+    → cut (text ++ 44 ∷ rest) ≡ text ∷ cut rest
 cut-first [] rest all = refl
 cut-first (b ∷ text) rest all =
     let parts = and_parts (is_other b) (list_all is_other text) all in
     rw (comma-none (b == 44) parts.0, cut-first text rest parts.1) refl
 
-cut-joined : (text : List ℕ) (texts : List (List ℕ)) → list_all (list_all is_other) (text ∷ texts) ≡ true → cut (join_with_byte 44 (text ∷ texts)) ≡ text ∷ texts
+cut-joined : (text : List ℕ) (texts : List (List ℕ))
+    → list_all (list_all is_other) (text ∷ texts) ≡ true
+    → cut (join_with_byte 44 (text ∷ texts)) ≡ text ∷ texts
 cut-joined text [] all = cut-one text (and_parts (list_all is_other text) true all).0
 cut-joined text (other ∷ texts) all =
-    let parts = and_parts (list_all is_other text) (list_all (list_all is_other) (other ∷ texts)) all in
-    cut-first text (join_with_byte 44 (other ∷ texts)) parts.0 ∙ ap (λ l. text ∷ l) (cut-joined other texts parts.1)
+    let parts =
+    and_parts (list_all is_other text) (list_all (list_all is_other) (other ∷ texts)) all in
+    cut-first text (join_with_byte 44 (other ∷ texts)) parts.0
+    ∙ ap (λ l. text ∷ l) (cut-joined other texts parts.1)
 
 -- ---- names that ascend
 
@@ -68,18 +74,25 @@ less Equal is = absurd (both_ways false refl is)
 less Greater is = absurd (both_ways false refl is)
 
 -- what is behind the last of them is behind it too
-all-behind : (last : List ℕ) (names : List (List ℕ)) → ascend_behind (Some last) names ≡ true → AllByRecursion (λ name. by_bytes last name ≡ Less) names
+all-behind : (last : List ℕ) (names : List (List ℕ)) → ascend_behind (Some last) names ≡ true
+    → AllByRecursion (λ name. by_bytes last name ≡ Less) names
 all-behind last [] ascends = tt
 all-behind last (name ∷ names) ascends =
     let parts = and_parts (is_behind (Some last) name) (ascend_behind (Some name) names) ascends in
     let first : by_bytes last name ≡ Less = less (by_bytes last name) parts.0 in
     (first, through last name names first (all-behind name names parts.1))
   where
-    through : (last name : List ℕ) (names : List (List ℕ)) → by_bytes last name ≡ Less → AllByRecursion (λ u. by_bytes name u ≡ Less) names → AllByRecursion (λ u. by_bytes last u ≡ Less) names
+    through : (last name : List ℕ) (names : List (List ℕ)) → by_bytes last name ≡ Less
+        → AllByRecursion (λ u. by_bytes name u ≡ Less) names
+        → AllByRecursion (λ u. by_bytes last u ≡ Less) names
     through last name [] first above = tt
-    through last name (other ∷ names) first above = (nat_list_cmp_total.trans last name other first above.0, through last name names first above.1)
+    through last name (other ∷ names) first above = (
+      nat_list_cmp_total.trans last name other first above.0,
+      through last name names first above.1,
+    )
 
-ascend-from : (last : Option (List ℕ)) (names : List (List ℕ)) → ascend_behind last names ≡ true → Ascend names
+ascend-from : (last : Option (List ℕ)) (names : List (List ℕ)) → ascend_behind last names ≡ true
+    → Ascend names
 unfolding IsStrictlySortedBy
 ascend-from last [] ascends = tt
 ascend-from last (name ∷ names) ascends =
@@ -88,29 +101,41 @@ ascend-from last (name ∷ names) ascends =
 
 -- ---- names that may stand together
 
-group-other : (names : List (List ℕ)) → list_all is_group_name names ≡ true → list_all (list_all is_other) names ≡ true
+group-other : (names : List (List ℕ)) → list_all is_group_name names ≡ true
+    → list_all (list_all is_other) names ≡ true
 group-other [] all = refl
 group-other (name ∷ names) all =
     let parts = and_parts (is_group_name name) (list_all is_group_name names) all in
     let is = and_parts (is_name name) _ (and_parts _ _ parts.0).0 in
     and_from _ _ (name-other name is.0) (group-other names parts.1)
 
-ascending-stays : (names : List (List ℕ)) → ascend_behind None names ≡ true → ascending names ≡ names
+ascending-stays : (names : List (List ℕ)) → ascend_behind None names ≡ true
+    → ascending names ≡ names
 ascending-stays names ascends =
-    same-ascend (ascending names) names (ascend-ascending names) (ascend-from None names ascends) (λ q. has_text-ascending q names)
+    same-ascend (ascending names) names (ascend-ascending names) (ascend-from None names ascends)
+    (λ q. has_text-ascending q names)
 
-names-again : (names : List (List ℕ)) → are_names names ≡ true → ascending (cut (join_with_byte 44 names)) ≡ names
+names-again : (names : List (List ℕ)) → are_names names ≡ true
+    → ascending (cut (join_with_byte 44 names)) ≡ names
 unfolding are_names
 names-again [] are = absurd (cc)
 names-again (name ∷ names) are =
-    let parts = and_parts ((nat_le 1 (length (name ∷ names)) && nat_le (length (name ∷ names)) 8) && list_all is_group_name (name ∷ names)) (ascend_behind None (name ∷ names)) are in
-    let all = and_parts (nat_le 1 (length (name ∷ names)) && nat_le (length (name ∷ names)) 8) (list_all is_group_name (name ∷ names)) parts.0 in
-    ap ascending (cut-joined name names (group-other (name ∷ names) all.1)) ∙ ascending-stays (name ∷ names) parts.1
+    let parts =
+    and_parts ((nat_le 1 (length (name ∷ names)) && nat_le (length (name ∷ names)) 8)
+    && list_all is_group_name (name ∷ names))
+    (ascend_behind None (name ∷ names)) are in
+    let all =
+    and_parts (nat_le 1 (length (name ∷ names)) && nat_le (length (name ∷ names)) 8)
+    (list_all is_group_name (name ∷ names)) parts.0 in
+    ap ascending (cut-joined name names (group-other (name ∷ names) all.1))
+    ∙ ascending-stays (name ∷ names) parts.1
 
-pub inner-again : (inner : Inner) → IsTrue (is_valid_inner inner) → inner_named (inner_text inner) ≡ Some inner
+pub inner-again : (inner : Inner) → IsTrue (is_valid_inner inner)
+    → inner_named (inner_text inner) ≡ Some inner
 unfolding inner_named
 inner-again Public valid = refl
 inner-again Private valid = refl
-inner-again (Names names) valid = ap inner_of (names-again names valid) ∙ inner-read-back (Names names) valid
+inner-again (Names names) valid =
+    ap inner_of (names-again names valid) ∙ inner-read-back (Names names) valid
 
 pub ruleset groups_again = (inner-again)

@@ -65,7 +65,8 @@ ascii xs h = is_utf8-from_IsUtf8 xs (IsUtf8-are_ascii xs h)
 
 -- ---- an activity
 
-moment-read : (seen : Seen) → IsTold seen → passes (λ text. is_ok (moment_of text)) (Some (moment_text seen.moment)) ≡ true
+moment-read : (seen : Seen) → IsTold seen
+    → passes (λ text. is_ok (moment_of text)) (Some (moment_text seen.moment)) ≡ true
 moment-read seen told = ap is_ok (moment_read seen.moment told.moment)
 
 -- with its moment read, an activity is read by its members
@@ -74,20 +75,30 @@ module _ (base : List ℕ) (seen : Seen) (told : IsTold seen) where
   unfolding activity
   moment-there = by seen.object
     where
-      by : (o : Object) → has_moment (with_member_if (codes "object") (thing_of base o) (object (member (codes "endTime") (string (moment_text seen.moment)) (member (codes "type") (string (kind_text seen.kind)) no_members)))) ≡ true
+      by : (o : Object)
+          → has_moment (with_member_if (codes "object") (thing_of base o)
+          (object (member (codes "endTime") (string (moment_text seen.moment))
+          (member (codes "type") (string (kind_text seen.kind)) no_members)))) ≡ true
       by (object.Reader name) = moment-read seen told
       by (object.Manifest name) = moment-read seen told
       by (object.Note owner name) = moment-read seen told
 
 abbrev change_with : Option (List ℕ) → Option Bool → Option Kind → Option Change
 change_with ids manifests kinds =
-    option_and_then (λ id. option_and_then (λ manifest. option_map (λ kind. record { id = id; manifest = manifest; kind = kind }) kinds) manifests) ids
+    option_and_then (λ id. option_and_then
+    (λ manifest. option_map (λ kind. record { id = id; manifest = manifest; kind = kind }) kinds)
+    manifests) ids
 
 abbrev made : List ℕ → List ℕ → Object → Kind → Data
-made base moment o k = with_member_if (codes "object") (thing_of base o) (object (member (codes "endTime") (string moment) (member (codes "type") (string (kind_text k)) no_members)))
+made base moment o k =
+    with_member_if (codes "object") (thing_of base o)
+    (object (member (codes "endTime") (string moment)
+    (member (codes "type") (string (kind_text k)) no_members)))
 
 parts : (base moment : List ℕ) (o : Object) → IsNamed o → (k : Kind)
-    → change_with (id_in (codes "object") (made base moment o k)) (manifest_in (made base moment o k)) (kind_in (made base moment o k)) ≡ Some (record { id = iri_of base o; manifest = is_manifest o; kind = k })
+    → change_with (id_in (codes "object") (made base moment o k))
+    (manifest_in (made base moment o k)) (kind_in (made base moment o k))
+    ≡ Some (record { id = iri_of base o; manifest = is_manifest o; kind = k })
 parts base moment (object.Reader name) named k = absurd named
 parts base moment (object.Manifest name) named kind.Create = refl
 parts base moment (object.Manifest name) named kind.Update = refl
@@ -96,11 +107,14 @@ parts base moment (object.Note owner name) named kind.Create = refl
 parts base moment (object.Note owner name) named kind.Update = refl
 parts base moment (object.Note owner name) named kind.Delete = refl
 
-pub change-activity : (base : List ℕ) (seen : Seen) → IsTold seen → change_of (activity base seen) ≡ Some (change_told base seen)
+pub change-activity : (base : List ℕ) (seen : Seen) → IsTold seen
+    → change_of (activity base seen) ≡ Some (change_told base seen)
 unfolding activity
 change-activity base seen told =
     let a : Data = made base (moment_text seen.moment) seen.object seen.kind in
-    ap (λ (b : Bool). cond b (change_with (id_in (codes "object") a) (manifest_in a) (kind_in a)) None) (moment-there base seen told)
+    ap
+    (λ (b : Bool). cond b (change_with (id_in (codes "object") a) (manifest_in a) (kind_in a)) None)
+    (moment-there base seen told)
     ∙ parts base (moment_text seen.moment) seen.object told.named seen.kind
 
 -- ---- a page
@@ -108,68 +122,211 @@ change-activity base seen told =
 -- what a page tells, with what stands before and after it
 module _ (whole : Whole) (page start : ℕ) (items : Items) where
   abbrev with_links : Option Data → Option Data → Data
-  with_links before after = with_member_if (codes "prev") before (with_member_if (codes "next") after (stream_page_members whole page start items))
+  with_links before after =
+      with_member_if (codes "prev") before
+      (with_member_if (codes "next") after (stream_page_members whole page start items))
 
-  pub start-there : (before after : Option Data) → number_in (codes "startIndex") (with_links before after) ≡ Some start
+  pub start-there : (before after : Option Data)
+      → number_in (codes "startIndex") (with_links before after) ≡ Some start
   start-there None None = refl
   start-there None (Some next) = refl
   start-there (Some prev) None = refl
   start-there (Some prev) (Some next) = refl
 
-  pub items-there : (before after : Option Data) → items_in (codes "orderedItems") (with_links before after) ≡ Some (items_list items)
+  pub items-there : (before after : Option Data)
+      → items_in (codes "orderedItems") (with_links before after) ≡ Some (items_list items)
   items-there None None = refl
   items-there None (Some next) = refl
   items-there (Some prev) None = refl
   items-there (Some prev) (Some next) = refl
 
-  pub prev-there : (before after : Option Data) → get (codes "prev") (with_links before after) ≡ before
+  pub prev-there : (before after : Option Data)
+      → get (codes "prev") (with_links before after) ≡ before
   prev-there None None = refl
   prev-there None (Some next) = refl
   prev-there (Some prev) None = refl
   prev-there (Some prev) (Some next) = refl
 
   -- it is a tree
-  whole-there : (before after : Option Data) → is_utf8 whole.path ≡ true → is_utf8 (page_iri whole page) ≡ true → nat_lt start (2 ^ 64) ≡ true → items_are_whole items ≡ true
-      → (if_whole before ≡ true) → (if_whole after ≡ true) → is_whole (with_links before after) ≡ true
-  whole-there None None path iri small all b a = rw (path, iri, small, all, ascii (codes "@context") refl, ascii changes_context refl, ascii (codes "id") refl, ascii (codes "orderedItems") refl, ascii (codes "partOf") refl, ascii (codes "type") refl, ascii (codes "OrderedCollection") refl, ascii (codes "startIndex") refl, ascii (codes "OrderedCollectionPage") refl) refl
-  whole-there None (Some next) path iri small all b a = rw (path, iri, small, all, a, ascii (codes "@context") refl, ascii changes_context refl, ascii (codes "id") refl, ascii (codes "next") refl, ascii (codes "orderedItems") refl, ascii (codes "partOf") refl, ascii (codes "type") refl, ascii (codes "OrderedCollection") refl, ascii (codes "startIndex") refl, ascii (codes "OrderedCollectionPage") refl) refl
-  whole-there (Some prev) None path iri small all b a = rw (path, iri, small, all, b, ascii (codes "@context") refl, ascii changes_context refl, ascii (codes "id") refl, ascii (codes "orderedItems") refl, ascii (codes "partOf") refl, ascii (codes "prev") refl, ascii (codes "type") refl, ascii (codes "OrderedCollection") refl, ascii (codes "startIndex") refl, ascii (codes "OrderedCollectionPage") refl) refl
-  whole-there (Some prev) (Some next) path iri small all b a = rw (path, iri, small, all, a, b, ascii (codes "@context") refl, ascii changes_context refl, ascii (codes "id") refl, ascii (codes "next") refl, ascii (codes "orderedItems") refl, ascii (codes "partOf") refl, ascii (codes "prev") refl, ascii (codes "type") refl, ascii (codes "OrderedCollection") refl, ascii (codes "startIndex") refl, ascii (codes "OrderedCollectionPage") refl) refl
+  whole-there : (before after : Option Data) → is_utf8 whole.path ≡ true
+      → is_utf8 (page_iri whole page) ≡ true → nat_lt start (2 ^ 64) ≡ true
+      → items_are_whole items ≡ true
+      → (if_whole before ≡ true) → (if_whole after ≡ true)
+      → is_whole (with_links before after) ≡ true
+  whole-there None None path iri small all b a =
+      rw (
+        path,
+        iri,
+        small,
+        all,
+        ascii (codes "@context") refl,
+        ascii changes_context refl,
+        ascii (codes "id") refl,
+        ascii (codes "orderedItems") refl,
+        ascii (codes "partOf") refl,
+        ascii (codes "type") refl,
+        ascii (codes "OrderedCollection") refl,
+        ascii (codes "startIndex") refl,
+        ascii (codes "OrderedCollectionPage") refl,
+      ) refl
+  whole-there None (Some next) path iri small all b a =
+      rw (
+        path,
+        iri,
+        small,
+        all,
+        a,
+        ascii (codes "@context") refl,
+        ascii changes_context refl,
+        ascii (codes "id") refl,
+        ascii (codes "next") refl,
+        ascii (codes "orderedItems") refl,
+        ascii (codes "partOf") refl,
+        ascii (codes "type") refl,
+        ascii (codes "OrderedCollection") refl,
+        ascii (codes "startIndex") refl,
+        ascii (codes "OrderedCollectionPage") refl,
+      ) refl
+  whole-there (Some prev) None path iri small all b a =
+      rw (
+        path,
+        iri,
+        small,
+        all,
+        b,
+        ascii (codes "@context") refl,
+        ascii changes_context refl,
+        ascii (codes "id") refl,
+        ascii (codes "orderedItems") refl,
+        ascii (codes "partOf") refl,
+        ascii (codes "prev") refl,
+        ascii (codes "type") refl,
+        ascii (codes "OrderedCollection") refl,
+        ascii (codes "startIndex") refl,
+        ascii (codes "OrderedCollectionPage") refl,
+      ) refl
+  whole-there (Some prev) (Some next) path iri small all b a =
+      rw (
+        path,
+        iri,
+        small,
+        all,
+        a,
+        b,
+        ascii (codes "@context") refl,
+        ascii changes_context refl,
+        ascii (codes "id") refl,
+        ascii (codes "next") refl,
+        ascii (codes "orderedItems") refl,
+        ascii (codes "partOf") refl,
+        ascii (codes "prev") refl,
+        ascii (codes "type") refl,
+        ascii (codes "OrderedCollection") refl,
+        ascii (codes "startIndex") refl,
+        ascii (codes "OrderedCollectionPage") refl,
+      ) refl
 
-  shallow-there : (before after : Option Data) → items_depth items ≤ 2 → if_shallow before → if_shallow after → depth (with_links before after) ≤ 4
+  shallow-there : (before after : Option Data) → items_depth items ≤ 2 → if_shallow before
+      → if_shallow after → depth (with_links before after) ≤ 4
   shallow-there None None all b a = omega (arith, all)
   shallow-there None (Some next) all b a = omega (arith, all, a)
   shallow-there (Some prev) None all b a = omega (arith, all, b)
   shallow-there (Some prev) (Some next) all b a = omega (arith, all, a, b)
 
   -- so its text reads back
-  pub page-read : (before after : Option Data) → is_utf8 whole.path ≡ true → is_utf8 (page_iri whole page) ≡ true → nat_lt start (2 ^ 64) ≡ true → items_are_whole items ≡ true → items_depth items ≤ 2
+  pub page-read : (before after : Option Data) → is_utf8 whole.path ≡ true
+      → is_utf8 (page_iri whole page) ≡ true → nat_lt start (2 ^ 64) ≡ true
+      → items_are_whole items ≡ true → items_depth items ≤ 2
       → if_whole before ≡ true → if_whole after ≡ true → if_shallow before → if_shallow after
       → tree_of (compact_text (with_links before after)) ≡ Ok (with_links before after)
   unfolding is_tree
   page-read before after path iri small all flat wb wa sb sa =
-      read_back (with_links before after) (and_from _ _ (whole-there before after path iri small all wb wa) (tree-shallow (depth (with_links before after)) (shallow-there before after flat sb sa)))
+      read_back (with_links before after)
+      (and_from _ _ (whole-there before after path iri small all wb wa)
+      (tree-shallow (depth (with_links before after)) (shallow-there before after flat sb sa)))
     where
       tree-shallow : (n : ℕ) → n ≤ 4 → nat_le n 100 ≡ true
       tree-shallow n h = grind (arith, nat_tests)
 
 -- ---- an activity is a tree
 
-activity-whole : (base : List ℕ) (seen : Seen) → IsTold seen → is_utf8 (iri_of base seen.object) ≡ true → is_whole (activity base seen) ≡ true
+activity-whole : (base : List ℕ) (seen : Seen) → IsTold seen
+    → is_utf8 (iri_of base seen.object) ≡ true → is_whole (activity base seen) ≡ true
 unfolding activity
 activity-whole base seen told iri = by seen.object told.named iri seen.kind
   where
     moment : is_utf8 (moment_text seen.moment) ≡ true
     moment = is_utf8-from_IsUtf8 _ (IsUtf8-from_ascii _ (moment_text-ascii seen.moment told.moment))
 
-    by : (o : Object) → IsNamed o → is_utf8 (iri_of base o) ≡ true → (k : Kind) → is_whole (made base (moment_text seen.moment) o k) ≡ true
+    by : (o : Object) → IsNamed o → is_utf8 (iri_of base o) ≡ true → (k : Kind)
+        → is_whole (made base (moment_text seen.moment) o k) ≡ true
     by (object.Reader name) named iri k = absurd named
-    by (object.Manifest name) named iri kind.Create = rw (iri, moment, ascii (codes "endTime") refl, ascii (codes "object") refl, ascii (codes "id") refl, ascii (codes "type") refl, ascii (codes "Manifest") refl, ascii (codes "Create") refl) refl
-    by (object.Manifest name) named iri kind.Update = rw (iri, moment, ascii (codes "endTime") refl, ascii (codes "object") refl, ascii (codes "id") refl, ascii (codes "type") refl, ascii (codes "Manifest") refl, ascii (codes "Update") refl) refl
-    by (object.Manifest name) named iri kind.Delete = rw (iri, moment, ascii (codes "endTime") refl, ascii (codes "object") refl, ascii (codes "id") refl, ascii (codes "type") refl, ascii (codes "Manifest") refl, ascii (codes "Delete") refl) refl
-    by (object.Note owner name) named iri kind.Create = rw (iri, moment, ascii (codes "endTime") refl, ascii (codes "object") refl, ascii (codes "id") refl, ascii (codes "type") refl, ascii (codes "Annotation") refl, ascii (codes "Create") refl) refl
-    by (object.Note owner name) named iri kind.Update = rw (iri, moment, ascii (codes "endTime") refl, ascii (codes "object") refl, ascii (codes "id") refl, ascii (codes "type") refl, ascii (codes "Annotation") refl, ascii (codes "Update") refl) refl
-    by (object.Note owner name) named iri kind.Delete = rw (iri, moment, ascii (codes "endTime") refl, ascii (codes "object") refl, ascii (codes "id") refl, ascii (codes "type") refl, ascii (codes "Annotation") refl, ascii (codes "Delete") refl) refl
+    by (object.Manifest name) named iri kind.Create =
+        rw (
+          iri,
+          moment,
+          ascii (codes "endTime") refl,
+          ascii (codes "object") refl,
+          ascii (codes "id") refl,
+          ascii (codes "type") refl,
+          ascii (codes "Manifest") refl,
+          ascii (codes "Create") refl,
+        ) refl
+    by (object.Manifest name) named iri kind.Update =
+        rw (
+          iri,
+          moment,
+          ascii (codes "endTime") refl,
+          ascii (codes "object") refl,
+          ascii (codes "id") refl,
+          ascii (codes "type") refl,
+          ascii (codes "Manifest") refl,
+          ascii (codes "Update") refl,
+        ) refl
+    by (object.Manifest name) named iri kind.Delete =
+        rw (
+          iri,
+          moment,
+          ascii (codes "endTime") refl,
+          ascii (codes "object") refl,
+          ascii (codes "id") refl,
+          ascii (codes "type") refl,
+          ascii (codes "Manifest") refl,
+          ascii (codes "Delete") refl,
+        ) refl
+    by (object.Note owner name) named iri kind.Create =
+        rw (
+          iri,
+          moment,
+          ascii (codes "endTime") refl,
+          ascii (codes "object") refl,
+          ascii (codes "id") refl,
+          ascii (codes "type") refl,
+          ascii (codes "Annotation") refl,
+          ascii (codes "Create") refl,
+        ) refl
+    by (object.Note owner name) named iri kind.Update =
+        rw (
+          iri,
+          moment,
+          ascii (codes "endTime") refl,
+          ascii (codes "object") refl,
+          ascii (codes "id") refl,
+          ascii (codes "type") refl,
+          ascii (codes "Annotation") refl,
+          ascii (codes "Update") refl,
+        ) refl
+    by (object.Note owner name) named iri kind.Delete =
+        rw (
+          iri,
+          moment,
+          ascii (codes "endTime") refl,
+          ascii (codes "object") refl,
+          ascii (codes "id") refl,
+          ascii (codes "type") refl,
+          ascii (codes "Annotation") refl,
+          ascii (codes "Delete") refl,
+        ) refl
 
 activity-shallow : (base : List ℕ) (seen : Seen) → depth (activity base seen) ≤ 2
 unfolding activity
@@ -180,19 +337,25 @@ activity-shallow base seen = by seen.object seen.kind
     by (object.Manifest name) k = omega arith
     by (object.Note owner name) k = omega arith
 
-pub activities-shallow : (base : List ℕ) (seens : List Seen) → items_depth (items_of (map (activity base) seens)) ≤ 2
+pub activities-shallow : (base : List ℕ) (seens : List Seen)
+    → items_depth (items_of (map (activity base) seens)) ≤ 2
 activities-shallow base [] = omega arith
-activities-shallow base (seen ∷ seens) = omega (arith, activity-shallow base seen, activities-shallow base seens)
+activities-shallow base (seen ∷ seens) =
+    omega (arith, activity-shallow base seen, activities-shallow base seens)
 
 -- ---- several activities
 
-all-activities : (base : List ℕ) (seens : List Seen) → AllByRecursion IsTold seens → list_all is_activity (map (activity base) seens) ≡ true
+all-activities : (base : List ℕ) (seens : List Seen) → AllByRecursion IsTold seens
+    → list_all is_activity (map (activity base) seens) ≡ true
 all-activities base [] h = refl
-all-activities base (seen ∷ seens) h = rw (ap is_some (change-activity base seen h.0)) (all-activities base seens h.1)
+all-activities base (seen ∷ seens) h =
+    rw (ap is_some (change-activity base seen h.0)) (all-activities base seens h.1)
 
-pub changes-told : (base : List ℕ) (seens : List Seen) → AllByRecursion IsTold seens → changes_of (map (activity base) seens) ≡ map (change_told base) seens
+pub changes-told : (base : List ℕ) (seens : List Seen) → AllByRecursion IsTold seens
+    → changes_of (map (activity base) seens) ≡ map (change_told base) seens
 changes-told base [] h = refl
-changes-told base (seen ∷ seens) h = ap₂ cons_option (change-activity base seen h.0) (changes-told base seens h.1)
+changes-told base (seen ∷ seens) h =
+    ap₂ cons_option (change-activity base seen h.0) (changes-told base seens h.1)
 
 pub listed : (items : List Data) → items_list (items_of items) ≡ items
 listed [] = refl
@@ -201,124 +364,231 @@ listed (tree ∷ items) = ap (λ rest. tree ∷ rest) (listed items)
 -- ---- places
 
 -- so many pages, of a list of q whole pages and r items more
-cover : (size q r pages : ℕ) → r < size → pages ≡ max 1 (q + min 1 r) → ((pages - 1) * size ≤ q * size + r) × (q * size + r ≤ pages * size)
-cover size q zero pages small is =
-    (omega (arith, mul-le (pages - 1) size q size (omega arith) (omega arith)), omega (arith, mul-le q size pages size (omega arith) (omega arith)))
+cover : (size q r pages : ℕ) → r < size → pages ≡ max 1 (q + min 1 r)
+    → ((pages - 1) * size ≤ q * size + r) × (q * size + r ≤ pages * size)
+cover size q zero pages small is = (
+  omega (arith, mul-le (pages - 1) size q size (omega arith) (omega arith)),
+  omega (arith, mul-le q size pages size (omega arith) (omega arith)),
+)
 cover size q (suc r) pages small is = (
   omega (arith, mul-le (pages - 1) size q size (omega arith) (omega arith)),
   omega (arith, mul-add-lt q size (suc r) pages (omega arith) (omega arith), mul_comm size pages),
 )
 
 -- a list's pages: the last one begins within it, and they hold it
-pub pages-cover : (total size : ℕ) → 1 ≤ size → ((page_count total size - 1) * size ≤ total) × (total ≤ page_count total size * size)
+pub pages-cover : (total size : ℕ) → 1 ≤ size
+    → ((page_count total size - 1) * size ≤ total) × (total ≤ page_count total size * size)
 pages-cover total size some =
-    let whole : (total / size) * size + total % size ≡ total = omega (arith, mul_comm size (total / size)) in
-    let c = cover size (total / size) (total % size) (page_count total size) (omega arith) refl in
-    (subst (λ n. (page_count total size - 1) * size ≤ n) whole c.0, subst (λ n. n ≤ page_count total size * size) whole c.1)
+    let whole : (total / size) * size + total % size ≡ total =
+    omega (arith, mul_comm size (total / size)) in
+    let c = cover size (total / size) (total % size) (page_count total size) (omega arith) refl in (
+      subst (λ n. (page_count total size - 1) * size ≤ n) whole c.0,
+      subst (λ n. n ≤ page_count total size * size) whole c.1,
+    )
 
 -- a last page after others has an item
-cover-below : (size q r pages : ℕ) → r < size → pages ≡ max 1 (q + min 1 r) → 2 ≤ pages → (pages - 1) * size < q * size + r
-cover-below size q zero pages small is two = omega (arith, mul-add-lt (pages - 1) size 0 q (omega arith) small, mul_comm size q)
-cover-below size q (suc r) pages small is two = omega (arith, mul-le (pages - 1) size q size (omega arith) (omega arith))
+cover-below : (size q r pages : ℕ) → r < size → pages ≡ max 1 (q + min 1 r) → 2 ≤ pages
+    → (pages - 1) * size < q * size + r
+cover-below size q zero pages small is two =
+    omega (arith, mul-add-lt (pages - 1) size 0 q (omega arith) small, mul_comm size q)
+cover-below size q (suc r) pages small is two =
+    omega (arith, mul-le (pages - 1) size q size (omega arith) (omega arith))
 
-pages-below : (total size : ℕ) → 1 ≤ size → 2 ≤ page_count total size → (page_count total size - 1) * size < total
+pages-below : (total size : ℕ) → 1 ≤ size → 2 ≤ page_count total size
+    → (page_count total size - 1) * size < total
 pages-below total size some two =
-    let whole : (total / size) * size + total % size ≡ total = omega (arith, mul_comm size (total / size)) in
-    let c = cover-below size (total / size) (total % size) (page_count total size) (omega arith) refl two in
+    let whole : (total / size) * size + total % size ≡ total =
+    omega (arith, mul_comm size (total / size)) in
+    let c =
+    cover-below size (total / size) (total % size) (page_count total size) (omega arith) refl two in
     subst (λ n. (page_count total size - 1) * size < n) whole c
 
 -- where the items of a page end
-pub page-ends : {A : Type 0} (start size : ℕ) (items : List A) → start ≤ length items → start + length (take size (drop start items)) ≡ min (start + size) (length items)
+pub page-ends : {A : Type 0} (start size : ℕ) (items : List A) → start ≤ length items
+    → start + length (take size (drop start items)) ≡ min (start + size) (length items)
 page-ends start size items within = simp (length-take, length-drop) (omega arith)
 
 -- the stream's own body is a tree too, so its text reads back
-pub stream-read : (whole : Whole) (pages total : ℕ) → is_utf8 whole.path ≡ true → is_utf8 (page_iri whole 1) ≡ true → is_utf8 (page_iri whole pages) ≡ true → nat_lt total (2 ^ 64) ≡ true
+pub stream-read : (whole : Whole) (pages total : ℕ) → is_utf8 whole.path ≡ true
+    → is_utf8 (page_iri whole 1) ≡ true → is_utf8 (page_iri whole pages) ≡ true
+    → nat_lt total (2 ^ 64) ≡ true
     → tree_of (compact_text (stream_tree whole pages total)) ≡ Ok (stream_tree whole pages total)
 unfolding is_tree
-stream-read whole pages total path first last small = read_back (stream_tree whole pages total) (and_from _ _ is_so refl)
+stream-read whole pages total path first last small =
+    read_back (stream_tree whole pages total) (and_from _ _ is_so refl)
   where
     is_so : is_whole (stream_tree whole pages total) ≡ true
-    is_so = rw (path, first, last, small, ascii (codes "@context") refl, ascii changes_context refl, ascii (codes "first") refl, ascii (codes "id") refl, ascii (codes "last") refl, ascii (codes "totalItems") refl, ascii (codes "type") refl, ascii (codes "OrderedCollection") refl, ascii (codes "OrderedCollectionPage") refl) refl
+    is_so =
+        rw (
+          path,
+          first,
+          last,
+          small,
+          ascii (codes "@context") refl,
+          ascii changes_context refl,
+          ascii (codes "first") refl,
+          ascii (codes "id") refl,
+          ascii (codes "last") refl,
+          ascii (codes "totalItems") refl,
+          ascii (codes "type") refl,
+          ascii (codes "OrderedCollection") refl,
+          ascii (codes "OrderedCollectionPage") refl,
+        ) refl
 
-pub items-whole : (base : List ℕ) (seens : List Seen) → AllByRecursion IsTold seens → AllByRecursion (λ seen. is_utf8 (iri_of base seen.object) ≡ true) seens → items_are_whole (items_of (map (activity base) seens)) ≡ true
+pub items-whole : (base : List ℕ) (seens : List Seen) → AllByRecursion IsTold seens
+    → AllByRecursion (λ seen. is_utf8 (iri_of base seen.object) ≡ true) seens
+    → items_are_whole (items_of (map (activity base) seens)) ≡ true
 items-whole base [] told iris = refl
-items-whole base (seen ∷ seens) told iris = and_from _ _ (activity-whole base seen told.0 iris.0) (items-whole base seens told.1 iris.1)
+items-whole base (seen ∷ seens) told iris =
+    and_from _ _ (activity-whole base seen told.0 iris.0) (items-whole base seens told.1 iris.1)
 
 -- ---- what a page tells, by its members
 
-page_of-parts : (base : List ℕ) (known end : ℕ) (tree : Data) (start : ℕ) (items : List Data) (next : Option (List ℕ)) → number_in (codes "startIndex") tree ≡ Some start → items_in (codes "orderedItems") tree ≡ Some items
-    → list_all is_activity items ≡ true → nat_eq (start + length items) end ≡ true → feed.page_before base known start (length items) tree ≡ Some next
+page_of-parts : (base : List ℕ) (known end : ℕ) (tree : Data) (start : ℕ) (items : List Data)
+    (next : Option (List ℕ)) → number_in (codes "startIndex") tree ≡ Some start
+    → items_in (codes "orderedItems") tree ≡ Some items
+    → list_all is_activity items ≡ true → nat_eq (start + length items) end ≡ true
+    → feed.page_before base known start (length items) tree ≡ Some next
     → feed.page_of base known end tree ≡ Some (record { start = start; items = items; next = next })
-page_of-parts base known end tree start items next n i all sum before = with_place (feed.place_of end tree) place (feed.page_items tree) own
+page_of-parts base known end tree start items next n i all sum before =
+    with_place (feed.place_of end tree) place (feed.page_items tree) own
   where
     own : feed.page_items tree ≡ items
     own = ap (λ (o : Option (List Data)). unwrap_or o []) i
 
-    test : cond (list_all is_activity items && nat_eq (start + length items) end) (Some start) None ≡ Some start
+    test : cond (list_all is_activity items && nat_eq (start + length items) end) (Some start) None
+        ≡ Some start
     test = rw (all, sum) refl
 
     place : feed.place_of end tree ≡ Some start
-    place = ap (λ (o : Option ℕ). option_and_then (λ start. option_and_then (λ items. cond (list_all is_activity items && nat_eq (start + length items) end) (Some start) None) (items_in (codes "orderedItems") tree)) o) n
-        ∙ ap (λ (o : Option (List Data)). option_and_then (λ items. cond (list_all is_activity items && nat_eq (start + length items) end) (Some start) None) o) i ∙ test
+    place =
+        ap (λ (o : Option ℕ). option_and_then
+        (λ start. option_and_then
+        (λ items.
+        cond (list_all is_activity items && nat_eq (start + length items) end) (Some start) None)
+        (items_in (codes "orderedItems") tree)) o) n
+        ∙ ap (λ (o : Option (List Data)). option_and_then
+        (λ items.
+        cond (list_all is_activity items && nat_eq (start + length items) end) (Some start) None) o)
+        i
+        ∙ test
 
     with_place : (o : Option ℕ) → o ≡ Some start → (its : List Data) → its ≡ items
-        → option_and_then {U = feed.Page} (λ start. option_map (λ next. record { start = start; items = its; next = next }) (feed.page_before base known start (length its) tree)) o ≡ Some (record { start = start; items = items; next = next })
+        → option_and_then {U = feed.Page}
+        (λ start. option_map (λ next. record { start = start; items = its; next = next })
+        (feed.page_before base known start (length its) tree)) o
+        ≡ Some (record { start = start; items = items; next = next })
     with_place o is its same =
-        ap (λ (o : Option ℕ). option_and_then {U = feed.Page} (λ start. option_map (λ next. record { start = start; items = its; next = next }) (feed.page_before base known start (length its) tree)) o) is
-        ∙ ap (λ (its : List Data). option_map {U = feed.Page} (λ next. record { start = start; items = its; next = next }) (feed.page_before base known start (length its) tree)) same
-        ∙ ap (option_map {U = feed.Page} (λ next. record { start = start; items = items; next = next })) before
+        ap (λ (o : Option ℕ). option_and_then {U = feed.Page}
+        (λ start. option_map (λ next. record { start = start; items = its; next = next })
+        (feed.page_before base known start (length its) tree)) o) is
+        ∙ ap (λ (its : List Data). option_map {U = feed.Page}
+        (λ next. record { start = start; items = its; next = next })
+        (feed.page_before base known start (length its) tree)) same
+        ∙ ap
+        (option_map {U = feed.Page} (λ next. record { start = start; items = items; next = next }))
+        before
 
 -- the stream's own body
 pub stream-feed : (base : List ℕ) (known pages total : ℕ) → nat_le known total ≡ true
-    → feed.feed_of base known (stream_tree (changes_whole base) pages total) ≡ Some (record { total = total; last = codes "/changes" ++ (codes "?page=" ++ decimal pages) })
+    → feed.feed_of base known (stream_tree (changes_whole base) pages total)
+    ≡ Some (record { total = total; last = codes "/changes" ++ (codes "?page=" ++ decimal pages) })
 stream-feed base known pages total within =
-    let iri : page_iri (changes_whole base) pages ≡ base ++ (codes "/changes" ++ (codes "?page=" ++ decimal pages)) = append_assoc base (codes "/changes") (codes "?page=" ++ decimal pages) in
-    let target : after_front base (page_iri (changes_whole base) pages) ≡ Some (codes "/changes" ++ (codes "?page=" ++ decimal pages)) = ap (after_front base) iri ∙ front-there base (codes "/changes" ++ (codes "?page=" ++ decimal pages)) in
-    ap (λ (b : Bool). option_and_then {U = feed.Feed} (λ total. option_map (λ last. record { total = total; last = last }) (after_front base (page_iri (changes_whole base) pages))) (cond b (Some total) None)) within
+    let iri : page_iri (changes_whole base) pages
+    ≡ base ++ (codes "/changes" ++ (codes "?page=" ++ decimal pages)) =
+    append_assoc base (codes "/changes") (codes "?page=" ++ decimal pages) in
+    let target : after_front base (page_iri (changes_whole base) pages)
+    ≡ Some (codes "/changes" ++ (codes "?page=" ++ decimal pages)) =
+    ap (after_front base) iri
+    ∙ front-there base (codes "/changes" ++ (codes "?page=" ++ decimal pages)) in
+    ap (λ (b : Bool). option_and_then {U = feed.Feed}
+    (λ total. option_map (λ last. record { total = total; last = last })
+    (after_front base (page_iri (changes_whole base) pages)))
+    (cond b (Some total) None)) within
     ∙ ap (option_map {U = feed.Feed} (λ last. record { total = total; last = last })) target
 
 -- ---- a page of the stream, as the walk reads it
 
-before-known : (base : List ℕ) (known start count : ℕ) (tree : Data) → nat_le start known ≡ true → feed.page_before base known start count tree ≡ Some None
-before-known base known start count tree h = ap (λ (b : Bool). cond b (Some None) (cond (nat_eq count 0) None (option_map Some (feed.target_in base (codes "prev") tree)))) h
+before-known : (base : List ℕ) (known start count : ℕ) (tree : Data) → nat_le start known ≡ true
+    → feed.page_before base known start count tree ≡ Some None
+before-known base known start count tree h =
+    ap (λ (b : Bool). cond b (Some None)
+    (cond (nat_eq count 0) None (option_map Some (feed.target_in base (codes "prev") tree)))) h
 
-before-more : (base : List ℕ) (known start count : ℕ) (tree : Data) (rest : List ℕ) → nat_le start known ≡ false → nat_eq count 0 ≡ false → feed.target_in base (codes "prev") tree ≡ Some rest
+before-more : (base : List ℕ) (known start count : ℕ) (tree : Data) (rest : List ℕ)
+    → nat_le start known ≡ false → nat_eq count 0 ≡ false
+    → feed.target_in base (codes "prev") tree ≡ Some rest
     → feed.page_before base known start count tree ≡ Some (Some rest)
 before-more base known start count tree rest h n t =
-    ap (λ (b : Bool). cond b (Some None) (cond (nat_eq count 0) None (option_map Some (feed.target_in base (codes "prev") tree)))) h
-    ∙ ap (λ (b : Bool). cond b None (option_map Some (feed.target_in base (codes "prev") tree))) n ∙ ap (option_map Some) t
+    ap (λ (b : Bool). cond b (Some None)
+    (cond (nat_eq count 0) None (option_map Some (feed.target_in base (codes "prev") tree)))) h
+    ∙ ap (λ (b : Bool). cond b None (option_map Some (feed.target_in base (codes "prev") tree))) n
+    ∙ ap (option_map Some) t
 
-page-target : (base : List ℕ) (page : ℕ) → after_front base (page_iri (changes_whole base) page) ≡ Some (page_target page)
-page-target base page = ap (after_front base) (append_assoc base (codes "/changes") (codes "?page=" ++ decimal page)) ∙ front-there base (page_target page)
+page-target : (base : List ℕ) (page : ℕ)
+    → after_front base (page_iri (changes_whole base) page) ≡ Some (page_target page)
+page-target base page =
+    ap (after_front base) (append_assoc base (codes "/changes") (codes "?page=" ++ decimal page))
+    ∙ front-there base (page_target page)
 
-module _ (base : List ℕ) (known end pages page start : ℕ) (seens : List Seen) (told : AllByRecursion IsTold seens) (fits : start + length (map (activity base) seens) ≡ end) where
+module _ (base : List ℕ) (known end pages page start : ℕ)
+    (seens : List Seen) (told : AllByRecursion IsTold seens)
+    (fits : start + length (map (activity base) seens) ≡ end) where
   abbrev served : Data
-  served = with_links (changes_whole base) page start (items_of (map (activity base) seens)) (link_before form.Changes (changes_whole base) page) (link_after form.Changes (changes_whole base) pages page)
+  served =
+      with_links (changes_whole base) page start (items_of (map (activity base) seens))
+      (link_before form.Changes (changes_whole base) page)
+      (link_after form.Changes (changes_whole base) pages page)
 
   items-of-served : items_in (codes "orderedItems") served ≡ Some (map (activity base) seens)
-  items-of-served = items-there (changes_whole base) page start (items_of (map (activity base) seens)) (link_before form.Changes (changes_whole base) page) (link_after form.Changes (changes_whole base) pages page) ∙ ap Some (listed (map (activity base) seens))
+  items-of-served =
+      items-there (changes_whole base) page start (items_of (map (activity base) seens))
+      (link_before form.Changes (changes_whole base) page)
+      (link_after form.Changes (changes_whole base) pages page)
+      ∙ ap Some (listed (map (activity base) seens))
 
   -- it is the last that the walk gets, where so much is known
   pub served-last : nat_le start known ≡ true
-      → feed.page_of base known end (stream_page (changes_whole base) pages page start (items_of (map (activity base) seens))) ≡ Some (record { start = start; items = map (activity base) seens; next = None })
+      → feed.page_of base known end
+      (stream_page (changes_whole base) pages page start (items_of (map (activity base) seens)))
+      ≡ Some (record { start = start; items = map (activity base) seens; next = None })
   unfolding stream_page
   served-last h =
       page_of-parts base known end served start (map (activity base) seens) None
-      (start-there (changes_whole base) page start (items_of (map (activity base) seens)) (link_before form.Changes (changes_whole base) page) (link_after form.Changes (changes_whole base) pages page))
-      items-of-served (all-activities base seens told) (eq-eqb _ _ fits) (before-known base known start (length (map (activity base) seens)) served h)
+      (start-there (changes_whole base) page start (items_of (map (activity base) seens))
+      (link_before form.Changes (changes_whole base) page)
+      (link_after form.Changes (changes_whole base) pages page))
+      items-of-served (all-activities base seens told) (eq-eqb _ _ fits)
+      (before-known base known start (length (map (activity base) seens)) served h)
 
   -- and else it leads to the page before it
-  pub served-more : nat_le start known ≡ false → nat_eq (length (map (activity base) seens)) 0 ≡ false → nat_lt 1 page ≡ true
-      → feed.page_of base known end (stream_page (changes_whole base) pages page start (items_of (map (activity base) seens))) ≡ Some (record { start = start; items = map (activity base) seens; next = Some (page_target (page - 1)) })
+  pub served-more : nat_le start known ≡ false
+      → nat_eq (length (map (activity base) seens)) 0 ≡ false → nat_lt 1 page ≡ true
+      → feed.page_of base known end
+      (stream_page (changes_whole base) pages page start (items_of (map (activity base) seens)))
+      ≡ Some (record {
+        start = start;
+        items = map (activity base) seens;
+        next = Some (page_target (page - 1));
+      })
   unfolding stream_page
   served-more h some later =
-      page_of-parts base known end served start (map (activity base) seens) (Some (page_target (page - 1)))
-      (start-there (changes_whole base) page start (items_of (map (activity base) seens)) (link_before form.Changes (changes_whole base) page) (link_after form.Changes (changes_whole base) pages page))
+      page_of-parts base known end served start (map (activity base) seens)
+      (Some (page_target (page - 1)))
+      (start-there (changes_whole base) page start (items_of (map (activity base) seens))
+      (link_before form.Changes (changes_whole base) page)
+      (link_after form.Changes (changes_whole base) pages page))
       items-of-served (all-activities base seens told) (eq-eqb _ _ fits)
-      (before-more base known start (length (map (activity base) seens)) served (page_target (page - 1)) h some
-      (ap (λ (o : Option Data). option_and_then (after_front base) (option_and_then (text_in (codes "id")) o))
-      (prev-there (changes_whole base) page start (items_of (map (activity base) seens)) (link_before form.Changes (changes_whole base) page) (link_after form.Changes (changes_whole base) pages page)
-      ∙ ap (λ (b : Bool). option_map (page_link form.Changes (changes_whole base)) (cond b (Some (page - 1)) None)) later)
+      (before-more base known start (length (map (activity base) seens)) served
+      (page_target (page - 1)) h some
+      (ap (λ (o : Option Data).
+      option_and_then (after_front base) (option_and_then (text_in (codes "id")) o))
+      (prev-there (changes_whole base) page start (items_of (map (activity base) seens))
+      (link_before form.Changes (changes_whole base) page)
+      (link_after form.Changes (changes_whole base) pages page)
+      ∙ ap (λ (b : Bool).
+      option_map (page_link form.Changes (changes_whole base)) (cond b (Some (page - 1)) None))
+      later)
       ∙ page-target base (page - 1)))
 
 -- ---- the whole walk over what is served
@@ -336,45 +606,61 @@ drop-more (suc m) n k [] e = drop-nil n ∙ sym (drop-nil k)
 drop-more (suc m) n zero (x ∷ xs) e = absurd (omega (arith, e))
 drop-more (suc m) n (suc k) (x ∷ xs) e = drop-more m n k xs (omega (arith, e))
 
-drop-front : {A : Type 0} (k : ℕ) (xs ys : List A) → k ≤ length xs → drop k (xs ++ ys) ≡ drop k xs ++ ys
+drop-front : {A : Type 0} (k : ℕ) (xs ys : List A) → k ≤ length xs
+    → drop k (xs ++ ys) ≡ drop k xs ++ ys
 drop-front zero xs ys h = refl
 drop-front (suc k) [] ys h = absurd (omega (arith, h))
 drop-front (suc k) (x ∷ xs) ys h = drop-front k xs ys (omega (arith, h))
 
-pub recursion-drop : {A : Type 0} (P : A → Type 0) (n : ℕ) (xs : List A) → AllByRecursion P xs → AllByRecursion P (drop n xs)
+pub recursion-drop : {A : Type 0} (P : A → Type 0) (n : ℕ) (xs : List A) → AllByRecursion P xs
+    → AllByRecursion P (drop n xs)
 recursion-drop P zero xs h = h
 recursion-drop P (suc n) [] h = tt
 recursion-drop P (suc n) (x ∷ xs) h = recursion-drop P n xs h.1
 
-pub recursion-take : {A : Type 0} (P : A → Type 0) (n : ℕ) (xs : List A) → AllByRecursion P xs → AllByRecursion P (take n xs)
+pub recursion-take : {A : Type 0} (P : A → Type 0) (n : ℕ) (xs : List A) → AllByRecursion P xs
+    → AllByRecursion P (take n xs)
 recursion-take P zero xs h = tt
 recursion-take P (suc n) [] h = tt
 recursion-take P (suc n) (x ∷ xs) h = (h.0, recursion-take P n xs h.1)
 
-changes-drop : (base : List ℕ) (k : ℕ) (seens : List Seen) → AllByRecursion IsTold seens → changes_of (drop k (map (activity base) seens)) ≡ map (change_told base) (drop k seens)
+changes-drop : (base : List ℕ) (k : ℕ) (seens : List Seen) → AllByRecursion IsTold seens
+    → changes_of (drop k (map (activity base) seens)) ≡ map (change_told base) (drop k seens)
 changes-drop base zero seens h = changes-told base seens h
 changes-drop base (suc k) [] h = refl
 changes-drop base (suc k) (seen ∷ seens) h = changes-drop base k seens h.1
 
-map-drop-append : (base : List ℕ) (xs ys : List Seen) → map (change_told base) xs ++ map (change_told base) ys ≡ map (change_told base) (xs ++ ys)
+map-drop-append : (base : List ℕ) (xs ys : List Seen)
+    → map (change_told base) xs ++ map (change_told base) ys ≡ map (change_told base) (xs ++ ys)
 map-drop-append base [] ys = refl
-map-drop-append base (x ∷ xs) ys = ap (λ rest. change_told base x ∷ rest) (map-drop-append base xs ys)
+map-drop-append base (x ∷ xs) ys =
+    ap (λ rest. change_told base x ∷ rest) (map-drop-append base xs ys)
 
-abbrev told_of : {A : Type 0} → List ℕ → (Data → Option A) → Result Data HarvestError → Result A HarvestError
-told_of {A} target rules r = elim r [ Ok tree ↦ ok_or (rules tree) (error.Form target) | Err error ↦ Err error ]
+abbrev told_of : {A : Type 0} → List ℕ → (Data → Option A) → Result Data HarvestError
+    → Result A HarvestError
+told_of {A} target rules r =
+    elim r [ Ok tree ↦ ok_or (rules tree) (error.Form target) | Err error ↦ Err error ]
 
 -- what is told of a body with the text of a tree
-told-served : {A : Type 0} (target : List ℕ) (rules : Data → Option A) (tree : Data) (x : A) → tree_of (compact_text tree) ≡ Ok tree → rules tree ≡ Some x
-    → ◌≡◌ {A = Result A HarvestError} (told target rules (record { status = 200; body = compact_text tree })) (Ok x)
+told-served : {A : Type 0} (target : List ℕ) (rules : Data → Option A) (tree : Data) (x : A)
+    → tree_of (compact_text tree) ≡ Ok tree → rules tree ≡ Some x
+    → ◌≡◌ {A = Result A HarvestError}
+    (told target rules (record { status = 200; body = compact_text tree })) (Ok x)
 told-served {A} target rules tree x reads is =
-    ap (λ (r : Result Data TreeError). told_of target rules (elim r [ Ok tree ↦ Ok tree | Err refused ↦ Err (error.Form target) ])) reads ∙ ap (λ (o : Option A). ok_or o (error.Form target)) is
+    ap (λ (r : Result Data TreeError).
+    told_of target rules (elim r [ Ok tree ↦ Ok tree | Err refused ↦ Err (error.Form target) ]))
+    reads
+    ∙ ap (λ (o : Option A). ok_or o (error.Form target)) is
 
-answers-unfollowed : (answers : List ℕ → Got → Type 0) (c : List Change) (w v : List Got → Walk) → ((more : List Got) → v more ≡ followed_by c (w more))
+answers-unfollowed : (answers : List ℕ → Got → Type 0) (c : List Change) (w v : List Got → Walk)
+    → ((more : List Got) → v more ≡ followed_by c (w more))
     → (gots : List Got) → AreAnswers answers v gots → AreAnswers answers w gots
 answers-unfollowed answers c w v same [] h = tt
 answers-unfollowed answers c w v same (got ∷ gots) h = (
-  back (λ target. answers target got) (w []) (subst (IfGets (λ target. answers target got)) (same []) h.0),
-  answers-unfollowed answers c (λ more. w (got ∷ more)) (λ more. v (got ∷ more)) (λ more. same (got ∷ more)) gots h.1,
+  back (λ target. answers target got) (w [])
+      (subst (IfGets (λ target. answers target got)) (same []) h.0),
+  answers-unfollowed answers c (λ more. w (got ∷ more)) (λ more. v (got ∷ more))
+      (λ more. same (got ∷ more)) gots h.1,
 )
   where
     back : (P : List ℕ → Type 0) (w : Walk) → IfGets P (followed_by c w) → IfGets P w
@@ -382,7 +668,8 @@ answers-unfollowed answers c w v same (got ∷ gots) h = (
     back P (Stops error) h = h
     back P (Ends total changes) h = h
 
-module _ (base : List ℕ) (size : ℕ) (seen : List Seen) (all : AllByRecursion IsTold seen) (some : 1 ≤ size) (known : ℕ) (within : known ≤ length seen) where
+module _ (base : List ℕ) (size : ℕ) (seen : List Seen) (all : AllByRecursion IsTold seen)
+    (some : 1 ≤ size) (known : ℕ) (within : known ≤ length seen) where
   abbrev pub total : ℕ
   total = length seen
 
@@ -393,7 +680,9 @@ module _ (base : List ℕ) (size : ℕ) (seen : List Seen) (all : AllByRecursion
   slice p = page_of p size seen
 
   abbrev pub page_at : ℕ → Data
-  page_at p = stream_page (changes_whole base) count p (start_of p size) (items_of (map (activity base) (slice p)))
+  page_at p =
+      stream_page (changes_whole base) count p (start_of p size)
+      (items_of (map (activity base) (slice p)))
 
   abbrev pub end_at : ℕ → ℕ
   end_at p = start_of p size + length (map (activity base) (slice p))
@@ -404,7 +693,8 @@ module _ (base : List ℕ) (size : ℕ) (seen : List Seen) (all : AllByRecursion
 
   -- it tells the pages, and they are trees
   pub record Serves (answers : List ℕ → Got → Type 0) : Type 0 where
-    pub told_pages : (p : ℕ) (got : Got) → 1 ≤ p → p ≤ count → answers (page_target p) got → got ≡ record { status = 200; body = compact_text (page_at p) }
+    pub told_pages : (p : ℕ) (got : Got) → 1 ≤ p → p ≤ count → answers (page_target p) got
+        → got ≡ record { status = 200; body = compact_text (page_at p) }
     pub trees : (p : ℕ) → 1 ≤ p → p ≤ count → tree_of (compact_text (page_at p)) ≡ Ok (page_at p)
 
   -- the walk isn't at its end, or ends with these changes
@@ -414,41 +704,63 @@ module _ (base : List ℕ) (size : ℕ) (seen : List Seen) (all : AllByRecursion
   Fine (Ends n changes) p = (n ≡ total) × (changes ≡ later p)
 
   pub starts-within : (p : ℕ) → p ≤ count → start_of p size ≤ total
-  starts-within p le = let c = (pages-cover total size some).0 in omega (arith, c, mul-le (p - 1) size (count - 1) size (omega arith) (omega arith))
+  starts-within p le =
+      let c = (pages-cover total size some).0 in
+      omega (arith, c, mul-le (p - 1) size (count - 1) size (omega arith) (omega arith))
 
   pub told-slice : (p : ℕ) → AllByRecursion IsTold (slice p)
-  told-slice p = recursion-take IsTold size (drop (start_of p size) seen) (recursion-drop IsTold (start_of p size) seen all)
+  told-slice p =
+      recursion-take IsTold size (drop (start_of p size) seen)
+      (recursion-drop IsTold (start_of p size) seen all)
 
   slice-is : (p : ℕ) → drop (start_of p size) (take (start_of p size + size) seen) ≡ slice p
   slice-is p = drop-take (start_of p size) size seen
 
   -- the walk after a page that is the last to get
-  fine-last : (p : ℕ) → start_of p size ≤ known → Fine (followed_by (changes_of (drop (known - start_of p size) (map (activity base) (slice p)))) (Ends total [])) p
+  fine-last : (p : ℕ) → start_of p size ≤ known
+      → Fine (followed_by
+      (changes_of (drop (known - start_of p size) (map (activity base) (slice p)))) (Ends total []))
+      p
   fine-last p le = (
     refl,
     changes-drop base (known - start_of p size) (slice p) (told-slice p)
-        ∙ ap (map (change_told base)) (ap (drop (known - start_of p size)) (sym (slice-is p)) ∙ drop-more (start_of p size) (known - start_of p size) known (take (start_of p size + size) seen) (omega (arith, le))),
+        ∙ ap (map (change_told base))
+        (ap (drop (known - start_of p size)) (sym (slice-is p))
+        ∙ drop-more (start_of p size) (known - start_of p size) known
+        (take (start_of p size + size) seen) (omega (arith, le))),
   )
 
   -- and after one that leads on
-  fine-more : (p q : ℕ) (w : Walk) → start_of q size + size ≡ start_of p size → known < start_of p size → start_of p size ≤ total → Fine w q
-      → Fine (followed_by (changes_of (drop (known - start_of p size) (map (activity base) (slice p)))) w) p
+  fine-more : (p q : ℕ) (w : Walk) → start_of q size + size ≡ start_of p size
+      → known < start_of p size → start_of p size ≤ total → Fine w q
+      → Fine
+      (followed_by (changes_of (drop (known - start_of p size) (map (activity base) (slice p)))) w)
+      p
   fine-more p q (Gets target) next more le f = tt
   fine-more p q (Stops error) next more le f = f
   fine-more p q (Ends n changes) next more le f =
       let zero_ : known - start_of p size ≡ 0 = omega (arith, more) in
-      let noted : changes_of (drop (known - start_of p size) (map (activity base) (slice p))) ≡ map (change_told base) (slice p) =
-      ap (λ k. changes_of (drop k (map (activity base) (slice p)))) zero_ ∙ changes-told base (slice p) (told-slice p) in
-      let split : take (start_of p size + size) seen ≡ take (start_of p size) seen ++ slice p = take-add (start_of p size) size seen in (
+      let noted : changes_of (drop (known - start_of p size) (map (activity base) (slice p)))
+      ≡ map (change_told base) (slice p) =
+      ap (λ k. changes_of (drop k (map (activity base) (slice p)))) zero_
+      ∙ changes-told base (slice p) (told-slice p) in
+      let split : take (start_of p size + size) seen ≡ take (start_of p size) seen ++ slice p =
+      take-add (start_of p size) size seen in (
         f.0,
-        ap₂ (λ a b. a ++ b) (f.1 ∙ ap (λ n. map (change_told base) (drop known (take n seen))) next) noted
+        ap₂ (λ a b. a ++ b)
+            (f.1 ∙ ap (λ n. map (change_told base) (drop known (take n seen))) next) noted
             ∙ map-drop-append base (drop known (take (start_of p size) seen)) (slice p)
-            ∙ ap (map (change_told base)) (sym (drop-front known (take (start_of p size) seen) (slice p) (simp length-take (omega arith))) ∙ ap (drop known) (sym split)),
+            ∙ ap (map (change_told base))
+            (sym (drop-front known (take (start_of p size) seen) (slice p)
+            (simp length-take (omega arith)))
+            ∙ ap (drop known) (sym split)),
       )
 
   -- where a page starts that isn't the first
   starts-below : (p : ℕ) → 2 ≤ p → p ≤ count → start_of p size < total
-  starts-below p two le = let c = pages-below total size some (omega (arith, two, le)) in omega (arith, c, mul-le (p - 1) size (count - 1) size (omega arith) (omega arith))
+  starts-below p two le =
+      let c = pages-below total size some (omega (arith, two, le)) in
+      omega (arith, c, mul-le (p - 1) size (count - 1) size (omega arith) (omega arith))
 
   follows : (p : ℕ) → 2 ≤ p → start_of (p - 1) size + size ≡ start_of p size
   follows p two = sym (suc-mul (p - 1 - 1) size) ∙ ap (λ n. n * size) (later-one p two)
@@ -460,7 +772,8 @@ module _ (base : List ℕ) (size : ℕ) (seen : List Seen) (all : AllByRecursion
   ends-at p two le =
       let s = starts-below p two le in
       let f = follows p two in
-      let l : length (map (activity base) (slice (p - 1))) ≡ length (slice (p - 1)) = simp length-map in
+      let l : length (map (activity base) (slice (p - 1))) ≡ length (slice (p - 1)) =
+      simp length-map in
       let e = page-ends (start_of (p - 1) size) size seen (omega (arith, s, f)) in
       omega (arith, e, l, s, f)
 
@@ -469,12 +782,17 @@ module _ (base : List ℕ) (size : ℕ) (seen : List Seen) (all : AllByRecursion
     where
       by : (b : Bool) → nat_lt 1 p ≡ b → 2 ≤ p
       by true h = grind (arith, nat_tests)
-      by false h = let small : p ≤ 1 = grind (arith, nat_tests) in absurd (omega (arith, more, mul-le (p - 1) size 0 size (omega (arith, small)) (omega arith)))
+      by false h =
+          let small : p ≤ 1 = grind (arith, nat_tests) in
+          absurd
+          (omega (arith, more, mul-le (p - 1) size 0 size (omega (arith, small)) (omega arith)))
 
-  has-items : (p : ℕ) → 2 ≤ p → p ≤ count → nat_eq (length (map (activity base) (slice p))) 0 ≡ false
+  has-items : (p : ℕ) → 2 ≤ p → p ≤ count
+      → nat_eq (length (map (activity base) (slice p))) 0 ≡ false
   has-items p two le =
       let s = starts-below p two le in
-      let l : length (map (activity base) (slice p)) ≡ min size (total - start_of p size) = simp (length-map, length-take, length-drop) in
+      let l : length (map (activity base) (slice p)) ≡ min size (total - start_of p size) =
+      simp (length-map, length-take, length-drop) in
       let some_ : 0 < length (map (activity base) (slice p)) = omega (arith, l, s, some) in
       positive (length (map (activity base) (slice p))) some_
     where
@@ -482,35 +800,69 @@ module _ (base : List ℕ) (size : ℕ) (seen : List Seen) (all : AllByRecursion
       positive n h = grind (arith, nat_tests)
 
   pub Run : (List ℕ → Got → Type 0) → List Got → Type 0
-  Run answers gots = (p : ℕ) → 1 ≤ p → p ≤ count → known ≤ end_at p → AreAnswers answers (pages base known total (end_at p) (page_target p)) gots → Fine (pages base known total (end_at p) (page_target p) gots) p
+  Run answers gots =
+      (p : ℕ) → 1 ≤ p → p ≤ count → known ≤ end_at p
+      → AreAnswers answers (pages base known total (end_at p) (page_target p)) gots
+      → Fine (pages base known total (end_at p) (page_target p) gots) p
 
-  step : (answers : List ℕ → Got → Type 0) → Serves answers → (got : Got) (gots : List Got) → Run answers gots → Run answers (got ∷ gots)
+  step : (answers : List ℕ → Got → Type 0) → Serves answers → (got : Got) (gots : List Got)
+      → Run answers gots → Run answers (got ∷ gots)
   unfolding Run
   step answers serves got gots rest p one le kn h = by (nat_le (start_of p size) known) refl
     where
-      reads : (page : feed.Page) → feed.page_of base known (end_at p) (page_at p) ≡ Some page → told (page_target p) (feed.page_of base known (end_at p)) got ≡ Ok page
-      reads page is = ap (told (page_target p) (feed.page_of base known (end_at p))) (serves.told_pages p got one le h.0) ∙ told-served (page_target p) (feed.page_of base known (end_at p)) (page_at p) page (serves.trees p one le) is
+      reads : (page : feed.Page) → feed.page_of base known (end_at p) (page_at p) ≡ Some page
+          → told (page_target p) (feed.page_of base known (end_at p)) got ≡ Ok page
+      reads page is =
+          ap (told (page_target p) (feed.page_of base known (end_at p)))
+          (serves.told_pages p got one le h.0)
+          ∙ told-served (page_target p) (feed.page_of base known (end_at p)) (page_at p) page
+          (serves.trees p one le) is
 
-      by : (b : Bool) → nat_le (start_of p size) known ≡ b → Fine (pages base known total (end_at p) (page_target p) (got ∷ gots)) p
+      by : (b : Bool) → nat_le (start_of p size) known ≡ b
+          → Fine (pages base known total (end_at p) (page_target p) (got ∷ gots)) p
       by true b =
-          let page : feed.Page = record { start = start_of p size; items = map (activity base) (slice p); next = None } in
-          subst (λ w. Fine w p) (sym (pages-on answers base known total (end_at p) (page_target p) got (Ok page) (reads page (served-last base known (end_at p) count p (start_of p size) (slice p) (told-slice p) refl b)) gots))
+          let page : feed.Page =
+          record { start = start_of p size; items = map (activity base) (slice p); next = None } in
+          subst (λ w. Fine w p) (sym
+          (pages-on answers base known total (end_at p) (page_target p) got (Ok page)
+          (reads page (served-last base known (end_at p) count p (start_of p size) (slice p)
+          (told-slice p) refl b)) gots))
           (fine-last p (grind (arith, nat_tests)))
       by false b =
           let more : known < start_of p size = grind (arith, nat_tests) in
           let two = is-later p more in
-          let page : feed.Page = record { start = start_of p size; items = map (activity base) (slice p); next = Some (page_target (p - 1)) } in
-          let is = reads page (served-more base known (end_at p) count p (start_of p size) (slice p) (told-slice p) refl b (has-items p two le) (grind (arith, nat_tests))) in
-          let on : (gots : List Got) → pages base known total (end_at p) (page_target p) (got ∷ gots) ≡ followed_by (feed.changes_after known page) (pages base known total (start_of p size) (page_target (p - 1)) gots) = λ gots. pages-on answers base known total (end_at p) (page_target p) got (Ok page) is gots in
+          let page : feed.Page = record {
+            start = start_of p size;
+            items = map (activity base) (slice p);
+            next = Some (page_target (p - 1));
+          } in
+          let is =
+          reads page (served-more base known (end_at p) count p (start_of p size) (slice p)
+          (told-slice p) refl b (has-items p two le) (grind (arith, nat_tests))) in
+          let on : (gots : List Got)
+          → pages base known total (end_at p) (page_target p) (got ∷ gots)
+          ≡ followed_by (feed.changes_after known page)
+          (pages base known total (start_of p size) (page_target (p - 1)) gots) =
+          λ gots.
+          pages-on answers base known total (end_at p) (page_target p) got (Ok page) is gots in
           let ends = ends-at p two le in
-          let answered = answers-unfollowed answers (feed.changes_after known page) (pages base known total (start_of p size) (page_target (p - 1))) (λ more. pages base known total (end_at p) (page_target p) (got ∷ more)) on gots h.1 in
-          let before = rest (p - 1) (omega (arith, two)) (omega (arith, le)) (omega (arith, ends, more)) (subst (λ end. AreAnswers answers (pages base known total end (page_target (p - 1))) gots) (sym ends) answered) in
+          let answered =
+          answers-unfollowed answers (feed.changes_after known page)
+          (pages base known total (start_of p size) (page_target (p - 1)))
+          (λ more. pages base known total (end_at p) (page_target p) (got ∷ more)) on gots h.1 in
+          let before =
+          rest (p - 1) (omega (arith, two)) (omega (arith, le)) (omega (arith, ends, more))
+          (subst (λ end. AreAnswers answers (pages base known total end (page_target (p - 1))) gots)
+          (sym ends) answered) in
           subst (λ w. Fine w p) (sym (on gots))
-          (fine-more p (p - 1) (pages base known total (start_of p size) (page_target (p - 1)) gots) (follows p two) more (starts-within p le)
-          (subst (λ end. Fine (pages base known total end (page_target (p - 1)) gots) (p - 1)) ends before))
+          (fine-more p (p - 1) (pages base known total (start_of p size) (page_target (p - 1)) gots)
+          (follows p two) more (starts-within p le)
+          (subst (λ end. Fine (pages base known total end (page_target (p - 1)) gots) (p - 1))
+          ends before))
 
   -- over a fetch that tells the pages the walk never stops, and ends with the changes that are due
-  pub run : (answers : List ℕ → Got → Type 0) → Serves answers → (gots : List Got) → Run answers gots
+  pub run : (answers : List ℕ → Got → Type 0) → Serves answers → (gots : List Got)
+      → Run answers gots
   unfolding Run
   run answers serves [] = λ p one le kn h. tt
   run answers serves (got ∷ gots) = step answers serves got gots (run answers serves gots)
@@ -520,7 +872,8 @@ module _ (base : List ℕ) (size : ℕ) (seen : List Seen) (all : AllByRecursion
   last-ends =
       let c = pages-cover total size some in
       let one : 1 ≤ count = omega arith in
-      let next : start_of count size + size ≡ count * size = sym (suc-mul (count - 1) size) ∙ ap (λ n. n * size) (back-one count one) in
+      let next : start_of count size + size ≡ count * size =
+      sym (suc-mul (count - 1) size) ∙ ap (λ n. n * size) (back-one count one) in
       let l : length (map (activity base) (slice count)) ≡ length (slice count) = simp length-map in
       let e = page-ends (start_of count size) size seen c.0 in
       omega (arith, e, l, next, c.0, c.1)
@@ -537,8 +890,10 @@ module _ (base : List ℕ) (size : ℕ) (seen : List Seen) (all : AllByRecursion
   last-later : later count ≡ map (change_told base) (drop known seen)
   last-later =
       let e = last-ends in
-      let l : length (map (activity base) (slice count)) ≡ min size (total - start_of count size) = simp (length-map, length-take, length-drop) in
-      ap (λ xs. map (change_told base) (drop known xs)) (take-whole (start_of count size + size) seen (omega (arith, e, l)))
+      let l : length (map (activity base) (slice count)) ≡ min size (total - start_of count size) =
+      simp (length-map, length-take, length-drop) in
+      ap (λ xs. map (change_told base) (drop known xs))
+      (take-whole (start_of count size + size) seen (omega (arith, e, l)))
 
   abbrev pub FineWalk : Walk → Type 0
   FineWalk (Gets target) = ⊤
@@ -552,17 +907,33 @@ module _ (base : List ℕ) (size : ℕ) (seen : List Seen) (all : AllByRecursion
 
   -- so over a fetch that tells the stream too a harvest is never refused, and harvests every change
   pub walked : (answers : List ℕ → Got → Type 0) → Serves answers
-      → ((got : Got) → answers (codes "/changes") got → got ≡ record { status = 200; body = compact_text (stream_tree (changes_whole base) count total) })
-      → tree_of (compact_text (stream_tree (changes_whole base) count total)) ≡ Ok (stream_tree (changes_whole base) count total)
-      → (gots : List Got) → AreAnswers answers (walk base known) gots → FineWalk (walk base known gots)
+      → ((got : Got) → answers (codes "/changes") got
+      → got
+      ≡ record { status = 200; body = compact_text (stream_tree (changes_whole base) count total) })
+      → tree_of (compact_text (stream_tree (changes_whole base) count total))
+      ≡ Ok (stream_tree (changes_whole base) count total)
+      → (gots : List Got) → AreAnswers answers (walk base known) gots
+      → FineWalk (walk base known gots)
   unfolding Run
   walked answers serves stream tree [] h = tt
   walked answers serves stream tree (got ∷ gots) h =
       let feed_ : feed.Feed = record { total = total; last = page_target count } in
       let is : told (codes "/changes") (feed.feed_of base known) got ≡ Ok feed_ =
       ap (told (codes "/changes") (feed.feed_of base known)) (stream got h.0)
-      ∙ told-served (codes "/changes") (feed.feed_of base known) (stream_tree (changes_whole base) count total) feed_ tree (stream-feed base known count total (le-leb known total within)) in
-      let on : (gots : List Got) → walk base known (got ∷ gots) ≡ pages base known total total (page_target count) gots = λ gots. ap (λ r. on_feed answers base known got r gots) is in
-      let answered = answers-same answers (λ more. walk base known (got ∷ more)) (pages base known total total (page_target count)) (λ more. sym (on more)) gots h.1 in
-      let ran = run answers serves gots count (omega arith) (omega arith) (omega (arith, last-ends, within)) (subst (λ end. AreAnswers answers (pages base known total end (page_target count)) gots) (sym last-ends) answered) in
-      fine-walk (walk base known (got ∷ gots)) (subst (λ w. Fine w count) (sym (on gots)) (subst (λ end. Fine (pages base known total end (page_target count) gots) count) last-ends ran))
+      ∙ told-served (codes "/changes") (feed.feed_of base known)
+      (stream_tree (changes_whole base) count total) feed_ tree
+      (stream-feed base known count total (le-leb known total within)) in
+      let on : (gots : List Got)
+      → walk base known (got ∷ gots) ≡ pages base known total total (page_target count) gots =
+      λ gots. ap (λ r. on_feed answers base known got r gots) is in
+      let answered =
+      answers-same answers (λ more. walk base known (got ∷ more))
+      (pages base known total total (page_target count)) (λ more. sym (on more)) gots h.1 in
+      let ran =
+      run answers serves gots count (omega arith) (omega arith) (omega (arith, last-ends, within))
+      (subst (λ end. AreAnswers answers (pages base known total end (page_target count)) gots)
+      (sym last-ends) answered) in
+      fine-walk (walk base known (got ∷ gots))
+      (subst (λ w. Fine w count) (sym (on gots))
+      (subst (λ end. Fine (pages base known total end (page_target count) gots) count)
+      last-ends ran))

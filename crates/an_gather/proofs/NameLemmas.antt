@@ -17,24 +17,32 @@ named_text text name is = by (is_name text) is
     by true is = cc
     by false is = cc
 
-found-passes : (p : ManifestState → Bool) (rows : List ManifestState) (row : ManifestState) → Some row ≡ find p rows → p row ≡ true
+found-passes : (p : ManifestState → Bool) (rows : List ManifestState) (row : ManifestState)
+    → Some row ≡ find p rows → p row ≡ true
 found-passes p [] row at = cc
 found-passes p (first ∷ rows) row at = by (p first) refl at (found-passes p rows row)
   where
-    by : (b : Bool) → p first ≡ b → Some row ≡ cond b (Some first) (find p rows) → (Some row ≡ find p rows → p row ≡ true) → p row ≡ true
+    by : (b : Bool) → p first ≡ b → Some row ≡ cond b (Some first) (find p rows)
+        → (Some row ≡ find p rows → p row ≡ true) → p row ≡ true
     by true is at later = let same : row ≡ first = cc in ap p same ∙ is
     by false is at later = later at
 
 -- the manifest of a name has it
-pub found-name : (view : View) (name : List ℕ) (row : ManifestState) → Some row ≡ manifest_in view name → row.name ≡ name
-found-name view name row at = (bytes_eq-Decides row.name name).0 (found-passes (λ row. bytes_eq row.name name) view.manifests row at)
+pub found-name : (view : View) (name : List ℕ) (row : ManifestState)
+    → Some row ≡ manifest_in view name → row.name ≡ name
+found-name view name row at =
+    (bytes_eq-Decides row.name name).0
+    (found-passes (λ row. bytes_eq row.name name) view.manifests row at)
 
-pub lent-push : (names : List (Bor (List ℕ))) (name : Bor (List ℕ)) → lent_names (names ++ name ∷ []) ≡ lent_names names ++ name.now ∷ []
+pub lent-push : (names : List (Bor (List ℕ))) (name : Bor (List ℕ))
+    → lent_names (names ++ name ∷ []) ≡ lent_names names ++ name.now ∷ []
 lent-push [] name = refl
 lent-push (first ∷ names) name = ap (λ (l : List (List ℕ)). first.now ∷ l) (lent-push names name)
 
 -- one name more
 pub filter-more : (p : List ℕ → Bool) (names : List (List ℕ)) (i : ℕ) → i < length names
-    → filter p (take (i + 1) names) ≡ filter p (take i names) ++ cond (p (get_or names i [])) (get_or names i [] ∷ []) []
+    → filter p (take (i + 1) names)
+    ≡ filter p (take i names) ++ cond (p (get_or names i [])) (get_or names i [] ∷ []) []
 filter-more p names i within =
-    ap (filter p) (take_more names i [] within) ∙ filter-append p (take i names) (get_or names i [] ∷ [])
+    ap (filter p) (take_more names i [] within)
+    ∙ filter-append p (take i names) (get_or names i [] ∷ [])

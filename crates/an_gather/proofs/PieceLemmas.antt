@@ -19,22 +19,30 @@ not-false : (b : Bool) → not b ≡ false → b ≡ true
 not-false true is = refl
 not-false false is = cc
 
-all-named : (pieces : List (List ℕ)) → position (λ piece. not (is_name piece)) pieces ≡ None → AllPass is_name pieces
+all-named : (pieces : List (List ℕ)) → position (λ piece. not (is_name piece)) pieces ≡ None
+    → AllPass is_name pieces
 all-named pieces none k d within =
-    let past : length pieces ≤ position_or_len (λ piece. not (is_name piece)) pieces = grind (arith, common_steps) in
-    not-false (is_name (get_or pieces k d)) (fails_before_first (λ piece. not (is_name piece)) pieces k d (omega (arith, past, within)))
+    let past : length pieces ≤ position_or_len (λ piece. not (is_name piece)) pieces =
+    grind (arith, common_steps) in
+    not-false (is_name (get_or pieces k d))
+    (fails_before_first (λ piece. not (is_name piece)) pieces k d (omega (arith, past, within)))
 
-pub pieces_named : (given : Option (List ℕ)) → bad_names given ≡ None → AllPass is_name (given_pieces given)
+pub pieces_named : (given : Option (List ℕ)) → bad_names given ≡ None
+    → AllPass is_name (given_pieces given)
 pieces_named None none = λ k d within. absurd (omega (arith, within))
 pieces_named (Some value) none = all-named (pieces_of value) none
 
-inserted-named : (us texts : List (List ℕ)) → AllPass is_name us → AllPass is_name texts → AllPass is_name (fold (insert_key (slice_cmp nat_cmp)) us texts)
+inserted-named : (us texts : List (List ℕ)) → AllPass is_name us → AllPass is_name texts
+    → AllPass is_name (fold (insert_key (slice_cmp nat_cmp)) us texts)
 inserted-named us [] before behind = before
 inserted-named us (text ∷ texts) before behind =
     inserted-named (insert_key (slice_cmp nat_cmp) us text) texts
-    (All-insert_key (slice_cmp nat_cmp) text (λ text. is_name text ≡ true) us before (All-head (λ text. is_name text ≡ true) text texts behind))
+    (All-insert_key (slice_cmp nat_cmp) text (λ text. is_name text ≡ true) us before
+    (All-head (λ text. is_name text ≡ true) text texts behind))
     (All-tail (λ text. is_name text ≡ true) text texts behind)
 
 -- in the order of their bytes too
-pub ascending_named : (texts : List (List ℕ)) → AllPass is_name texts → AllPass is_name (ascending texts)
-ascending_named texts named = inserted-named [] texts (λ k d within. absurd (omega (arith, within))) named
+pub ascending_named : (texts : List (List ℕ)) → AllPass is_name texts
+    → AllPass is_name (ascending texts)
+ascending_named texts named =
+    inserted-named [] texts (λ k d within. absurd (omega (arith, within))) named

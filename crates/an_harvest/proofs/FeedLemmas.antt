@@ -7,7 +7,8 @@ pub is_some-map : {A B : Type 0} (f : A → B) (o : Option A) → is_some (optio
 is_some-map f None = refl
 is_some-map f (Some x) = refl
 
-pub same_some : {A B C : Type 0} (f : A → C) (g : B → C) (o : Option A) (p : Option B) → option_map f o ≡ option_map g p → is_some o ≡ is_some p
+pub same_some : {A B C : Type 0} (f : A → C) (g : B → C) (o : Option A) (p : Option B)
+    → option_map f o ≡ option_map g p → is_some o ≡ is_some p
 same_some f g o p same = sym (is_some-map f o) ∙ ap is_some same ∙ is_some-map g p
 
 pub ruleset leaves = (same_some)

@@ -14,14 +14,16 @@ use Rattle.an_http.specs.Requests.{Wrong, Front, Nothing, Plans, headless, behin
 use Rattle.an_http.specs.Next.{IsOpen, HoldsNone}
 
 -- what stands where no head ends
-pub headless-begins : (held : List ℕ) (place : Option ℕ) → place ≡ None → BeginsAt held place (headless (length held))
+pub headless-begins : (held : List ℕ) (place : Option ℕ) → place ≡ None
+    → BeginsAt held place (headless (length held))
 headless-begins held None none = refl
 headless-begins held (Some n) none = cc
 
 open_by : (count : ℕ) → count < head_limit → IsOpen (headless count)
 open_by count few = by (count == 0) (nat_lt count head_limit) (grind (arith, nat_tests))
   where
-    by : (empty short : Bool) → short ≡ true → IsOpen (if empty then Nothing else if short then Front code.Head else Wrong code.Head)
+    by : (empty short : Bool) → short ≡ true
+        → IsOpen (if empty then Nothing else if short then Front code.Head else Wrong code.Head)
     by true short h = tt
     by false true h = tt
     by false false h = cc
@@ -34,20 +36,27 @@ holds_none held h = record {
 }
 
 -- a head that is longer than a head may be
-long-begins : (held : List ℕ) (n : ℕ) (place : Option ℕ) → place ≡ Some n → head_limit < n → BeginsAt held place (Wrong code.Head)
+long-begins : (held : List ℕ) (n : ℕ) (place : Option ℕ) → place ≡ Some n → head_limit < n
+    → BeginsAt held place (Wrong code.Head)
 long-begins held n None is long = cc
 long-begins held n (Some m) is long = by _ (nat_lt head_limit m) (grind (arith, nat_tests))
   where
-    by : (P : Type 0) (test : Bool) → test ≡ true → MatchBool test (Wrong code.Head ≡ Wrong code.Head) P
+    by : (P : Type 0) (test : Bool) → test ≡ true
+        → MatchBool test (Wrong code.Head ≡ Wrong code.Head) P
     by P true h = refl
     by P false h = cc
 
 -- as many bytes as a head may have, in which none ends
-full-begins : (held : List ℕ) (place : Option ℕ) → place ≡ None → head_limit ≤ length held → BeginsAt held place (Wrong code.Head)
+full-begins : (held : List ℕ) (place : Option ℕ) → place ≡ None → head_limit ≤ length held
+    → BeginsAt held place (Wrong code.Head)
 full-begins held (Some m) none long = cc
-full-begins held None none long = by (length held == 0) (nat_lt (length held) head_limit) (grind (arith, nat_tests)) (grind (arith, nat_tests))
+full-begins held None none long =
+    by (length held == 0) (nat_lt (length held) head_limit) (grind (arith, nat_tests))
+    (grind (arith, nat_tests))
   where
-    by : (empty short : Bool) → empty ≡ false → short ≡ false → Wrong code.Head ≡ (if empty then Nothing else if short then Front code.Head else Wrong code.Head)
+    by : (empty short : Bool) → empty ≡ false → short ≡ false
+        → Wrong code.Head
+        ≡ (if empty then Nothing else if short then Front code.Head else Wrong code.Head)
     by true short h k = cc
     by false true h k = cc
     by false false h k = refl
@@ -61,7 +70,8 @@ wrong-begins held h = by (head_length held) refl
     by (Some n) is = long-begins held n (Some n) refl (h.some n is)
 
 -- a head of the plan stands there, however many bytes stand behind it
-planned-begins : (held : List ℕ) (n : ℕ) (plan : Result Plan Code) (place : Option ℕ) → place ≡ Some n → n ≤ head_limit → Plans (take n held) plan
+planned-begins : (held : List ℕ) (n : ℕ) (plan : Result Plan Code) (place : Option ℕ)
+    → place ≡ Some n → n ≤ head_limit → Plans (take n held) plan
     → BeginsAt held place (behind plan (drop n held))
 planned-begins held n plan None is short plans = cc
 planned-begins held n plan (Some m) is short plans =
@@ -71,15 +81,20 @@ planned-begins held n plan (Some m) is short plans =
   where
     by : (test : Bool) → test ≡ false → Plans (take m held) plan
         → MatchBool test (behind plan (drop m held) ≡ Wrong code.Head)
-        ((found : Result Plan Code) × Plans (take m held) found × (behind plan (drop m held) ≡ behind found (drop m held)))
+        ((found : Result Plan Code) × Plans (take m held) found
+        × (behind plan (drop m held) ≡ behind found (drop m held)))
     by true h here = cc
     by false h here = (plan, here, refl)
 
 -- and when more came
-pub more-planned : (old new : Option Traffic) (held held' : List ℕ) (n : ℕ) (plan : Result Plan Code) → head_length held ≡ Some n → n ≤ head_limit
-    → Plans (take n held) plan → ReadsOn old new held held' → Begins held' (behind plan (drop n held'))
+pub more-planned : (old new : Option Traffic) (held held' : List ℕ) (n : ℕ)
+    (plan : Result Plan Code) → head_length held ≡ Some n → n ≤ head_limit
+    → Plans (take n held) plan → ReadsOn old new held held'
+    → Begins held' (behind plan (drop n held'))
 more-planned old new held held' n plan is short plans reads =
     let within = (head_length-within held n is).1 in
-    let still : take n held' ≡ take n held = ap (take n) reads.is ∙ take-append-le n held reads.more within in
-    let ends : head_length held' ≡ Some n = ap head_length reads.is ∙ head_length-append held reads.more n is in
+    let still : take n held' ≡ take n held =
+    ap (take n) reads.is ∙ take-append-le n held reads.more within in
+    let ends : head_length held' ≡ Some n =
+    ap head_length reads.is ∙ head_length-append held reads.more n is in
     planned-begins held' n plan (head_length held') ends short (rw still plans)

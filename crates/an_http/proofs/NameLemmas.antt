@@ -14,8 +14,11 @@ use Rattle.httparse.specs.declared.spans.RequestSpans.{RequestSpans}
 use Rattle.an_base.specs.Token.{is_token_sign, is_token}
 
 -- bytes of which each passes a test that ASCII alone passes
-utf8_by : (test : ℕ → Bool) → ((b : ℕ) → test b ≡ true → b < 128) → (bytes : List ℕ) → All (λ b. test b ≡ true) bytes → IsUtf8 bytes
-utf8_by test ascii bytes h = IsUtf8-from_ascii bytes (IsAscii-from_all bytes (All-weaker (λ b. test b ≡ true) (λ b. b < 128) ascii bytes h))
+utf8_by : (test : ℕ → Bool) → ((b : ℕ) → test b ≡ true → b < 128) → (bytes : List ℕ)
+    → All (λ b. test b ≡ true) bytes → IsUtf8 bytes
+utf8_by test ascii bytes h =
+    IsUtf8-from_ascii bytes
+    (IsAscii-from_all bytes (All-weaker (λ b. test b ≡ true) (λ b. b < 128) ascii bytes h))
 
 token_byte : (b : ℕ) → is_token_byte b ≡ true → b < 128
 unfolding is_token_byte
@@ -28,10 +31,12 @@ token_sign : (b : ℕ) → is_token_sign b ≡ true → b < 128
 token_sign b h = grind (arith, nat_tests)
 
 pub IsUtf8-from_signs : (bytes : List ℕ) → list_all is_token_sign bytes ≡ true → IsUtf8 bytes
-IsUtf8-from_signs bytes h = utf8_by is_token_sign token_sign bytes (AllPass-from_list_all is_token_sign bytes h)
+IsUtf8-from_signs bytes h =
+    utf8_by is_token_sign token_sign bytes (AllPass-from_list_all is_token_sign bytes h)
 
 -- the method and the target of a head are texts
-pub request_texts : (buf : List ℕ) (headers : List HeaderSpan) (r : RequestSpans) → IsRequestOf buf headers r
+pub request_texts : (buf : List ℕ) (headers : List HeaderSpan) (r : RequestSpans)
+    → IsRequestOf buf headers r
     → IsTrue (is_utf8 (span_bytes buf r.method)) × IsTrue (is_utf8 (span_bytes buf r.path))
 request_texts buf headers r (h, is) = (
   rw is.method (is_utf8-from_IsUtf8 h.method (IsUtf8-from_token h.method is.reads.0.method)),

@@ -12,8 +12,10 @@ stays-tells (Some old) (Some new) stays some = refl
 
 -- What holds of the cells once a keeper was called that changed none holds of those that were told
 -- before, while it tells them.
-pub told-before : (P : Told → Type 0) (before opened behind : Told) → StaysOrBegins before opened → (IsSome behind → IsSome opened) → P opened → WhileTold before behind (P before)
+pub told-before : (P : Told → Type 0) (before opened behind : Told) → StaysOrBegins before opened
+    → (IsSome behind → IsSome opened) → P opened → WhileTold before behind (P before)
 told-before P before opened None stays since holds = tt
 told-before P None opened (Some new) stays since holds = tt
 told-before P (Some old) None (Some new) stays since holds = absurd (false≢true (since refl))
-told-before P (Some old) (Some mid) (Some new) stays since holds = subst (λ (cells : List Cell). P (Some cells)) stays holds
+told-before P (Some old) (Some mid) (Some new) stays since holds =
+    subst (λ (cells : List Cell). P (Some cells)) stays holds

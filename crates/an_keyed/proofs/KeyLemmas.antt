@@ -23,12 +23,17 @@ same_key-true a b h =
     λ i. record { owner = owner i; name = name i }
 
 pub same_key-refl : (a : Key) → same_key a a ≡ true
-same_key-refl a = and_from (same_owner a.owner a.owner) _ (same_owner-refl a.owner) ((bytes_eq-Decides a.name a.name).1 refl)
+same_key-refl a =
+    and_from (same_owner a.owner a.owner) _ (same_owner-refl a.owner)
+    ((bytes_eq-Decides a.name a.name).1 refl)
 
 -- the order of the two makes no difference
 pub other-key : (a b : Key) → same_key a b ≡ false → same_key b a ≡ false
-other-key a b differ = false_from_ne_true _ (λ same. both_ways _ differ (subst (λ k. same_key k b ≡ true) (same_key-true b a same) (same_key-refl b)))
+other-key a b differ =
+    false_from_ne_true _ (λ same. both_ways _ differ
+    (subst (λ k. same_key k b ≡ true) (same_key-true b a same) (same_key-refl b)))
 
 -- keys with two hashes are two keys
 pub same_key-apart : (a b : Key) → key_hash a ≢ key_hash b → same_key a b ≡ false
-same_key-apart a b apart = false_from_ne_true (same_key a b) (λ h. apart (ap key_hash (same_key-true a b h)))
+same_key-apart a b apart =
+    false_from_ne_true (same_key a b) (λ h. apart (ap key_hash (same_key-true a b h)))

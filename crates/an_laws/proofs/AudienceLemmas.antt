@@ -27,23 +27,32 @@ audience_of s key = elim key.owner [
 
 -- what is coherent, as far as first rows go
 abbrev pub CoherentFirst : State → Type 0
-CoherentFirst s = (key : Key) → Chain None (activities_of key s.activities) (audience_of s key) × (has_row s key ≡ has_any (activities_of key s.activities))
+CoherentFirst s =
+    (key : Key)
+    → Chain None (activities_of key s.activities) (audience_of s key)
+    × (has_row s key ≡ has_any (activities_of key s.activities))
 
-module _ {R : Type 0} (has : R → Bool) (f : R → Option Audience) (P : Option Audience → Type 0) where
+module _ {R : Type 0} (has : R → Bool) (f : R → Option Audience)
+    (P : Option Audience → Type 0) where
   -- what holds for all rows holds for the first
-  pub first_of_all : (row : R) (rows : List R) → All P (map f (filter has rows)) → find has rows ≡ Some row → P (f row)
+  pub first_of_all : (row : R) (rows : List R) → All P (map f (filter has rows))
+      → find has rows ≡ Some row → P (f row)
   first_of_all row [] all found = absurd (cc)
   first_of_all row (first ∷ rows) all found = elim (cases_Bool (has first)) [
-    | inl is ↦ subst (λ r. P (f r)) (same_Some first row (sym (cond-true _ _ _ is) ∙ found)) (All-head P (f first) (map f (filter has rows)) (rw is at all))
+    | inl is ↦
+        subst (λ r. P (f r)) (same_Some first row (sym (cond-true _ _ _ is) ∙ found))
+        (All-head P (f first) (map f (filter has rows)) (rw is at all))
     | inr isnt ↦ first_of_all row rows (rw isnt at all) (sym (cond-false _ _ _ isnt) ∙ found)
   ]
 
-  all_of_one : (o : Option R) → ((row : R) → o ≡ Some row → P (f row)) → All P (map f (option_to_list o))
+  all_of_one : (o : Option R) → ((row : R) → o ≡ Some row → P (f row))
+      → All P (map f (option_to_list o))
   all_of_one None each = All-nil P
   all_of_one (Some row) each = All-cons P (f row) [] (each row refl) (All-nil P)
 
   -- and the other way where there is one at most
-  pub all_of_first : (rows : List R) → filter has rows ≡ option_to_list (find has rows) → ((row : R) → find has rows ≡ Some row → P (f row)) → All P (map f (filter has rows))
+  pub all_of_first : (rows : List R) → filter has rows ≡ option_to_list (find has rows)
+      → ((row : R) → find has rows ≡ Some row → P (f row)) → All P (map f (filter has rows))
   all_of_first rows one each = rw one (all_of_one (find has rows) each)
 
 -- ---- from all rows to the first
@@ -60,35 +69,57 @@ module _ (s : State) (key : Key) where
   EndsIn audience = Chain None (activities_of key s.activities) audience
 
 first-manifest : (s : State) (name : List ℕ) (o : Option ManifestState) → manifest_row s name ≡ o
-    → All (EndsIn s (key_at None name)) (audiences_of s (key_at None name)) → has_row s (key_at None name) ≡ has_any (activities_of (key_at None name) s.activities)
+    → All (EndsIn s (key_at None name)) (audiences_of s (key_at None name))
+    → has_row s (key_at None name) ≡ has_any (activities_of (key_at None name) s.activities)
     → EndsIn s (key_at None name) (option_and_then audience_of_manifest (manifest_row s name))
 first-manifest s name None is all rows = rw is (chain-none _ (sym rows ∙ ap is_some is))
-first-manifest s name (Some row) is all rows = rw is (first_of_all (λ r. same_key (manifest_key r) (key_at None name)) audience_of_manifest (EndsIn s (key_at None name)) row s.manifests all (sym (row_of-find manifest_key (key_at None name) s.manifests) ∙ is))
+first-manifest s name (Some row) is all rows =
+    rw is (first_of_all (λ r. same_key (manifest_key r) (key_at None name)) audience_of_manifest
+    (EndsIn s (key_at None name)) row s.manifests all
+    (sym (row_of-find manifest_key (key_at None name) s.manifests) ∙ is))
 
 first-note : (s : State) (owner name : List ℕ) (o : Option NoteState) → note_row s owner name ≡ o
-    → All (EndsIn s (key_at (Some owner) name)) (audiences_of s (key_at (Some owner) name)) → has_row s (key_at (Some owner) name) ≡ has_any (activities_of (key_at (Some owner) name) s.activities)
-    → EndsIn s (key_at (Some owner) name) (option_and_then (audience_of_note s) (note_row s owner name))
+    → All (EndsIn s (key_at (Some owner) name)) (audiences_of s (key_at (Some owner) name))
+    → has_row s (key_at (Some owner) name)
+    ≡ has_any (activities_of (key_at (Some owner) name) s.activities)
+    → EndsIn s (key_at (Some owner) name)
+    (option_and_then (audience_of_note s) (note_row s owner name))
 first-note s owner name None is all rows = rw is (chain-none _ (sym rows ∙ ap is_some is))
-first-note s owner name (Some row) is all rows = rw is (first_of_all (λ r. same_key (note_key r) (key_at (Some owner) name)) (audience_of_note s) (EndsIn s (key_at (Some owner) name)) row s.notes all (sym (row_of-find note_key (key_at (Some owner) name) s.notes) ∙ is))
+first-note s owner name (Some row) is all rows =
+    rw is (first_of_all (λ r. same_key (note_key r) (key_at (Some owner) name))
+    (audience_of_note s) (EndsIn s (key_at (Some owner) name)) row s.notes all
+    (sym (row_of-find note_key (key_at (Some owner) name) s.notes) ∙ is))
 
-first_at : (s : State) (owner : Option (List ℕ)) (name : List ℕ) → All (EndsIn s (key_at owner name)) (audiences_of s (key_at owner name))
-    → has_row s (key_at owner name) ≡ has_any (activities_of (key_at owner name) s.activities) → EndsIn s (key_at owner name) (audience_of s (key_at owner name))
+first_at : (s : State) (owner : Option (List ℕ)) (name : List ℕ)
+    → All (EndsIn s (key_at owner name)) (audiences_of s (key_at owner name))
+    → has_row s (key_at owner name) ≡ has_any (activities_of (key_at owner name) s.activities)
+    → EndsIn s (key_at owner name) (audience_of s (key_at owner name))
 first_at s None name all rows = first-manifest s name (manifest_row s name) refl all rows
-first_at s (Some owner) name all rows = first-note s owner name (note_row s owner name) refl all rows
+first_at s (Some owner) name all rows =
+    first-note s owner name (note_row s owner name) refl all rows
 
 pub coherent-first : (s : State) → Coherent s → CoherentFirst s
-coherent-first s coherent key = (first_at s key.owner key.name (coherent key).0 (coherent key).1, (coherent key).1)
+coherent-first s coherent key =
+    (first_at s key.owner key.name (coherent key).0 (coherent key).1, (coherent key).1)
 
 -- ---- and back, where names are distinct
 
-all_at : (s : State) (owner : Option (List ℕ)) (name : List ℕ) → IsTrue (is_distinct s) → EndsIn s (key_at owner name) (audience_of s (key_at owner name))
+all_at : (s : State) (owner : Option (List ℕ)) (name : List ℕ) → IsTrue (is_distinct s)
+    → EndsIn s (key_at owner name) (audience_of s (key_at owner name))
     → All (EndsIn s (key_at owner name)) (audiences_of s (key_at owner name))
 all_at s None name distinct chain =
-    all_of_first (λ r. same_key (manifest_key r) (key_at None name)) audience_of_manifest (EndsIn s (key_at None name)) s.manifests (one_of manifest_key (key_at None name) s.manifests (manifests-distinct s distinct))
-    (λ row found. let is = row_of-find manifest_key (key_at None name) s.manifests ∙ found in rw is at chain)
+    all_of_first (λ r. same_key (manifest_key r) (key_at None name)) audience_of_manifest
+    (EndsIn s (key_at None name)) s.manifests
+    (one_of manifest_key (key_at None name) s.manifests (manifests-distinct s distinct))
+    (λ row found.
+    let is = row_of-find manifest_key (key_at None name) s.manifests ∙ found in rw is at chain)
 all_at s (Some owner) name distinct chain =
-    all_of_first (λ r. same_key (note_key r) (key_at (Some owner) name)) (audience_of_note s) (EndsIn s (key_at (Some owner) name)) s.notes (one_of note_key (key_at (Some owner) name) s.notes (notes-distinct s distinct))
-    (λ row found. let is = row_of-find note_key (key_at (Some owner) name) s.notes ∙ found in rw is at chain)
+    all_of_first (λ r. same_key (note_key r) (key_at (Some owner) name))
+    (audience_of_note s) (EndsIn s (key_at (Some owner) name)) s.notes
+    (one_of note_key (key_at (Some owner) name) s.notes (notes-distinct s distinct))
+    (λ row found.
+    let is = row_of-find note_key (key_at (Some owner) name) s.notes ∙ found in rw is at chain)
 
-pub all-audiences : (s : State) (key : Key) → IsTrue (is_distinct s) → CoherentFirst s → All (Chain None (activities_of key s.activities)) (audiences_of s key)
+pub all-audiences : (s : State) (key : Key) → IsTrue (is_distinct s) → CoherentFirst s
+    → All (Chain None (activities_of key s.activities)) (audiences_of s key)
 all-audiences s key distinct coherent = all_at s key.owner key.name distinct (coherent key).0

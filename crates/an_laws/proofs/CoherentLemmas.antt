@@ -40,7 +40,9 @@ use Rattle.an_laws.proofs.StepLemmas.{accepted-is}
 -- ---- the empty state
 
 empty_at : (owner : Option (List ℕ)) (name : List ℕ)
-    → All (Chain None (activities_of (key_at owner name) [])) (audiences_of empty (key_at owner name)) × (has_row empty (key_at owner name) ≡ has_any (activities_of (key_at owner name) []))
+    → All (Chain None (activities_of (key_at owner name) []))
+    (audiences_of empty (key_at owner name))
+    × (has_row empty (key_at owner name) ≡ has_any (activities_of (key_at owner name) []))
 empty_at None name = (All-nil _, refl)
 empty_at (Some owner) name = (All-nil _, refl)
 
@@ -55,29 +57,43 @@ record Arrives (s : State) (new : List Activity) (t : State) : Type 0 where
   leads : Leads s new t
   same : t.activities ≡ s.activities
 
-coherent-arrives : (s t : State) (new : List Activity) → CoherentFirst s → Arrives s new t → CoherentFirst (record t { activities = t.activities ++ new })
+coherent-arrives : (s t : State) (new : List Activity) → CoherentFirst s → Arrives s new t
+    → CoherentFirst (record t { activities = t.activities ++ new })
 coherent-arrives s t new coherent arrives =
-    subst (λ activities. CoherentFirst (record t { activities = activities ++ new })) (sym arrives.same) (coherent-behind s t new coherent arrives.leads)
+    subst (λ activities. CoherentFirst (record t { activities = activities ++ new }))
+    (sym arrives.same) (coherent-behind s t new coherent arrives.leads)
 
 -- readers have no activities, and are no object's rows
 arrives-reader : (s : State) (row : ReaderState) → Arrives s [] (with_row s (kept.Reader row))
-arrives-reader s row = record { leads = leads-none s (with_row s (kept.Reader row)) (λ key. (refl, refl)); same = refl }
+arrives-reader s row = record {
+  leads = leads-none s (with_row s (kept.Reader row)) (λ key. (refl, refl));
+  same = refl;
+}
 
 module _ (s : State) (who : Identity) (at : ℤ) where
   abbrev ArrivesBy : Asked → Type 0
-  ArrivesBy asked = Arrives s (effect_of s who at asked).activities (with_rows (effect_of s who at asked).rows s)
+  ArrivesBy asked =
+      Arrives s (effect_of s who at asked).activities (with_rows (effect_of s who at asked).rows s)
 
   -- a manifest that is put has the group of the one that it replaces
-  stay-put : (row : ManifestState) (found : Option ManifestState) → manifest_row s row.name ≡ found → passes (λ other. not (same_group other.group row.group)) found ≡ false
+  stay-put : (row : ManifestState) (found : Option ManifestState) → manifest_row s row.name ≡ found
+      → passes (λ other. not (same_group other.group row.group)) found ≡ false
       → IsTrue (list_all (stands_on_live s) s.notes) → NotesStay s row
   stay-put row None is fixed stand = stay-new s row is stand
-  stay-put row (Some old) is fixed stand = stay-kept s row (ap group_in is ∙ ap (λ group. Some group) (same_group-equal old.group row.group (not-false _ fixed)))
+  stay-put row (Some old) is fixed stand =
+      stay-kept s row (ap group_in is
+      ∙ ap (λ group. Some group) (same_group-equal old.group row.group (not-false _ fixed)))
 
   arrives-put_manifest : (m : ManifestPut) → first_of (refusals_behind s (put.Manifest m)) ≡ None
       → IsTrue (list_all (stands_on_live s) s.notes) → ArrivesBy (put.Manifest m)
   arrives-put_manifest m none stand =
       let row = put_manifest at (manifest_row s m.name) m in
-      record { leads = leads-manifest s row who at (audience_of_manifest row) refl (stay-put row (manifest_row s m.name) refl (manifest-fixed s m none) stand); same = refl }
+      record {
+        leads =
+            leads-manifest s row who at (audience_of_manifest row) refl
+            (stay-put row (manifest_row s m.name) refl (manifest-fixed s m none) stand);
+        same = refl;
+      }
 
   arrives-put_note : (n : NotePut) → ArrivesBy (put.Note n)
   arrives-put_note n =
@@ -85,20 +101,30 @@ module _ (s : State) (who : Identity) (at : ℤ) where
       record { leads = leads-note s row who at (audience_of_note s row) refl; same = refl }
 
   -- the tombstone of an annotation is read by nobody
-  arrives-drop_note : (owner name : List ℕ) (version : ℕ) → ArrivesBy (Deletion (object.Note owner name) version)
-  arrives-drop_note owner name version = record { leads = leads-note s (note_tombstone owner name version) who at None refl; same = refl }
+  arrives-drop_note : (owner name : List ℕ) (version : ℕ)
+      → ArrivesBy (Deletion (object.Note owner name) version)
+  arrives-drop_note owner name version = record {
+    leads = leads-note s (note_tombstone owner name version) who at None refl;
+    same = refl;
+  }
 
   -- the tombstone of a manifest is put behind those of its annotations
-  arrives-buried : (name : List ℕ) (version : ℕ) (old : ManifestState) → manifest_row s name ≡ Some old → IsTrue (is_distinct s) → ArrivesBy (Deletion (object.Manifest name) version)
+  arrives-buried : (name : List ℕ) (version : ℕ) (old : ManifestState)
+      → manifest_row s name ≡ Some old → IsTrue (is_distinct s)
+      → ArrivesBy (Deletion (object.Manifest name) version)
   arrives-buried name version old is distinct =
       let left = left_state s name in
       let row = manifest_tombstone name version old in
       let buried = leads-left s who at name distinct in
       let last = leads-manifest left row who at None refl (stay-kept left row (ap group_in is)) in
-      subst (λ t. Arrives s (effect_of s who at (Deletion (object.Manifest name) version)).activities t) (sym (with_rows-tombstone s who at name version old is)) (record { leads = leads-both buried last; same = refl })
+      subst
+      (λ t. Arrives s (effect_of s who at (Deletion (object.Manifest name) version)).activities t)
+      (sym (with_rows-tombstone s who at name version old is))
+      (record { leads = leads-both buried last; same = refl })
 
   -- what is asked for leads to the rows that it puts
-  arrives : (asked : Asked) → first_of (refusals_behind s asked) ≡ None → is_next s asked ≡ true → IsTrue (is_sound s) → ArrivesBy asked
+  arrives : (asked : Asked) → first_of (refusals_behind s asked) ≡ None → is_next s asked ≡ true
+      → IsTrue (is_sound s) → ArrivesBy asked
   arrives (put.Reader r) none next sound = arrives-reader s _
   arrives (put.Manifest m) none next sound = arrives-put_manifest m none (sound-parts s sound).stand
   arrives (put.Note n) none next sound = arrives-put_note n
@@ -106,10 +132,12 @@ module _ (s : State) (who : Identity) (at : ℤ) where
   arrives (Deletion (object.Manifest name) version) none next sound =
       let found = drop-found s name version next in
       arrives-buried name version found.0 found.1 (sound-parts s sound).distinct
-  arrives (Deletion (object.Note owner name) version) none next sound = arrives-drop_note owner name version
+  arrives (Deletion (object.Note owner name) version) none next sound =
+      arrives-drop_note owner name version
 
 -- a write that is accepted keeps the first rows coherent
-first-after : (s : State) (write : Write) → Accepts s write → IsTrue (is_sound s) → CoherentFirst s → CoherentFirst (after s write.entry)
+first-after : (s : State) (write : Write) → Accepts s write → IsTrue (is_sound s) → CoherentFirst s
+    → CoherentFirst (after s write.entry)
 first-after s write accepts sound coherent =
     let is = accepted-is s write accepts in
     let at = moment_of_write s write.moment in
@@ -119,30 +147,46 @@ first-after s write accepts sound coherent =
     (coherent-arrives s (with_rows effect.rows s) effect.activities coherent behind)
 
 -- and all rows, whose names stay distinct; in the two parts that the law's clause has there
-pub chains-after : (s : State) (write : Write) (key : Key) → Accepts s write → IsTrue (is_sound s) → Coherent s
-    → All (Chain None (activities_of key (after s write.entry).activities)) (audiences_of (after s write.entry) key)
+pub chains-after : (s : State) (write : Write) (key : Key) → Accepts s write → IsTrue (is_sound s)
+    → Coherent s
+    → All (Chain None (activities_of key (after s write.entry).activities))
+    (audiences_of (after s write.entry) key)
 chains-after s write key accepts sound coherent =
-    all-audiences (after s write.entry) key (sound-parts (after s write.entry) (sound-after s write accepts sound)).distinct (first-after s write accepts sound (coherent-first s coherent))
+    all-audiences (after s write.entry) key
+    (sound-parts (after s write.entry) (sound-after s write accepts sound)).distinct
+    (first-after s write accepts sound (coherent-first s coherent))
 
-pub rows-after : (s : State) (write : Write) (key : Key) → Accepts s write → IsTrue (is_sound s) → Coherent s
-    → has_row (after s write.entry) key ≡ has_any (activities_of key (after s write.entry).activities)
-rows-after s write key accepts sound coherent = (first-after s write accepts sound (coherent-first s coherent) key).1
+pub rows-after : (s : State) (write : Write) (key : Key) → Accepts s write → IsTrue (is_sound s)
+    → Coherent s
+    → has_row (after s write.entry) key
+    ≡ has_any (activities_of key (after s write.entry).activities)
+rows-after s write key accepts sound coherent =
+    (first-after s write accepts sound (coherent-first s coherent) key).1
 
-pub coherent-after : (s : State) (write : Write) → Accepts s write → IsTrue (is_sound s) → Coherent s → Coherent (after s write.entry)
-coherent-after s write accepts sound coherent key = (chains-after s write key accepts sound coherent, rows-after s write key accepts sound coherent)
+pub coherent-after : (s : State) (write : Write) → Accepts s write → IsTrue (is_sound s)
+    → Coherent s → Coherent (after s write.entry)
+coherent-after s write accepts sound coherent key =
+    (chains-after s write key accepts sound coherent, rows-after s write key accepts sound coherent)
 
 -- so each legal history leads to a coherent state
-pub histories-coherent : (s : State) (writes : List Write) → Legal s writes → IsTrue (is_sound s) → Coherent s → Coherent (state_of s writes)
+pub histories-coherent : (s : State) (writes : List Write) → Legal s writes → IsTrue (is_sound s)
+    → Coherent s → Coherent (state_of s writes)
 histories-coherent s [] legal sound coherent = coherent
 histories-coherent s (write ∷ writes) legal sound coherent =
-    histories-coherent (after s write.entry) writes legal.1 (sound-after s write legal.0 sound) (coherent-after s write legal.0 sound coherent)
+    histories-coherent (after s write.entry) writes legal.1 (sound-after s write legal.0 sound)
+    (coherent-after s write legal.0 sound coherent)
 
-pub chains-along : (s : State) (writes : List Write) (key : Key) → Legal s writes → IsTrue (is_sound s) → Coherent s
-    → All (Chain None (activities_of key (state_of s writes).activities)) (audiences_of (state_of s writes) key)
-chains-along s writes key legal sound coherent = (histories-coherent s writes legal sound coherent key).0
+pub chains-along : (s : State) (writes : List Write) (key : Key) → Legal s writes
+    → IsTrue (is_sound s) → Coherent s
+    → All (Chain None (activities_of key (state_of s writes).activities))
+    (audiences_of (state_of s writes) key)
+chains-along s writes key legal sound coherent =
+    (histories-coherent s writes legal sound coherent key).0
 
-pub rows-along : (s : State) (writes : List Write) (key : Key) → Legal s writes → IsTrue (is_sound s) → Coherent s
+pub rows-along : (s : State) (writes : List Write) (key : Key) → Legal s writes
+    → IsTrue (is_sound s) → Coherent s
     → has_row (state_of s writes) key ≡ has_any (activities_of key (state_of s writes).activities)
-rows-along s writes key legal sound coherent = (histories-coherent s writes legal sound coherent key).1
+rows-along s writes key legal sound coherent =
+    (histories-coherent s writes legal sound coherent key).1
 
 pub ruleset coherence = (empty-coherent, chains-after, rows-after, chains-along, rows-along)

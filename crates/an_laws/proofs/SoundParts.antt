@@ -22,9 +22,19 @@ sound-parts s sound =
     let three = and_parts _ _ four.0 in
     let two = and_parts _ _ three.0 in
     let one = and_parts _ _ two.0 in
-    record { readers = one.0; distinct = one.1; agree = two.1; tokens = three.1; stand = four.1; rise = five.1 }
+    record {
+      readers = one.0;
+      distinct = one.1;
+      agree = two.1;
+      tokens = three.1;
+      stand = four.1;
+      rise = five.1;
+    }
 
 -- and one that passes each is sound
 pub sound-from : (s : State) → Sound s → is_sound s ≡ true
 unfolding is_sound
-sound-from s sound = and_from _ _ (and_from _ _ (and_from _ _ (and_from _ _ (and_from _ _ sound.readers sound.distinct) sound.agree) sound.tokens) sound.stand) sound.rise
+sound-from s sound =
+    and_from _ _ (and_from _ _
+    (and_from _ _ (and_from _ _ (and_from _ _ sound.readers sound.distinct) sound.agree)
+    sound.tokens) sound.stand) sound.rise

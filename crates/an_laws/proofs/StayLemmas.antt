@@ -18,8 +18,10 @@ use Rattle.an_laws.proofs.LeadLemmas.{key_at, with_manifest, manifest_found, Not
 abbrev pub group_in : Option ManifestState → Option Group
 group_in found = option_map (λ manifest. manifest.group) found
 
-below-group : (row : NoteState) (live : LiveNote) (found other : Option ManifestState) → group_in found ≡ group_in other
-    → option_map (λ manifest. note_audience manifest row live) found ≡ option_map (λ manifest. note_audience manifest row live) other
+below-group : (row : NoteState) (live : LiveNote) (found other : Option ManifestState)
+    → group_in found ≡ group_in other
+    → option_map (λ manifest. note_audience manifest row live) found
+    ≡ option_map (λ manifest. note_audience manifest row live) other
 below-group row live None None same = refl
 below-group row live None (Some other) same = absurd (cc)
 below-group row live (Some found) None same = absurd (cc)
@@ -31,27 +33,41 @@ module _ (s t : State) where
   abbrev SameGroup : LiveNote → Type 0
   SameGroup live = group_in (manifest_row s live.manifest) ≡ group_in (manifest_row t live.manifest)
 
-  live_stays : (row : NoteState) (live : Option LiveNote) → ((its : LiveNote) → live ≡ Some its → SameGroup its)
-      → option_and_then (λ its. option_map (λ manifest. note_audience manifest row its) (manifest_row s its.manifest)) live
-      ≡ option_and_then (λ its. option_map (λ manifest. note_audience manifest row its) (manifest_row t its.manifest)) live
+  live_stays : (row : NoteState) (live : Option LiveNote)
+      → ((its : LiveNote) → live ≡ Some its → SameGroup its)
+      → option_and_then
+      (λ its. option_map (λ manifest. note_audience manifest row its) (manifest_row s its.manifest))
+      live
+      ≡ option_and_then
+      (λ its. option_map (λ manifest. note_audience manifest row its) (manifest_row t its.manifest))
+      live
   live_stays row None same = refl
-  live_stays row (Some its) same = below-group row its (manifest_row s its.manifest) (manifest_row t its.manifest) (same its refl)
+  live_stays row (Some its) same =
+      below-group row its (manifest_row s its.manifest) (manifest_row t its.manifest)
+      (same its refl)
 
-  found_stays : (found : Option NoteState) → ((row : NoteState) (its : LiveNote) → found ≡ Some row → row.live ≡ Some its → SameGroup its)
+  found_stays : (found : Option NoteState)
+      → ((row : NoteState) (its : LiveNote) → found ≡ Some row → row.live ≡ Some its
+      → SameGroup its)
       → option_and_then (audience_of_note s) found ≡ option_and_then (audience_of_note t) found
   found_stays None same = refl
   found_stays (Some row) same = live_stays row row.live (λ its is. same row its refl is)
 
 -- ---- annotations stand on manifests that have a row
 
-stands_on-live : (s : State) (row : NoteState) (live : LiveNote) → row.live ≡ Some live → stands_on_live s row ≡ true → is_live_manifest s live.manifest ≡ true
+stands_on-live : (s : State) (row : NoteState) (live : LiveNote) → row.live ≡ Some live
+    → stands_on_live s row ≡ true → is_live_manifest s live.manifest ≡ true
 stands_on-live s row live is stands = rw is at stands
 
-stands_on-row : (s : State) (owner name : List ℕ) (row : NoteState) (live : LiveNote) → IsTrue (list_all (stands_on_live s) s.notes)
-    → note_row s owner name ≡ Some row → row.live ≡ Some live → is_some (manifest_row s live.manifest) ≡ true
+stands_on-row : (s : State) (owner name : List ℕ) (row : NoteState) (live : LiveNote)
+    → IsTrue (list_all (stands_on_live s) s.notes)
+    → note_row s owner name ≡ Some row → row.live ≡ Some live
+    → is_some (manifest_row s live.manifest) ≡ true
 stands_on-row s owner name row live stand found is =
-    let stands = found-passes note_key (stands_on_live s) (key_at (Some owner) name) row s.notes stand found in
-    ap is_some (passes-some (λ manifest. is_some manifest.live) (manifest_row s live.manifest) (stands_on-live s row live is stands)).1
+    let stands =
+    found-passes note_key (stands_on_live s) (key_at (Some owner) name) row s.notes stand found in
+    ap is_some (passes-some (λ manifest. is_some manifest.live) (manifest_row s live.manifest)
+    (stands_on-live s row live is stands)).1
 
 -- ---- a manifest that is put
 
@@ -60,11 +76,13 @@ module _ (s : State) (row : ManifestState) where
       → group_in (manifest_row s name) ≡ group_in (manifest_row (with_manifest s row) name)
   other_group name isnt = ap group_in (sym (manifest_found s row name ∙ cond-false _ _ _ isnt))
 
-  same_name : (name : List ℕ) → same_key (manifest_key row) (key_at None name) ≡ true → row.name ≡ name
+  same_name : (name : List ℕ) → same_key (manifest_key row) (key_at None name) ≡ true
+      → row.name ≡ name
   same_name name is = ap (λ key. key.name) (same_key-true (manifest_key row) (key_at None name) is)
 
   -- in place of one of its group
-  same_group-kept : group_in (manifest_row s row.name) ≡ Some row.group → (name : List ℕ) → group_in (manifest_row s name) ≡ group_in (manifest_row (with_manifest s row) name)
+  same_group-kept : group_in (manifest_row s row.name) ≡ Some row.group → (name : List ℕ)
+      → group_in (manifest_row s name) ≡ group_in (manifest_row (with_manifest s row) name)
   same_group-kept same name = elim (cases_Bool (same_key (manifest_key row) (key_at None name))) [
     | inl is ↦
         subst (λ its. group_in (manifest_row s its) ≡ Some row.group) (same_name name is) same
@@ -73,17 +91,25 @@ module _ (s : State) (row : ManifestState) where
   ]
 
   -- where there was none, each that was there stays as it was
-  same_group-new : manifest_row s row.name ≡ None → (name : List ℕ) → is_some (manifest_row s name) ≡ true
+  same_group-new : manifest_row s row.name ≡ None → (name : List ℕ)
+      → is_some (manifest_row s name) ≡ true
       → group_in (manifest_row s name) ≡ group_in (manifest_row (with_manifest s row) name)
-  same_group-new none name there = elim (cases_Bool (same_key (manifest_key row) (key_at None name))) [
-    | inl is ↦ absurd (both_ways _ (ap is_some none) (subst (λ its. is_some (manifest_row s its) ≡ true) (sym (same_name name is)) there))
-    | inr isnt ↦ other_group name isnt
-  ]
+  same_group-new none name there =
+      elim (cases_Bool (same_key (manifest_key row) (key_at None name))) [
+        | inl is ↦
+            absurd (both_ways _ (ap is_some none)
+            (subst (λ its. is_some (manifest_row s its) ≡ true) (sym (same_name name is)) there))
+        | inr isnt ↦ other_group name isnt
+      ]
 
   pub stay-kept : group_in (manifest_row s row.name) ≡ Some row.group → NotesStay s row
-  stay-kept same owner name = found_stays s (with_manifest s row) (note_row s owner name) (λ note its found is. same_group-kept same its.manifest)
+  stay-kept same owner name =
+      found_stays s (with_manifest s row) (note_row s owner name)
+      (λ note its found is. same_group-kept same its.manifest)
 
-  pub stay-new : manifest_row s row.name ≡ None → IsTrue (list_all (stands_on_live s) s.notes) → NotesStay s row
+  pub stay-new : manifest_row s row.name ≡ None → IsTrue (list_all (stands_on_live s) s.notes)
+      → NotesStay s row
   stay-new none stand owner name =
       found_stays s (with_manifest s row) (note_row s owner name)
-      (λ note its found is. same_group-new none its.manifest (stands_on-row s owner name note its stand found is))
+      (λ note its found is.
+      same_group-new none its.manifest (stands_on-row s owner name note its stand found is))

@@ -13,13 +13,17 @@ use Rattle.an_lines.specs.declared.asked.Asked.{Asked}
 use Rattle.an_lines.specs.declared.asked.Asked.TheVariants as asked
 
 module _ (site : Site) (s t : State) where
-  asked_alike : (found : Result Asked Code) → ReaderSeesAlike s t found → asked_turn site s found ≡ asked_turn site t found
+  asked_alike : (found : Result Asked Code) → ReaderSeesAlike s t found
+      → asked_turn site s found ≡ asked_turn site t found
   asked_alike (Ok asked.Nothing) agree = refl
-  asked_alike (Ok (asked.Read by read)) agree = ap (λ view. prints (reply_line (answer_of site view no_preference read))) agree
-  asked_alike (Ok (asked.Unread by methods refusal)) agree = ap (λ view. prints (reply_line (answer.query_answer view methods refusal))) agree
+  asked_alike (Ok (asked.Read by read)) agree =
+      ap (λ view. prints (reply_line (answer_of site view no_preference read))) agree
+  asked_alike (Ok (asked.Unread by methods refusal)) agree =
+      ap (λ view. prints (reply_line (answer.query_answer view methods refusal))) agree
   asked_alike (Ok (asked.Write moment by command)) agree = absurd agree
   asked_alike (Err refusal) agree = refl
 
-pub line_alike : (site : Site) (s t : State) (line : List ℕ) → ReaderSeesAlike s t (asked_of line) → turn_of site s line ≡ turn_of site t line
+pub line_alike : (site : Site) (s t : State) (line : List ℕ) → ReaderSeesAlike s t (asked_of line)
+    → turn_of site s line ≡ turn_of site t line
 unfolding turn_of
 line_alike site s t line agree = asked_alike site s t (asked_of line) agree

@@ -36,8 +36,8 @@ words_to moment by method target tree =
     if length target == 0 then None
     else Some (record { moment = moment; by = by; method = method; target = target; tree = tree })
 
--- behind the method: a put has a target and a text, a read and a deletion a target alone, and a line
--- does nothing else
+-- behind the method: a put has a target and a text, a read and a deletion a target alone, and a
+-- line does nothing else
 abbrev pub words_for : ℤ → List ℕ → Method → List ℕ → Option Words
 words_for moment by Get rest =
     if is_none (cut_at 32 rest) then words_to moment by Get rest [] else None

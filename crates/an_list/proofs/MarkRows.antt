@@ -15,10 +15,12 @@ use Rattle.an_list.specs.Marks.{highlights_of}
 
 herons : Data
 herons =
-    object (member (codes "bodyValue") (string (codes "heron heron heron heron heron heron heron heron heron heron heron")) no_members)
+    object (member (codes "bodyValue")
+    (string (codes "heron heron heron heron heron heron heron heron heron heron heron")) no_members)
 
 marks_of : List ℕ → List Data
-marks_of term = highlights_of herons (codes "http://a.example/n") (term ∷ []) (codes "http://a.example/p") 5
+marks_of term =
+    highlights_of herons (codes "http://a.example/n") (term ∷ []) (codes "http://a.example/p") 5
 
 row-numbers : map (text_in (codes "id")) (marks_of (codes "heron")) ≡
     Some (codes "http://a.example/p#match-5") ∷
@@ -32,25 +34,31 @@ row-numbers : map (text_in (codes "id")) (marks_of (codes "heron")) ≡
     Some (codes "http://a.example/p#match-13") ∷
     Some (codes "http://a.example/p#match-14") ∷
     []
-unfolding herons marks_of highlights_of note_occurrences texts_of occurrences_of placed term_of caseless unicode_normalization unicode_segmentation digits
+unfolding herons marks_of highlights_of note_occurrences texts_of occurrences_of placed term_of
+    caseless unicode_normalization unicode_segmentation digits
 row-numbers = refl
 
 row-first : option_map compact_text (slice_get (marks_of (codes "heron")) 0) ≡ Some (
     codes "{\"id\":\"http://a.example/p#match-5\",\"motivation\":\"highlighting\"," ++ (
     codes "\"target\":{\"selector\":[{\"exact\":\"heron\",\"prefix\":\"\"," ++ (
     codes "\"suffix\":\" heron heron her\",\"type\":\"TextQuoteSelector\"}]," ++ (
-    codes "\"source\":\"http://a.example/n\",\"type\":\"SpecificResource\"},\"type\":\"Annotation\"}"))))
-unfolding herons marks_of highlights_of note_occurrences texts_of occurrences_of placed term_of caseless unicode_normalization unicode_segmentation escape_byte digits
+    codes
+    "\"source\":\"http://a.example/n\",\"type\":\"SpecificResource\"},\"type\":\"Annotation\"}"))))
+unfolding herons marks_of highlights_of note_occurrences texts_of occurrences_of placed term_of
+    caseless unicode_normalization unicode_segmentation escape_byte digits
 row-first = refl
 
 row-tenth : option_map compact_text (slice_get (marks_of (codes "heron")) 9) ≡ Some (
     codes "{\"id\":\"http://a.example/p#match-14\",\"motivation\":\"highlighting\"," ++ (
     codes "\"target\":{\"selector\":[{\"exact\":\"heron\",\"prefix\":\"ron heron heron \"," ++ (
     codes "\"suffix\":\" heron\",\"type\":\"TextQuoteSelector\"}]," ++ (
-    codes "\"source\":\"http://a.example/n\",\"type\":\"SpecificResource\"},\"type\":\"Annotation\"}"))))
-unfolding herons marks_of highlights_of note_occurrences texts_of occurrences_of placed term_of caseless unicode_normalization unicode_segmentation escape_byte digits
+    codes
+    "\"source\":\"http://a.example/n\",\"type\":\"SpecificResource\"},\"type\":\"Annotation\"}"))))
+unfolding herons marks_of highlights_of note_occurrences texts_of occurrences_of placed term_of
+    caseless unicode_normalization unicode_segmentation escape_byte digits
 row-tenth = refl
 
 row-swan : marks_of (codes "swan") ≡ []
-unfolding herons marks_of highlights_of note_occurrences texts_of occurrences_of placed term_of caseless unicode_normalization unicode_segmentation
+unfolding herons marks_of highlights_of note_occurrences texts_of occurrences_of placed term_of
+    caseless unicode_normalization unicode_segmentation
 row-swan = refl

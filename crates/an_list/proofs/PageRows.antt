@@ -70,7 +70,8 @@ row-last_of_three = refl
 one : List ℕ → Items
 one id = item (object (member (codes "id") (string id) no_members)) no_items
 
-row-marked : compact_text (list_page (codes "c") birds 1 1 3 (one (codes "a1")) (one (codes "m1")) (codes "foo" ∷ [])) ≡ (
+row-marked : compact_text
+    (list_page (codes "c") birds 1 1 3 (one (codes "a1")) (one (codes "m1")) (codes "foo" ∷ [])) ≡ (
     codes "{\"@context\":\"c\",\"annotations\":[{\"id\":\"http://a.example/p/1?page=1#match\"," ++ (
     codes "\"items\":[{\"id\":\"m1\"}],\"type\":\"AnnotationPage\"}]," ++ (
     codes "\"id\":\"http://a.example/p/1?page=1\",\"ignored\":[\"foo\"]," ++ (

@@ -7,7 +7,8 @@ abbrev pub Takes : {A E : Type 0} → E → Result A E → ℕ → ℕ → ℕ �
 Takes memory result old new cost =
     MatchResult result (λ _. new ≡ old + cost) (λ e. ¬ (e ≡ memory) → new ≡ old + cost)
 
--- of a list each item is fetched that stands on the page of this number; past the last page none does
+-- of a list each item is fetched that stands on the page of this number; past the last page none
+-- does
 abbrev pub page_cost : {A : Type 0} → ℕ → ℕ → List A → ℕ
 page_cost page size found =
     if lacks_page (page_count (length found) size) page then 0

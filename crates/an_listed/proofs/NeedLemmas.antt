@@ -18,7 +18,8 @@ append_nil [] = refl
 append_nil (x ∷ xs) = ap (λ (l : List _). x ∷ l) (append_nil xs)
 
 -- the first of the parts comes at least once
-pub first-times : (part : Slot × ℕ) (rest all : List (Slot × ℕ)) → all ≡ part ∷ rest → 1 ≤ times part.0 all
+pub first-times : (part : Slot × ℕ) (rest all : List (Slot × ℕ)) → all ≡ part ∷ rest
+    → 1 ≤ times part.0 all
 first-times part rest all next =
     let e = ap (times part.0) next ∙ times-cons part.0 part rest in
     step (same_slot part.0 part.0) (times part.0 rest) (times part.0 all) (same_slot-refl part.0) e
@@ -28,7 +29,9 @@ first-times part rest all next =
     step false n w s e = cc
 
 -- a part that was counted is no longer to come
-pub counted-next : (counts new : Slot → ℕ) (part : Slot × ℕ) (rest all : List (Slot × ℕ)) → all ≡ part ∷ rest → new ≡ at part.0 (λ m. m + 1) counts → (slot : Slot) → new slot + times slot rest ≡ counts slot + times slot all
+pub counted-next : (counts new : Slot → ℕ) (part : Slot × ℕ) (rest all : List (Slot × ℕ))
+    → all ≡ part ∷ rest → new ≡ at part.0 (λ m. m + 1) counts → (slot : Slot)
+    → new slot + times slot rest ≡ counts slot + times slot all
 counted-next counts new part rest all next is slot =
     let e = ap (times slot) next ∙ times-cons slot part rest in
     let n = ap (λ (f : Slot → ℕ). f slot) is in
@@ -40,17 +43,25 @@ counted-next counts new part rest all next is slot =
 
 -- ---- the rows, one after the other
 
-pub rows-next : (p : Filed → List (Slot × ℕ)) (rows : List Filed) (i : ℕ) (row : Filed) → i < length rows → row ≡ get_or rows i row → (slot : Slot) → times slot (flat_map p (take (i + 1) rows)) ≡ times slot (flat_map p (take i rows)) + times slot (p row)
+pub rows-next : (p : Filed → List (Slot × ℕ)) (rows : List Filed) (i : ℕ) (row : Filed)
+    → i < length rows → row ≡ get_or rows i row → (slot : Slot)
+    → times slot (flat_map p (take (i + 1) rows))
+    ≡ times slot (flat_map p (take i rows)) + times slot (p row)
 rows-next p rows i row h is slot =
     ap (λ (rs : List Filed). times slot (flat_map p rs)) (take_more rows i row h)
     ∙ ap (times slot) (flat_map-append p (take i rows) (get_or rows i row ∷ []))
     ∙ times-append slot (flat_map p (take i rows)) (flat_map p (get_or rows i row ∷ []))
-    ∙ ap (λ (n : ℕ). times slot (flat_map p (take i rows)) + n) (ap (times slot) (flat_map-cons p (get_or rows i row) [] ∙ append_nil (p (get_or rows i row))) ∙ ap (λ (r : Filed). times slot (p r)) (sym is))
+    ∙ ap (λ (n : ℕ). times slot (flat_map p (take i rows)) + n)
+    (ap (times slot) (flat_map-cons p (get_or rows i row) [] ∙ append_nil (p (get_or rows i row)))
+    ∙ ap (λ (r : Filed). times slot (p r)) (sym is))
 
-pub times-rows : (p : Filed → List (Slot × ℕ)) → ((row : Filed) (slot : Slot) → times slot (p row) ≤ 1) → (rows : List Filed) (slot : Slot) → times slot (flat_map p rows) ≤ length rows
+pub times-rows : (p : Filed → List (Slot × ℕ))
+    → ((row : Filed) (slot : Slot) → times slot (p row) ≤ 1) → (rows : List Filed) (slot : Slot)
+    → times slot (flat_map p rows) ≤ length rows
 times-rows p once [] slot = omega arith
 times-rows p once (row ∷ rows) slot =
-    let e = ap (times slot) (flat_map-cons p row rows) ∙ times-append slot (p row) (flat_map p rows) in
+    let e =
+    ap (times slot) (flat_map-cons p row rows) ∙ times-append slot (p row) (flat_map p rows) in
     let one = once row slot in
     let rest = times-rows p once rows slot in
     omega (arith, e, one, rest)
@@ -61,7 +72,9 @@ capped-small : (n : ℕ) → n < 2 ^ 64 → capped n ≡ n
 unfolding capped
 capped-small n h = omega (arith, h)
 
-enough-of : (wanted : Option Lists) (ps : List (Slot × ℕ)) (lists : Lists) → ((slot : Slot) → times slot ps ≤ wanted_at wanted slot) → HasWanted wanted ps lists → IsEnough ps lists
+enough-of : (wanted : Option Lists) (ps : List (Slot × ℕ)) (lists : Lists)
+    → ((slot : Slot) → times slot ps ≤ wanted_at wanted slot) → HasWanted wanted ps lists
+    → IsEnough ps lists
 enough-of wanted ps lists most room slot =
     by (is_posted slot ps) refl
   where
@@ -70,11 +83,18 @@ enough-of wanted ps lists most room slot =
     by false is = let z = times-none slot ps is in omega (arith, z)
 
 -- of fewer than two rows, in whose parts each slot is once
-pub enough-one : (p : Filed → List (Slot × ℕ)) → ((row : Filed) (slot : Slot) → times slot (p row) ≤ 1) → (rows : List Filed) (lists : Lists) → length rows < 2 → HasWanted None (flat_map p rows) lists → IsEnough (flat_map p rows) lists
-enough-one p once rows lists few room = enough-of None (flat_map p rows) lists (λ slot. let n = times-rows p once rows slot in omega (arith, n, few)) room
+pub enough-one : (p : Filed → List (Slot × ℕ))
+    → ((row : Filed) (slot : Slot) → times slot (p row) ≤ 1) → (rows : List Filed) (lists : Lists)
+    → length rows < 2 → HasWanted None (flat_map p rows) lists → IsEnough (flat_map p rows) lists
+enough-one p once rows lists few room =
+    enough-of None (flat_map p rows) lists
+    (λ slot. let n = times-rows p once rows slot in omega (arith, n, few)) room
 
 -- of rows that were counted
-pub enough-counted : (ps : List (Slot × ℕ)) (counts : Lists) (lists : Lists) → ((slot : Slot) → count_in counts slot < 2 ^ 64) → ((slot : Slot) → count_in counts slot ≡ times slot ps) → HasWanted (Some counts) ps lists → IsEnough ps lists
+pub enough-counted : (ps : List (Slot × ℕ)) (counts : Lists) (lists : Lists)
+    → ((slot : Slot) → count_in counts slot < 2 ^ 64)
+    → ((slot : Slot) → count_in counts slot ≡ times slot ps) → HasWanted (Some counts) ps lists
+    → IsEnough ps lists
 enough-counted ps counts lists small count room = enough-of (Some counts) ps lists (λ slot.
     let c = count slot in
     let s = capped-small (count_in counts slot) (small slot) in

@@ -33,26 +33,35 @@ module _ (m : List ℕ) (c : ℕ) (terms : List (List ℕ)) (slot : Slot) where
   shut true false d n h = refl
   shut false b d n h = refl
 
-  none-times : (u : List ℕ) (us : List (List ℕ)) → slot.term ≡ u → Above u us → times slot (parts m c (told us)) ≡ 0
+  none-times : (u : List ℕ) (us : List (List ℕ)) → slot.term ≡ u → Above u us
+      → times slot (parts m c (told us)) ≡ 0
   none-times u [] is above = refl
   none-times u (v ∷ us) is above =
-      let apart : bytes_eq slot.term v ≡ false = ap (λ (x : List ℕ). bytes_eq x v) is ∙ bytes_eq-turned u v ∙ before-other u v above.0 in
+      let apart : bytes_eq slot.term v ≡ false =
+      ap (λ (x : List ℕ). bytes_eq x v) is ∙ bytes_eq-turned u v ∙ before-other u v above.0 in
       let e = times-cons slot (slot_of m v c, (total_of terms v).total) (parts m c (told us)) in
-      let first = shut (bytes_eq slot.manifest m) (bytes_eq slot.term v) (eqb slot.class c) 1 apart in
+      let first =
+      shut (bytes_eq slot.manifest m) (bytes_eq slot.term v) (eqb slot.class c) 1 apart in
       let rest = none-times u us is above.1 in
       omega (arith, e, first, rest)
 
-  none-parts : (u : List ℕ) (us : List (List ℕ)) → slot.term ≡ u → Above u us → parts_at (parts m c (told us)) slot ≡ 0
+  none-parts : (u : List ℕ) (us : List (List ℕ)) → slot.term ≡ u → Above u us
+      → parts_at (parts m c (told us)) slot ≡ 0
   none-parts u [] is above = refl
   none-parts u (v ∷ us) is above =
-      let apart : bytes_eq slot.term v ≡ false = ap (λ (x : List ℕ). bytes_eq x v) is ∙ bytes_eq-turned u v ∙ before-other u v above.0 in
-      let e = sum_by-cons (part_at slot) (slot_of m v c, (total_of terms v).total) (parts m c (told us)) in
-      let first = shut (bytes_eq slot.manifest m) (bytes_eq slot.term v) (eqb slot.class c) (total_of terms v).total apart in
+      let apart : bytes_eq slot.term v ≡ false =
+      ap (λ (x : List ℕ). bytes_eq x v) is ∙ bytes_eq-turned u v ∙ before-other u v above.0 in
+      let e =
+      sum_by-cons (part_at slot) (slot_of m v c, (total_of terms v).total) (parts m c (told us)) in
+      let first =
+      shut (bytes_eq slot.manifest m) (bytes_eq slot.term v) (eqb slot.class c)
+      (total_of terms v).total apart in
       let rest = none-parts u us is above.1 in
       omega (arith, e, first, rest)
 
   -- one part and those behind it, of which the first leaves the others nothing
-  at_most : (a b d : Bool) (n s w most : ℕ) → w ≡ cond (a && (b && d)) n 0 + s → (b ≡ true → s ≡ 0) → n ≤ most → s ≤ most → w ≤ most
+  at_most : (a b d : Bool) (n s w most : ℕ) → w ≡ cond (a && (b && d)) n 0 + s → (b ≡ true → s ≡ 0)
+      → n ≤ most → s ≤ most → w ≤ most
   at_most true true true n s w most e none small rest = let z = none refl in omega arith
   at_most true true false n s w most e none small rest = omega arith
   at_most true false d n s w most e none small rest = omega arith
@@ -62,23 +71,30 @@ module _ (m : List ℕ) (c : ℕ) (terms : List (List ℕ)) (slot : Slot) where
   unfolding IsStrictlySortedBy
   once-told [] up = omega arith
   once-told (u ∷ us) up =
-      at_most (bytes_eq slot.manifest m) (bytes_eq slot.term u) (eqb slot.class c) 1 (times slot (parts m c (told us))) (times slot (parts m c (told (u ∷ us)))) 1
+      at_most (bytes_eq slot.manifest m) (bytes_eq slot.term u) (eqb slot.class c) 1
+      (times slot (parts m c (told us))) (times slot (parts m c (told (u ∷ us)))) 1
       (times-cons slot (slot_of m u c, (total_of terms u).total) (parts m c (told us)))
-      (λ h. none-times u us ((bytes_eq-Decides slot.term u).0 h) up.0) (omega arith) (once-told us up.1)
+      (λ h. none-times u us ((bytes_eq-Decides slot.term u).0 h) up.0) (omega arith)
+      (once-told us up.1)
 
   fits-told : (us : List (List ℕ)) → Ascend us → parts_at (parts m c (told us)) slot ≤ 2 ^ 64 - 1
   unfolding IsStrictlySortedBy
   fits-told [] up = omega arith
   fits-told (u ∷ us) up =
-      at_most (bytes_eq slot.manifest m) (bytes_eq slot.term u) (eqb slot.class c) (total_of terms u).total (parts_at (parts m c (told us)) slot) (parts_at (parts m c (told (u ∷ us))) slot) (2 ^ 64 - 1)
+      at_most (bytes_eq slot.manifest m) (bytes_eq slot.term u) (eqb slot.class c)
+      (total_of terms u).total (parts_at (parts m c (told us)) slot)
+      (parts_at (parts m c (told (u ∷ us))) slot) (2 ^ 64 - 1)
       (sum_by-cons (part_at slot) (slot_of m u c, (total_of terms u).total) (parts m c (told us)))
-      (λ h. none-parts u us ((bytes_eq-Decides slot.term u).0 h) up.0) (capped-most (count_by (bytes_eq u) terms)) (fits-told us up.1)
+      (λ h. none-parts u us ((bytes_eq-Decides slot.term u).0 h) up.0)
+      (capped-most (count_by (bytes_eq u) terms)) (fits-told us up.1)
 
-totals-once : (m : List ℕ) (c : ℕ) (terms : List (List ℕ)) (slot : Slot) → times slot (parts m c (totals_of terms)) ≤ 1
+totals-once : (m : List ℕ) (c : ℕ) (terms : List (List ℕ)) (slot : Slot)
+    → times slot (parts m c (totals_of terms)) ≤ 1
 unfolding totals_of
 totals-once m c terms slot = once-told m c terms slot (ascending terms) (ascend-ascending terms)
 
-totals-fit : (m : List ℕ) (c : ℕ) (terms : List (List ℕ)) (slot : Slot) → parts_at (parts m c (totals_of terms)) slot ≤ 2 ^ 64 - 1
+totals-fit : (m : List ℕ) (c : ℕ) (terms : List (List ℕ)) (slot : Slot)
+    → parts_at (parts m c (totals_of terms)) slot ≤ 2 ^ 64 - 1
 unfolding totals_of
 totals-fit m c terms slot = fits-told m c terms slot (ascending terms) (ascend-ascending terms)
 
@@ -90,11 +106,16 @@ module _ (kind : Kind) (row : Filed) (slot : Slot) where
       one true w e = omega arith
       one false w e = omega arith
 
-      by : (kind : Kind) (live : Option LiveNote) → row.note.live ≡ live → times slot (parts_by kind row) ≤ 1
+      by : (kind : Kind) (live : Option LiveNote) → row.note.live ≡ live
+          → times slot (parts_by kind row) ≤ 1
       by kind None is = rw is (omega arith)
-      by Words (Some live) is = rw is (totals-once live.manifest row.class (note_terms live.tree) slot)
+      by Words (Some live) is =
+          rw is (totals-once live.manifest row.class (note_terms live.tree) slot)
       by Anywhere (Some live) is = rw is (totals-once [] row.class (note_terms live.tree) slot)
-      by Whole (Some live) is = rw is (one (same_slot slot (slot_of live.manifest [] row.class)) (times slot (parts live.manifest row.class (empty_term ∷ []))) (times-cons slot (slot_of live.manifest [] row.class, 0) []))
+      by Whole (Some live) is =
+          rw is (one (same_slot slot (slot_of live.manifest [] row.class))
+          (times slot (parts live.manifest row.class (empty_term ∷ [])))
+          (times-cons slot (slot_of live.manifest [] row.class, 0) []))
 
   pub keys-fit : parts_at (parts_by kind row) slot ≤ 2 ^ 64 - 1
   keys-fit = by kind row.note.live refl
@@ -103,8 +124,13 @@ module _ (kind : Kind) (row : Filed) (slot : Slot) where
       one true w e = omega arith
       one false w e = omega arith
 
-      by : (kind : Kind) (live : Option LiveNote) → row.note.live ≡ live → parts_at (parts_by kind row) slot ≤ 2 ^ 64 - 1
+      by : (kind : Kind) (live : Option LiveNote) → row.note.live ≡ live
+          → parts_at (parts_by kind row) slot ≤ 2 ^ 64 - 1
       by kind None is = rw is (omega arith)
-      by Words (Some live) is = rw is (totals-fit live.manifest row.class (note_terms live.tree) slot)
+      by Words (Some live) is =
+          rw is (totals-fit live.manifest row.class (note_terms live.tree) slot)
       by Anywhere (Some live) is = rw is (totals-fit [] row.class (note_terms live.tree) slot)
-      by Whole (Some live) is = rw is (one (same_slot slot (slot_of live.manifest [] row.class)) (parts_at (parts live.manifest row.class (empty_term ∷ [])) slot) (sum_by-cons (part_at slot) (slot_of live.manifest [] row.class, 0) []))
+      by Whole (Some live) is =
+          rw is (one (same_slot slot (slot_of live.manifest [] row.class))
+          (parts_at (parts live.manifest row.class (empty_term ∷ [])) slot)
+          (sum_by-cons (part_at slot) (slot_of live.manifest [] row.class, 0) []))

@@ -13,16 +13,19 @@ abbrev pub HasNone : Option Data → Type 0
 HasNone None = Unit {0}
 HasNone (Some tree) = has_float tree ≡ false
 
-HasNone-found : (o : Ordering) (tree : Data) (rest : Option Data) → has_float tree ≡ false → HasNone rest → HasNone (match_ordering o rest (Some tree) rest)
+HasNone-found : (o : Ordering) (tree : Data) (rest : Option Data) → has_float tree ≡ false
+    → HasNone rest → HasNone (match_ordering o rest (Some tree) rest)
 HasNone-found Less tree rest t h = h
 HasNone-found Equal tree rest t h = t
 HasNone-found Greater tree rest t h = h
 
-HasNone-get_member : (name : List ℕ) (members : Members) → members_have_float members ≡ false → HasNone (get_member name members)
+HasNone-get_member : (name : List ℕ) (members : Members) → members_have_float members ≡ false
+    → HasNone (get_member name members)
 HasNone-get_member name no_members h = tt
 HasNone-get_member name (member other tree members) h =
     let parts = or_parts (has_float tree) (members_have_float members) h in
-    HasNone-found (slice_cmp nat_cmp name other) tree _ parts.0 (HasNone-get_member name members parts.1)
+    HasNone-found (slice_cmp nat_cmp name other) tree _ parts.0
+    (HasNone-get_member name members parts.1)
 
 pub HasNone-get : (name : List ℕ) (tree : Data) → has_float tree ≡ false → HasNone (get name tree)
 HasNone-get name null h = tt
@@ -32,7 +35,8 @@ HasNone-get name (string text) h = tt
 HasNone-get name (array items) h = tt
 HasNone-get name (object members) h = HasNone-get_member name members h
 
-pub has_float-array_in : (found : Option Data) → HasNone found → items_have_float (array_in found) ≡ false
+pub has_float-array_in : (found : Option Data) → HasNone found
+    → items_have_float (array_in found) ≡ false
 has_float-array_in None h = refl
 has_float-array_in (Some null) h = refl
 has_float-array_in (Some (boolean b)) h = refl

@@ -18,11 +18,16 @@ apart : (name other : List ℕ) → bytes_eq name other ≡ false → name ≡ o
 apart name other e same = true≢false (sym ((bytes_eq-Decides name other).1 same) ∙ e)
 
 -- the other members are kept
-get-kept_tree : (name : List ℕ) (tree : Data) → bytes_eq name (codes "@context") ≡ false → bytes_eq name (codes "id") ≡ false → get name (kept_tree tree) ≡ get name tree
+get-kept_tree : (name : List ℕ) (tree : Data) → bytes_eq name (codes "@context") ≡ false
+    → bytes_eq name (codes "id") ≡ false → get name (kept_tree tree) ≡ get name tree
 unfolding kept_tree
-get-kept_tree name tree c i = get-without_member name (codes "id") (without_member (codes "@context") tree) (apart name (codes "id") i) ∙ get-without_member name (codes "@context") tree (apart name (codes "@context") c)
+get-kept_tree name tree c i =
+    get-without_member name (codes "id") (without_member (codes "@context") tree)
+    (apart name (codes "id") i)
+    ∙ get-without_member name (codes "@context") tree (apart name (codes "@context") c)
 
-manifest_refusals-kept_tree : (tree : Data) → manifest_refusals (kept_tree tree) ≡ manifest_refusals tree
+manifest_refusals-kept_tree : (tree : Data)
+    → manifest_refusals (kept_tree tree) ≡ manifest_refusals tree
 unfolding manifest_refusals
 manifest_refusals-kept_tree tree =
     rw (
@@ -44,7 +49,8 @@ pub ruleset counting = (items_len-items_view, first_bad-items_view)
 
 -- ---- what isn't kept isn't there
 
-get-without_same : (name : List ℕ) (tree : Data) → is_tree tree ≡ true → get name (without_member name tree) ≡ None
+get-without_same : (name : List ℕ) (tree : Data) → is_tree tree ≡ true
+    → get name (without_member name tree) ≡ None
 unfolding is_tree
 get-without_same name null t = refl
 get-without_same name (boolean b) t = refl
@@ -55,17 +61,24 @@ get-without_same name (object members) t =
     let whole = and_parts (is_whole (object members)) _ t in
     get_member-without_same name members (and_parts (ascend (names members)) _ whole.0).0
 
-pub is_kept-kept_tree : (tree : Data) → is_tree tree ≡ true → is_manifest tree ≡ true → is_kept (kept_tree tree) ≡ true
+pub is_kept-kept_tree : (tree : Data) → is_tree tree ≡ true → is_manifest tree ≡ true
+    → is_kept (kept_tree tree) ≡ true
 unfolding is_kept
 is_kept-kept_tree tree t m =
     let named = without_member (codes "@context") tree in
     let context : get (codes "@context") (kept_tree tree) ≡ None =
-    unfold kept_tree in get-without_member (codes "@context") (codes "id") named (apart (codes "@context") (codes "id") refl) ∙ get-without_same (codes "@context") tree t in
+    unfold kept_tree in
+    get-without_member (codes "@context") (codes "id") named
+    (apart (codes "@context") (codes "id") refl)
+    ∙ get-without_same (codes "@context") tree t in
     let id : get (codes "id") (kept_tree tree) ≡ None =
-    unfold kept_tree in get-without_same (codes "id") named (is_tree-without_member (codes "@context") tree t) in
-    and_from _ _ (and_from _ _ (is_manifest-kept_tree tree ∙ m) (ap is_none context)) (ap is_none id)
+    unfold kept_tree in
+    get-without_same (codes "id") named (is_tree-without_member (codes "@context") tree t) in
+    and_from _ _ (and_from _ _ (is_manifest-kept_tree tree ∙ m) (ap is_none context))
+    (ap is_none id)
 
-without_member-absent : (name : List ℕ) (tree : Data) → get name tree ≡ None → without_member name tree ≡ tree
+without_member-absent : (name : List ℕ) (tree : Data) → get name tree ≡ None
+    → without_member name tree ≡ tree
 without_member-absent name null h = refl
 without_member-absent name (boolean b) h = refl
 without_member-absent name (number n) h = refl
@@ -81,11 +94,16 @@ nothing (Some a) h = absurd (cc)
 pub kept_again : (tree : Data) → IsTrue (is_kept tree) → manifest_of tree ≡ Ok tree
 unfolding is_kept is_manifest manifest_of kept_tree
 kept_again tree h =
-    let parts = and_parts (is_manifest tree && is_none (get (codes "@context") tree)) (is_none (get (codes "id") tree)) h in
+    let parts =
+    and_parts (is_manifest tree && is_none (get (codes "@context") tree))
+    (is_none (get (codes "id") tree)) h in
     let first = and_parts (is_manifest tree) (is_none (get (codes "@context") tree)) parts.0 in
-    let context = without_member-absent (codes "@context") tree (nothing (get (codes "@context") tree) first.1) in
+    let context =
+    without_member-absent (codes "@context") tree (nothing (get (codes "@context") tree) first.1) in
     let id = without_member-absent (codes "id") tree (nothing (get (codes "id") tree) parts.1) in
-    ap (λ refusal. unless refusal (without_member (codes "id") (without_member (codes "@context") tree))) (nothing (first_of (manifest_refusals tree)) first.0)
+    ap (λ refusal.
+    unless refusal (without_member (codes "id") (without_member (codes "@context") tree)))
+    (nothing (first_of (manifest_refusals tree)) first.0)
     ∙ ap (λ kept. Ok (without_member (codes "id") kept)) context ∙ ap Ok id
 
 pub ruleset keeping = (is_kept-kept_tree, canvases_of-kept_tree)

@@ -4,7 +4,9 @@ use Rattle.std.proofs.lemmas.List.{length-drop, take-append-le}
 use Rattle.std.proofs.Math.Seq.{take-length}
 
 -- the front goes to the end, and is cut off there
-pub rotated : (bytes : List ℕ) (count : ℕ) → count ≤ length bytes → take (length bytes - count) (drop count bytes ++ take count bytes) ≡ drop count bytes
+pub rotated : (bytes : List ℕ) (count : ℕ) → count ≤ length bytes
+    → take (length bytes - count) (drop count bytes ++ take count bytes) ≡ drop count bytes
 rotated bytes count within =
     let long : length (drop count bytes) ≡ length bytes - count = length-drop count bytes in
-    take-append-le (length bytes - count) (drop count bytes) (take count bytes) (omega arith) ∙ rw (sym long) (take-length (drop count bytes))
+    take-append-le (length bytes - count) (drop count bytes) (take count bytes) (omega arith)
+    ∙ rw (sym long) (take-length (drop count bytes))

@@ -10,6 +10,8 @@ both false true h k = k refl
 both false false h k = refl
 
 -- a test of two texts
-pub same_letters : (b : Bool) (one other : List ℕ) → (IsTrue b) ↔ (one ≡ other) → b ≡ bytes_eq one other
+pub same_letters : (b : Bool) (one other : List ℕ) → (IsTrue b) ↔ (one ≡ other)
+    → b ≡ bytes_eq one other
 same_letters b one other h =
-    both b (bytes_eq one other) (λ e. (bytes_eq-Decides one other).1 (h.0 e)) (λ e. h.1 ((bytes_eq-Decides one other).0 e))
+    both b (bytes_eq one other) (λ e. (bytes_eq-Decides one other).1 (h.0 e))
+    (λ e. h.1 ((bytes_eq-Decides one other).0 e))

@@ -12,11 +12,14 @@ abbrev pub left : {Y : Type 0} → (Data → Option Y) → List Value → ℕ �
 left f values i = filter_map f (items_list (items_view (drop i values)))
 
 -- one walk in place of two
-pub filter_map-twice : {X Y Z : Type 0} (f : X → Option Y) (g : Y → Option Z) (xs : List X) → filter_map g (filter_map f xs) ≡ filter_map (λ x. option_and_then g (f x)) xs
+pub filter_map-twice : {X Y Z : Type 0} (f : X → Option Y) (g : Y → Option Z) (xs : List X)
+    → filter_map g (filter_map f xs) ≡ filter_map (λ x. option_and_then g (f x)) xs
 filter_map-twice f g [] = refl
 filter_map-twice {X = X} {Y = Y} f g (x ∷ xs) = by_first (f x) (filter_map-twice f g xs)
   where
-    by_first : (o : Option Y) → filter_map g (filter_map f xs) ≡ filter_map (λ x. option_and_then g (f x)) xs
-        → filter_map g (cons_option o (filter_map f xs)) ≡ cons_option (option_and_then g o) (filter_map (λ x. option_and_then g (f x)) xs)
+    by_first : (o : Option Y)
+        → filter_map g (filter_map f xs) ≡ filter_map (λ x. option_and_then g (f x)) xs
+        → filter_map g (cons_option o (filter_map f xs))
+        ≡ cons_option (option_and_then g o) (filter_map (λ x. option_and_then g (f x)) xs)
     by_first None rest = rest
     by_first (Some y) rest = ap (cons_option (g y)) rest

@@ -49,12 +49,14 @@ row-first_canvas = refl
 row-past_the_last : canvas_at 3 (codes "a" ∷ codes "b" ∷ []) ≡ None
 row-past_the_last = refl
 
-row-page_of_a_region : page_iri (canvas_whole (codes "http://a.example") (codes "m1") 2 (Some (region 1 20 300 4))) 3
+row-page_of_a_region :
+    page_iri (canvas_whole (codes "http://a.example") (codes "m1") 2 (Some (region 1 20 300 4))) 3
     ≡ codes "http://a.example/manifests/m1/canvases/2?xywh=1%2C20%2C300%2C4&page=3"
 unfolding region digits
 row-page_of_a_region = refl
 
-row-page_of_a_canvas : page_iri (canvas_whole (codes "http://a.example") (codes "m1") 2 None) 3 ≡ codes "http://a.example/manifests/m1/canvases/2?page=3"
+row-page_of_a_canvas : page_iri (canvas_whole (codes "http://a.example") (codes "m1") 2 None) 3
+    ≡ codes "http://a.example/manifests/m1/canvases/2?page=3"
 unfolding digits
 row-page_of_a_canvas = refl
 
@@ -63,7 +65,8 @@ row-page_of_a_canvas = refl
 birds : Bool → Whole
 birds iris = container_whole (codes "http://a.example") (codes "m1") iris
 
-row-minimal : compact_text (container_tree (birds false) (first_page (birds false) true 2 3 no_items) 2 3) ≡ (
+row-minimal :
+    compact_text (container_tree (birds false) (first_page (birds false) true 2 3 no_items) 2 3) ≡ (
     codes "{\"@context\":[\"http://www.w3.org/ns/anno.jsonld\"," ++ (
     codes "\"http://www.w3.org/ns/ldp.jsonld\"]," ++ (
     codes "\"first\":\"http://a.example/manifests/m1/annotations/?page=1\"," ++ (
@@ -73,7 +76,9 @@ row-minimal : compact_text (container_tree (birds false) (first_page (birds fals
 unfolding birds container_tree digits escape_byte
 row-minimal = refl
 
-row-first_of_iris : compact_text (first_page (birds true) false 2 3 (item (string (codes "http://a.example/annotations/mara/n1")) no_items)) ≡ (
+row-first_of_iris : compact_text
+    (first_page (birds true) false 2 3
+    (item (string (codes "http://a.example/annotations/mara/n1")) no_items)) ≡ (
     codes "{\"id\":\"http://a.example/manifests/m1/annotations/?iris=1&page=1\"," ++ (
     codes "\"items\":[\"http://a.example/annotations/mara/n1\"]," ++ (
     codes "\"next\":\"http://a.example/manifests/m1/annotations/?iris=1&page=2\"," ++
@@ -91,7 +96,8 @@ row-last_page : compact_text (own_page (birds false) 2 2 3 no_items) ≡ (
 unfolding birds own_page held_page digits escape_byte
 row-last_page = refl
 
-row-empty : compact_text (container_tree (birds true) (first_page (birds true) false 2 0 no_items) 2 0) ≡ (
+row-empty :
+    compact_text (container_tree (birds true) (first_page (birds true) false 2 0 no_items) 2 0) ≡ (
     codes "{\"@context\":[\"http://www.w3.org/ns/anno.jsonld\"," ++ (
     codes "\"http://www.w3.org/ns/ldp.jsonld\"]," ++ (
     codes "\"first\":{\"id\":\"http://a.example/manifests/m1/annotations/?iris=1&page=1\"," ++ (

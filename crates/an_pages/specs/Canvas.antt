@@ -30,8 +30,8 @@ cross start size other other_size = nat_lt start (other + other_size) && nat_lt 
 abbrev pub overlap : Xywh → Xywh → Bool
 overlap one other = cross one.x one.w other.x other.w && cross one.y one.h other.y other.h
 
--- all meets where no region is asked for; what has no region is about the whole canvas, and so about
--- each region of it
+-- all meets where no region is asked for; what has no region is about the whole canvas, and so
+-- about each region of it
 abbrev pub meets : Option Xywh → Option Xywh → Bool
 meets None region = true
 meets (Some asked) None = true

@@ -42,7 +42,8 @@ pub record IsTaken (class times : ℕ) (old new : List ClassPostings) : Type 0 w
 
 -- the place was taken out of the list of the class, and the term is counted there so many times
 -- less; memory was given back in this class, or in none where it stays
-pub record IsOut (stays : Bool) (class place times : ℕ) (old new : List ClassPostings) : Type 0 where
+pub record IsOut (stays : Bool) (class place times : ℕ) (old new : List ClassPostings)
+    : Type 0 where
   pub places : (c : ℕ) → places_at new c
       ≡ (if c == class then without_place place (places_at old c) else places_at old c)
   pub count : (c : ℕ) → count_at new c

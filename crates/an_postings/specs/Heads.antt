@@ -16,4 +16,5 @@ head_of text = head_from 8 text
 
 -- a number and a text beside another text: first the numbers are compared
 abbrev pub head_cmp : ℕ → List ℕ → List ℕ → Ordering
-head_cmp head text other = ordering_then (nat_cmp head (head_of other)) (slice_cmp nat_cmp text other)
+head_cmp head text other =
+    ordering_then (nat_cmp head (head_of other)) (slice_cmp nat_cmp text other)

@@ -101,7 +101,8 @@ impl PartialEq for TermKey {
 
     ghost eq = { string_eq };
 
-    ghost laws = { Cmp.on_per (λ x. string_bytes x) (Cmp.partial_equiv_from_equiv nat_list_eq_equiv) };
+    ghost laws = { Cmp.on_per (λ x. string_bytes x)
+        (Cmp.partial_equiv_from_equiv nat_list_eq_equiv) };
 
     fn eq(&self, other: &TermKey) -> bool {
         self.as_str() == other.as_str()

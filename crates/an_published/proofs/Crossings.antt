@@ -1,6 +1,6 @@
--- That what is published may go from thread to thread. What a command holds goes through JSON values,
--- which hold themselves, so no crossing of it is known by itself: here each part is shown once, and
--- then cited.
+-- That what is published may go from thread to thread. What a command holds goes through JSON
+-- values, which hold themselves, so no crossing of it is known by itself: here each part is shown
+-- once, and then cited.
 use denote.Param.Send.{IsSend, IsSync, sendable}
 use denote.Param.SendFields.{as_row_send, declared_send, variants_send}
 use Rattle.std.proofs.Crossing as heap
@@ -44,15 +44,46 @@ tree_sync = search (maps.crosses, heap.crosses, value.crosses, sendable) depth 6
 -- ---- what is added to a history
 
 command_send : IsSend Command.the_row
-command_send = search (tree_send, tree_sync, shared.the_send, name.the_send, group.the_send, inner.the_send, names.the_send, list.the_send, variants_send, as_row_send, sendable) depth 40 fits 20000
+command_send =
+    search (
+      tree_send,
+      tree_sync,
+      shared.the_send,
+      name.the_send,
+      group.the_send,
+      inner.the_send,
+      names.the_send,
+      list.the_send,
+      variants_send,
+      as_row_send,
+      sendable,
+    ) depth 40 fits 20000
 
 entry_send : IsSend Entry.the_row
-entry_send = search (command_send, moment.the_send, name.the_send, option.the_send, row.the_send, activity.the_send, activity.the_sync, shared.the_send, list.the_send, variants_send, as_row_send, sendable) depth 40 fits 20000
+entry_send =
+    search (
+      command_send,
+      moment.the_send,
+      name.the_send,
+      option.the_send,
+      row.the_send,
+      activity.the_send,
+      activity.the_sync,
+      shared.the_send,
+      list.the_send,
+      variants_send,
+      as_row_send,
+      sendable,
+    ) depth 40 fits 20000
 
 pub addition_send : IsSend Addition.the_row
 addition_send = search (entry_send, mark.the_send, declared_send)
 
 -- ---- who publishes
 
-pub writer_send : IsSend (Writer.the_row Published.the_row Addition.the_row SeatKnowledge.the_row OneList.the_row Global.the_row State.the_row absorb.ghosts rule.ghosts in_heap.ghosts)
-writer_send = writer.the_send Published.the_row Addition.the_row SeatKnowledge.the_row OneList.the_row Global.the_row State.the_row absorb.ghosts rule.ghosts in_heap.ghosts published.the_send addition_send heap.send published.the_sync heap.sync heap.frees
+pub writer_send : IsSend (Writer.the_row Published.the_row Addition.the_row SeatKnowledge.the_row
+    OneList.the_row Global.the_row State.the_row absorb.ghosts rule.ghosts in_heap.ghosts)
+writer_send =
+    writer.the_send Published.the_row Addition.the_row SeatKnowledge.the_row OneList.the_row
+    Global.the_row State.the_row absorb.ghosts rule.ghosts in_heap.ghosts published.the_send
+    addition_send heap.send published.the_sync heap.sync heap.frees

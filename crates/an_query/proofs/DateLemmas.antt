@@ -18,7 +18,8 @@ unfolding moment_of has_form
 to_nothing from = nowhere (result_ok (moment_of from))
 
 -- where there is no slash, nothing stands behind one
-pub no_slash : (piece : List ℕ) → position_or_len (λ b. b == 47) piece ≡ length piece → range_of piece ≡ None
+pub no_slash : (piece : List ℕ) → position_or_len (λ b. b == 47) piece ≡ length piece
+    → range_of piece ≡ None
 no_slash piece e =
     rw (drop_of_length-le piece {i = position_or_len (λ b. b == 47) piece + 1} (omega (arith, e)))
     (to_nothing (before_first (λ b. b == 47) piece))

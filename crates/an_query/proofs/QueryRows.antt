@@ -13,7 +13,8 @@ use Rattle.an_query.specs.declared.query.QueryError.{QueryError}
 use Rattle.an_query.specs.declared.query.QueryError.TheVariants as refusal
 
 unfoldable queries_on_literals : Unit {0}
-unfolding query_of raw_pairs split percent_decode is_utf8 chars encode_utf8 moment_of has_form days_of_months
+unfolding query_of raw_pairs split percent_decode is_utf8 chars encode_utf8 moment_of has_form
+    days_of_months
 queries_on_literals = tt
 
 abbrev asked : List ℕ → Result QueryRecord QueryError
@@ -51,7 +52,10 @@ unfolding queries_on_literals
 row-year = refl
 
 row-range_without_moments : asked (codes "date=2024-05-01T10:02:00Z/2024-05-01T10:00:00Z")
-    ≡ Ok (record nothing { filters = record unfiltered { date = Some (codes "2024-05-01T10:02:00Z/2024-05-01T10:00:00Z") } })
+    ≡ Ok (record nothing {
+      filters =
+          record unfiltered { date = Some (codes "2024-05-01T10:02:00Z/2024-05-01T10:00:00Z") };
+    })
 unfolding queries_on_literals
 row-range_without_moments = refl
 
@@ -65,7 +69,8 @@ row-plus : asked (codes "q=a+b") ≡ Ok (record nothing { q = Some (codes "a b")
 unfolding queries_on_literals
 row-plus = refl
 
-row-name_alone : asked (codes "motivation") ≡ Ok (record nothing { filters = record unfiltered { motivation = Some [] } })
+row-name_alone : asked (codes "motivation")
+    ≡ Ok (record nothing { filters = record unfiltered { motivation = Some [] } })
 unfolding queries_on_literals
 row-name_alone = refl
 
@@ -91,7 +96,8 @@ row-bytes_first : asked (codes "q=a&q=b&foo=%C3") ≡ Err refusal.Bytes
 unfolding queries_on_literals
 row-bytes_first = refl
 
-row-second_coming : asked (codes "date=x&q=a&user=b&user=c&q=d") ≡ Err (refusal.Twice parameter.User)
+row-second_coming : asked (codes "date=x&q=a&user=b&user=c&q=d")
+    ≡ Err (refusal.Twice parameter.User)
 unfolding queries_on_literals
 row-second_coming = refl
 
@@ -99,16 +105,20 @@ row-date_before_page : asked (codes "page=0&date=+x++y") ≡ Err (refusal.Date 0
 unfolding queries_on_literals
 row-date_before_page = refl
 
-row-second_piece : asked (codes "date=2024-05-01T10:00:00Z/2024-05-01T10:02:00Z++2024-05-01T10:00:00Z") ≡ Err (refusal.Date 1)
+row-second_piece :
+    asked (codes "date=2024-05-01T10:00:00Z/2024-05-01T10:02:00Z++2024-05-01T10:00:00Z")
+    ≡ Err (refusal.Date 1)
 unfolding queries_on_literals
 row-second_piece = refl
 
 -- ---- names
 
-row-minimum : asked (codes "min=2&page=3") ≡ Ok (record nothing { page = 3; ignored = codes "min" ∷ [] })
+row-minimum : asked (codes "min=2&page=3")
+    ≡ Ok (record nothing { page = 3; ignored = codes "min" ∷ [] })
 unfolding queries_on_literals
 row-minimum = refl
 
-row-no_name : asked (codes "=a&&user=&=b") ≡ Ok (record nothing { filters = record unfiltered { user = Some [] }; ignored = [] ∷ [] })
+row-no_name : asked (codes "=a&&user=&=b")
+    ≡ Ok (record nothing { filters = record unfiltered { user = Some [] }; ignored = [] ∷ [] })
 unfolding queries_on_literals
 row-no_name = refl

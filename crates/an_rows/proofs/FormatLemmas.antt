@@ -14,11 +14,15 @@ use Rattle.an_rows.specs.declared.format.Format.TheVariants.{Second}
 
 -- ---- how many cells a state has
 
-length-cells_from : {R : Type 0} (format : Format) (kind : R → Row) (key : ℕ) (rows : List R) → length (cells_from format kind key rows) ≡ length rows
+length-cells_from : {R : Type 0} (format : Format) (kind : R → Row) (key : ℕ) (rows : List R)
+    → length (cells_from format kind key rows) ≡ length rows
 length-cells_from format kind key [] = refl
-length-cells_from format kind key (row ∷ rows) = ap suc (length-cells_from format kind (key + 1) rows)
+length-cells_from format kind key (row ∷ rows) =
+    ap suc (length-cells_from format kind (key + 1) rows)
 
-pub length-row_cells : (format : Format) (s : State) → length (row_cells format s) ≡ length s.readers + (length s.manifests + (length s.notes + length s.activities))
+pub length-row_cells : (format : Format) (s : State)
+    → length (row_cells format s)
+    ≡ length s.readers + (length s.manifests + (length s.notes + length s.activities))
 unfolding row_cells
 length-row_cells format s =
     let readers = cells_from format kept.Reader 0 s.readers in
@@ -36,19 +40,26 @@ length-row_cells format s =
       length-cells_from format kept.Activity 0 s.activities,
     )
 
-pub with_first-none : (format : Format) (found : List Cell) → length found ≡ 0 → with_first format found ≡ []
+pub with_first-none : (format : Format) (found : List Cell) → length found ≡ 0
+    → with_first format found ≡ []
 with_first-none format [] none = refl
 with_first-none format (cell ∷ found) none = absurd (omega arith)
 
-none-with_first : (format : Format) (found : List Cell) → with_first format found ≡ [] → length found ≡ 0
+none-with_first : (format : Format) (found : List Cell) → with_first format found ≡ []
+    → length found ≡ 0
 none-with_first format [] none = refl
 none-with_first format (cell ∷ found) none = absurd (cc)
 
 -- it has none where its four lists are empty
-no_row-lengths : (format : Format) (s : State) → has_no_row s ≡ true → length (row_cells format s) ≡ 0
+no_row-lengths : (format : Format) (s : State) → has_no_row s ≡ true
+    → length (row_cells format s) ≡ 0
 no_row-lengths format s none =
-    let activities = and_parts ((length s.readers == 0) && (length s.manifests == 0) && (length s.notes == 0)) (length s.activities == 0) none in
-    let notes = and_parts ((length s.readers == 0) && (length s.manifests == 0)) (length s.notes == 0) activities.0 in
+    let activities =
+    and_parts ((length s.readers == 0) && (length s.manifests == 0) && (length s.notes == 0))
+    (length s.activities == 0) none in
+    let notes =
+    and_parts ((length s.readers == 0) && (length s.manifests == 0))
+    (length s.notes == 0) activities.0 in
     let both = and_parts (length s.readers == 0) (length s.manifests == 0) notes.0 in
     let r : length s.readers ≡ 0 = eqb-true _ _ both.0 in
     let m : length s.manifests ≡ 0 = eqb-true _ _ both.1 in
@@ -66,20 +77,25 @@ row-cell s some none =
     let m : length s.manifests ≡ 0 = omega (arith, length-row_cells Second s) in
     let n : length s.notes ≡ 0 = omega (arith, length-row_cells Second s) in
     let a : length s.activities ≡ 0 = omega (arith, length-row_cells Second s) in
-    both_ways (has_no_row s) some (and_from _ _ (and_from _ _ (and_from _ _ (eq-eqb _ _ r) (eq-eqb _ _ m)) (eq-eqb _ _ n)) (eq-eqb _ _ a))
+    both_ways (has_no_row s) some
+    (and_from _ _ (and_from _ _ (and_from _ _ (eq-eqb _ _ r) (eq-eqb _ _ m)) (eq-eqb _ _ n))
+    (eq-eqb _ _ a))
 
 -- ---- the changes, with the first cell where there is none
 
-format-of_nothing : (found : List Cell) (changes : List Change) → length changes ≡ 0 → with_format found changes ≡ changes
+format-of_nothing : (found : List Cell) (changes : List Change) → length changes ≡ 0
+    → with_format found changes ≡ changes
 format-of_nothing [] [] none = refl
 format-of_nothing [] (change ∷ changes) none = absurd (omega arith)
 format-of_nothing (cell ∷ found) changes none = refl
 
-format-among : (found : List Cell) (changes : List Change) → found ≢ [] → with_format found changes ≡ changes
+format-among : (found : List Cell) (changes : List Change) → found ≢ []
+    → with_format found changes ≡ changes
 format-among [] changes some = absurd (some refl)
 format-among (cell ∷ found) changes some = refl
 
-format-before : (changes : List Change) → length changes ≢ 0 → with_format [] changes ≡ put (first_cell Second) ∷ changes
+format-before : (changes : List Change) → length changes ≢ 0
+    → with_format [] changes ≡ put (first_cell Second) ∷ changes
 format-before [] some = absurd (some refl)
 format-before (change ∷ changes) some = refl
 
@@ -90,7 +106,9 @@ module _ (s : State) (changes : List Change) where
   pub format_there : has_no_row s ≡ false → with_format (cells s) changes ≡ changes
   format_there some = format-among (cells s) changes (row-cell s some)
 
-  pub format_first : has_no_row s ≡ true → length changes ≢ 0 → with_format (cells s) changes ≡ put (first_cell Second) ∷ changes
-  format_first none some = ap (λ found. with_format found changes) (no_row-no_cell s none) ∙ format-before changes some
+  pub format_first : has_no_row s ≡ true → length changes ≢ 0
+      → with_format (cells s) changes ≡ put (first_cell Second) ∷ changes
+  format_first none some =
+      ap (λ found. with_format found changes) (no_row-no_cell s none) ∙ format-before changes some
 
 pub ruleset formats = (format_nothing, format_there, format_first)

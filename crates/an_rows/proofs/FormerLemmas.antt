@@ -29,23 +29,33 @@ one-written Public = refl
 one-written Private = refl
 one-written (Named name) = refl
 
-live-said : (live : Option FormerLive) → if_any (λ its. can_say First its.group) (option_map widened_live live) ≡ true
+live-said : (live : Option FormerLive)
+    → if_any (λ its. can_say First its.group) (option_map widened_live live) ≡ true
 live-said None = refl
 live-said (Some live) = one-said live.group
 
-audience-said : (audience : Option FormerAudience) → if_any (λ its. can_say First its.inner) (option_map widened audience) ≡ true
+audience-said : (audience : Option FormerAudience)
+    → if_any (λ its. can_say First its.inner) (option_map widened audience) ≡ true
 audience-said None = refl
 audience-said (Some audience) = one-said audience.inner
 
-notes-said : (rows : List FormerNote) → list_all (λ row. row_can First (kept.Note row)) (map widened_note rows) ≡ true
+notes-said : (rows : List FormerNote)
+    → list_all (λ row. row_can First (kept.Note row)) (map widened_note rows) ≡ true
 notes-said [] = refl
 notes-said (row ∷ rows) = and_from _ _ (live-said row.live) (notes-said rows)
 
-activities-said : (rows : List FormerActivity) → list_all (λ row. row_can First (kept.Activity row)) (map widened_activity rows) ≡ true
+activities-said : (rows : List FormerActivity)
+    → list_all (λ row. row_can First (kept.Activity row)) (map widened_activity rows) ≡ true
 activities-said [] = refl
-activities-said (row ∷ rows) = and_from _ _ (and_from _ _ (audience-said row.before) (audience-said row.after)) (activities-said rows)
+activities-said (row ∷ rows) =
+    and_from _ _ (and_from _ _ (audience-said row.before) (audience-said row.after))
+    (activities-said rows)
 
-pub former-read-back : (s : FormerState) → is_valid (widened_state s) ≡ true → is_sound (widened_state s) ≡ true → state_of (cells_in First (widened_state s)) ≡ Ok (widened_state s)
-former-read-back s valid sound = cells-read-back First (widened_state s) valid sound (and_from _ _ (notes-said s.notes) (activities-said s.activities))
+pub former-read-back : (s : FormerState) → is_valid (widened_state s) ≡ true
+    → is_sound (widened_state s) ≡ true
+    → state_of (cells_in First (widened_state s)) ≡ Ok (widened_state s)
+former-read-back s valid sound =
+    cells-read-back First (widened_state s) valid sound
+    (and_from _ _ (notes-said s.notes) (activities-said s.activities))
 
 pub ruleset former_cells = (former-read-back, one-written)

@@ -36,7 +36,8 @@ rows_of (Done command moment by rows activities) = rows ++ map kept.Activity act
 -- each row is put in its place behind those before it
 abbrev pub row_changes : State → List Row → List Change
 row_changes s [] = []
-row_changes s (row ∷ rows) = put (cell_of Second (place_in s row) row) ∷ row_changes (with_row s row) rows
+row_changes s (row ∷ rows) =
+    put (cell_of Second (place_in s row) row) ∷ row_changes (with_row s row) rows
 
 -- where there is no cell yet, the first of all is put too
 abbrev pub with_format : List Cell → List Change → List Change

@@ -14,9 +14,12 @@ use Rattle.an_search.proofs.FoundLemmas.{stand-wanted}
 
 -- the hits of the view stand at the readable places that are wanted
 pub hits-stand : (s : State) (who : Identity) (manifest : List ℕ) (wanted : Wanted)
-    → StandAt s.notes (filter (is_wanted_at s.notes wanted) (readable_places s who manifest)) (hits (view_of s who) manifest wanted)
+    → StandAt s.notes (filter (is_wanted_at s.notes wanted) (readable_places s who manifest))
+    (hits (view_of s who) manifest wanted)
 unfolding hits
 hits-stand s who manifest wanted =
-    subst (λ rows. StandAt s.notes (filter (is_wanted_at s.notes wanted) (readable_places s who manifest)) (filter (matches wanted) rows))
+    subst (λ rows. StandAt s.notes
+    (filter (is_wanted_at s.notes wanted) (readable_places s who manifest))
+    (filter (matches wanted) rows))
     (readable_rows s who manifest)
     (stand-wanted s.notes wanted (readable_places s who manifest))

@@ -1,5 +1,5 @@
--- How many steps a search takes. A step is one fetch of an annotation's row. The caller's view tells
--- the number, so that nothing hidden does.
+-- How many steps a search takes. A step is one fetch of an annotation's row. The caller's view
+-- tells the number, so that nothing hidden does.
 use Rattle.std.specs.Prelude.{ℕ, ◌+◌, List, [], ◌∷◌, length, filter, is_some, if◌then◌else◌}
 use Rattle.an_state.specs.State.{NoteState}
 use Rattle.an_state.specs.Terms.{has_term}

@@ -33,14 +33,17 @@ other : places_of (codes "abc") Other ≡ []
 other = refl
 
 -- a letter of two bytes, and one with a mark of its own
-wide : places_of (encode_utf8_all (0x65 ∷ 0x301 ∷ 0xE9 ∷ 0x65 ∷ [])) (AQuote (codes "e") (encode_utf8_all (0xE9 ∷ [])) []) ≡ from_to 3 4 ∷ []
+wide : places_of (encode_utf8_all (0x65 ∷ 0x301 ∷ 0xE9 ∷ 0x65 ∷ []))
+    (AQuote (codes "e") (encode_utf8_all (0xE9 ∷ [])) []) ≡ from_to 3 4 ∷ []
 unfolding places_of_quote chars lib.Utf8.encode
 wide = refl
 
-heron : quote_of_span (codes "grey heron") (from_to 5 10) 2 ≡ (record { exact = codes "heron"; prefix = codes "y "; suffix = [] })
+heron : quote_of_span (codes "grey heron") (from_to 5 10) 2
+    ≡ (record { exact = codes "heron"; prefix = codes "y "; suffix = [] })
 unfolding chars lib.Utf8.encode
 heron = refl
 
-all_around : quote_of_span (codes "grey heron") (from_to 2 6) 99 ≡ (record { exact = codes "ey h"; prefix = codes "gr"; suffix = codes "eron" })
+all_around : quote_of_span (codes "grey heron") (from_to 2 6) 99
+    ≡ (record { exact = codes "ey h"; prefix = codes "gr"; suffix = codes "eron" })
 unfolding chars lib.Utf8.encode
 all_around = refl

@@ -9,9 +9,13 @@ use Rattle.an_routes.specs.declared.kinds.RouteError.{RouteError}
 use Rattle.an_routes.specs.declared.kinds.RouteError.TheVariants as error
 use Rattle.an_serve.specs.declared.responding.Response.{Response}
 
-pub nowhere : {E : Type 0} (site : Site) (s : State) (request : Request) (failed : RouteError) (result : Result Response E)
-    → IfOk result (λ response. response ≡ route_response site s request (Err failed)) → IfOk result (λ _. ¬ (failed ≡ error.Memory))
-    → (¬ (failed ≡ error.Memory) → route_of request.method request.target ≡ Err failed) → IfOk result (λ response. response ≡ response_of site s request)
+pub nowhere : {E : Type 0} (site : Site) (s : State) (request : Request) (failed : RouteError)
+    (result : Result Response E)
+    → IfOk result (λ response. response ≡ route_response site s request (Err failed))
+    → IfOk result (λ _. ¬ (failed ≡ error.Memory))
+    → (¬ (failed ≡ error.Memory) → route_of request.method request.target ≡ Err failed)
+    → IfOk result (λ response. response ≡ response_of site s request)
 unfolding response_of
-nowhere site s request failed (Ok response) is sure route = is ∙ ap (route_response site s request) (sym (route sure))
+nowhere site s request failed (Ok response) is sure route =
+    is ∙ ap (route_response site s request) (sym (route sure))
 nowhere site s request failed (Err e) is sure route = tt

@@ -71,7 +71,8 @@ query_response s (Some caller) reads methods refusal =
 -- ---- reads and writes
 
 abbrev pub read_response : Site → State → Option Caller → Prefer → Read → Response
-read_response site s None prefer read = response.Ready (refusal_reply (read_methods read) not_signed)
+read_response site s None prefer read =
+    response.Ready (refusal_reply (read_methods read) not_signed)
 read_response site s (Some caller) prefer read =
     response.Ready (answer_of site (view_by s caller) prefer read)
 

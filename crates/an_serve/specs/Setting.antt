@@ -13,8 +13,8 @@ pub record Setting (C : Type 0) : Type 0 where
   pub site : Site
   pub clock : C
 
--- a desk came to this reply, and its state to another, which is kept, and the faults that it met are
--- counted
+-- a desk came to this reply, and its state to another, which is kept, and the faults that it met
+-- are counted
 pub record DeskComes (Unsure : Type 0) (clock : ℤ → Bool) (site : Site) (response : Response)
     (old : Store) (reply : Reply) (new : Store) : Type 0 where
   pub added : List Write

@@ -20,36 +20,48 @@ use Rattle.an_served.specs.NoteParts.{served}
 pub two_pieces : (a b c x y : List ℕ) → b ≡ a ++ x → c ≡ b ++ y → c ≡ a ++ (x ++ y)
 two_pieces a b c x y first second = second ∙ ap (λ front. front ++ y) first ∙ append_assoc a x y
 
-pub three_pieces : (a b c d x y z : List ℕ) → b ≡ a ++ x → c ≡ b ++ y → d ≡ c ++ z → d ≡ a ++ (x ++ (y ++ z))
+pub three_pieces : (a b c d x y z : List ℕ) → b ≡ a ++ x → c ≡ b ++ y → d ≡ c ++ z
+    → d ≡ a ++ (x ++ (y ++ z))
 three_pieces a b c d x y z first second third =
-    third ∙ ap (λ front. front ++ z) (two_pieces a b c x y first second) ∙ append_assoc a (x ++ y) z ∙ ap (λ last. a ++ last) (append_assoc x y z)
+    third ∙ ap (λ front. front ++ z) (two_pieces a b c x y first second) ∙ append_assoc a (x ++ y) z
+    ∙ ap (λ last. a ++ last) (append_assoc x y z)
 
-pub three_then : (a b c x y z w : List ℕ) → b ≡ a ++ (x ++ (y ++ z)) → c ≡ b ++ w → c ≡ a ++ (x ++ (y ++ (z ++ w)))
+pub three_then : (a b c x y z w : List ℕ) → b ≡ a ++ (x ++ (y ++ z)) → c ≡ b ++ w
+    → c ≡ a ++ (x ++ (y ++ (z ++ w)))
 three_then a b c x y z w first second =
     second ∙ ap (λ front. front ++ w) first ∙ append_assoc a (x ++ (y ++ z)) w
-    ∙ ap (λ last. a ++ last) (append_assoc x (y ++ z) w ∙ ap (λ last. x ++ last) (append_assoc y z w))
+    ∙ ap (λ last. a ++ last)
+    (append_assoc x (y ++ z) w ∙ ap (λ last. x ++ last) (append_assoc y z w))
 
-pub from_empty : (out high : List ℕ) (ms : Members) (later written : List ℕ) → written ≡ out ++ (commas (below high ms) ++ later)
+pub from_empty : (out high : List ℕ) (ms : Members) (later written : List ℕ)
+    → written ≡ out ++ (commas (below high ms) ++ later)
     → written ≡ out ++ (commas (below high (above [] ms)) ++ later)
-from_empty out high ms later written text = text ∙ ap (λ all. out ++ (commas (below high all) ++ later)) (sym (above-empty ms))
+from_empty out high ms later written text =
+    text ∙ ap (λ all. out ++ (commas (below high all) ++ later)) (sym (above-empty ms))
 
-pub no_shorter : (out new x : List ℕ) (start end : ℕ) → start ≡ length out → end ≡ length new → new ≡ out ++ x → start ≤ end
+pub no_shorter : (out new x : List ℕ) (start end : ℕ) → start ≡ length out → end ≡ length new
+    → new ≡ out ++ x → start ≤ end
 no_shorter out new x start end s e text = omega (arith, ap length text, length-append out x)
 
 -- ---- what is served is what is put in
 
-dressed_members : (id creator : List ℕ) (created : ℤ) (modified : Option ℤ) (ms : Members) → dressed id creator created modified (object ms) ≡ object (put_all (served id creator created modified) ms)
+dressed_members : (id creator : List ℕ) (created : ℤ) (modified : Option ℤ) (ms : Members)
+    → dressed id creator created modified (object ms)
+    ≡ object (put_all (served id creator created modified) ms)
 dressed_members id creator created None ms = refl
 dressed_members id creator created (Some moment) ms = refl
 
-dressed_is : (id creator : List ℕ) (created : ℤ) (modified : Option ℤ) (tree : Data) → is_object tree ≡ true
-    → dressed id creator created modified tree ≡ object (put_all (served id creator created modified) (members_in tree))
+dressed_is : (id creator : List ℕ) (created : ℤ) (modified : Option ℤ) (tree : Data)
+    → is_object tree ≡ true
+    → dressed id creator created modified tree
+    ≡ object (put_all (served id creator created modified) (members_in tree))
 dressed_is id creator created modified null h = absurd (cc)
 dressed_is id creator created modified (boolean b) h = absurd (cc)
 dressed_is id creator created modified (number n) h = absurd (cc)
 dressed_is id creator created modified (string text) h = absurd (cc)
 dressed_is id creator created modified (array items) h = absurd (cc)
-dressed_is id creator created modified (object ms) h = dressed_members id creator created modified ms
+dressed_is id creator created modified (object ms) h =
+    dressed_members id creator created modified ms
 
 -- the tree has none of the members that are put in
 pub record IsBare (ms : Members) : Type 0 where
@@ -69,24 +81,34 @@ bare_members ms h =
     let t = and_parts (is_none (get_member (codes "modified") ms)) _ s.1 in
     record { context = p.0; created = q.0; creator = r.0; id = s.0; modified = t.0 }
 
-lacks_members : (id creator : List ℕ) (created : ℤ) (modified : Option ℤ) (ms : Members) → IsBare ms → lacks (served id creator created modified) ms ≡ true
-lacks_members id creator created None ms h = and_from _ _ h.created (and_from _ _ h.creator (and_from _ _ h.id refl))
-lacks_members id creator created (Some moment) ms h = and_from _ _ h.created (and_from _ _ h.creator (and_from _ _ h.id (and_from _ _ h.modified refl)))
+lacks_members : (id creator : List ℕ) (created : ℤ) (modified : Option ℤ) (ms : Members) → IsBare ms
+    → lacks (served id creator created modified) ms ≡ true
+lacks_members id creator created None ms h =
+    and_from _ _ h.created (and_from _ _ h.creator (and_from _ _ h.id refl))
+lacks_members id creator created (Some moment) ms h =
+    and_from _ _ h.created
+    (and_from _ _ h.creator (and_from _ _ h.id (and_from _ _ h.modified refl)))
 
-names_ascend : (id creator : List ℕ) (created : ℤ) (modified : Option ℤ) → ascend ([] ∷ names (served id creator created modified)) ≡ true
+names_ascend : (id creator : List ℕ) (created : ℤ) (modified : Option ℤ)
+    → ascend ([] ∷ names (served id creator created modified)) ≡ true
 names_ascend id creator created None = refl
 names_ascend id creator created (Some moment) = refl
 
-context_first : (context id creator : List ℕ) (created : ℤ) (modified : Option ℤ) → ascend ([] ∷ codes "@context" ∷ names (served id creator created modified)) ≡ true
+context_first : (context id creator : List ℕ) (created : ℤ) (modified : Option ℤ)
+    → ascend ([] ∷ codes "@context" ∷ names (served id creator created modified)) ≡ true
 context_first context id creator created None = refl
 context_first context id creator created (Some moment) = refl
 
-context_before : (id creator : List ℕ) (created : ℤ) (modified : Option ℤ) → list_all (is_before (codes "@context")) (names (served id creator created modified)) ≡ true
+context_before : (id creator : List ℕ) (created : ℤ) (modified : Option ℤ)
+    → list_all (is_before (codes "@context")) (names (served id creator created modified)) ≡ true
 context_before id creator created None = refl
 context_before id creator created (Some moment) = refl
 
-spliced_is : (others ms : Members) → ascend ([] ∷ names others) ≡ true → ascend (names ms) ≡ true → lacks others ms ≡ true → spliced [] others ms ≡ commas (put_all others ms)
-spliced_is others ms order h none = sym (commas-put_all [] others ms order h none) ∙ ap (λ all. commas (put_all others all)) (above-empty ms)
+spliced_is : (others ms : Members) → ascend ([] ∷ names others) ≡ true → ascend (names ms) ≡ true
+    → lacks others ms ≡ true → spliced [] others ms ≡ commas (put_all others ms)
+spliced_is others ms order h none =
+    sym (commas-put_all [] others ms order h none)
+    ∙ ap (λ all. commas (put_all others all)) (above-empty ms)
 
 object_is : (tree : Data) → is_object tree ≡ true → object (members_in tree) ≡ tree
 object_is null h = absurd (cc)
@@ -101,13 +123,16 @@ pub record Dresses (others : Members) (whole tree : Data) : Type 0 where
   pub text : spliced [] others (members_in tree) ≡ commas (put_all others (members_in tree))
   pub members : object (put_all others (members_in tree)) ≡ whole
 
-pub dresses : (id creator : List ℕ) (created : ℤ) (modified : Option ℤ) (tree : Data) → IsTrue (is_tree tree) → note_refusal tree ≡ None → is_bare tree ≡ true
+pub dresses : (id creator : List ℕ) (created : ℤ) (modified : Option ℤ) (tree : Data)
+    → IsTrue (is_tree tree) → note_refusal tree ≡ None → is_bare tree ≡ true
     → Dresses (served id creator created modified) (dressed id creator created modified tree) tree
 dresses id creator created modified tree h note bare =
     let is = note_is_object tree note in
     let without = bare_members (members_in tree) (ap is_bare (object_is tree is) ∙ bare) in
     record {
-      text = spliced_is (served id creator created modified) (members_in tree) (names_ascend id creator created modified) (ordered tree h)
+      text =
+          spliced_is (served id creator created modified) (members_in tree)
+          (names_ascend id creator created modified) (ordered tree h)
           (lacks_members id creator created modified (members_in tree) without);
       members = sym (dressed_is id creator created modified tree is);
     }
@@ -116,15 +141,25 @@ none_from : (o : Option Data) → is_none o ≡ true → o ≡ None
 none_from None h = refl
 none_from (Some d) h = absurd (cc)
 
-pub shows : (context id creator : List ℕ) (created : ℤ) (modified : Option ℤ) (tree : Data) → IsTrue (is_tree tree) → note_refusal tree ≡ None → is_bare tree ≡ true
-    → Dresses (member (codes "@context") (string context) (served id creator created modified)) (with_member (codes "@context") (string context) (dressed id creator created modified tree)) tree
+pub shows : (context id creator : List ℕ) (created : ℤ) (modified : Option ℤ) (tree : Data)
+    → IsTrue (is_tree tree) → note_refusal tree ≡ None → is_bare tree ≡ true
+    → Dresses (member (codes "@context") (string context) (served id creator created modified))
+    (with_member (codes "@context") (string context) (dressed id creator created modified tree))
+    tree
 shows context id creator created modified tree h note bare =
     let is = note_is_object tree note in
     let others = served id creator created modified in
     let without = bare_members (members_in tree) (ap is_bare (object_is tree is) ∙ bare) in
     record {
-      text = spliced_is (member (codes "@context") (string context) others) (members_in tree) (context_first context id creator created modified) (ordered tree h)
-          (and_from _ _ without.context (lacks_members id creator created modified (members_in tree) without));
-      members = ap object (sym (put_outermost (codes "@context") (string context) others (members_in tree) (ordered tree h) (none_from _ without.context) (context_before id creator created modified)))
-          ∙ ap (with_member (codes "@context") (string context)) (sym (dressed_is id creator created modified tree is));
+      text =
+          spliced_is (member (codes "@context") (string context) others) (members_in tree)
+          (context_first context id creator created modified) (ordered tree h)
+          (and_from _ _ without.context
+          (lacks_members id creator created modified (members_in tree) without));
+      members =
+          ap object (sym (put_outermost (codes "@context") (string context) others
+          (members_in tree) (ordered tree h) (none_from _ without.context)
+          (context_before id creator created modified)))
+          ∙ ap (with_member (codes "@context") (string context))
+          (sym (dressed_is id creator created modified tree is));
     }

@@ -36,14 +36,16 @@ row-adds s (kept.Manifest row) = no_more s.activities
 row-adds s (kept.Note row) = no_more s.activities
 row-adds s (kept.Activity activity) = refl
 
-rows-add : (rows : List Row) (s : State) → (with_rows rows s).activities ≡ s.activities ++ flat_map added_by_row rows
+rows-add : (rows : List Row) (s : State)
+    → (with_rows rows s).activities ≡ s.activities ++ flat_map added_by_row rows
 rows-add [] s = no_more s.activities
 rows-add (row ∷ rows) s =
     rows-add rows (with_row s row)
     ∙ ap (λ (l : List Activity). l ++ flat_map added_by_row rows) (row-adds s row)
     ∙ joined s.activities (added_by_row row) (flat_map added_by_row rows)
 
-entry-adds : (entry : Entry) (s : State) → (after s entry).activities ≡ s.activities ++ added_by entry
+entry-adds : (entry : Entry) (s : State)
+    → (after s entry).activities ≡ s.activities ++ added_by entry
 entry-adds (Restored row) s = row-adds s row
 entry-adds (Done command moment by rows activities) s =
     ap (λ (l : List Activity). l ++ activities) (rows-add rows s)
@@ -52,32 +54,47 @@ entry-adds (Done command moment by rows activities) s =
 -- ---- changes
 
 pub changes-empty : (kept : KeptChanges) → kept.rows ≡ [] → AreChanges empty [] kept
-changes-empty kept none = record { activities = ap activities_in none; filed = subst (All (IsChangeFiled [] kept.pairs)) (sym none) (All-nil (IsChangeFiled [] kept.pairs)) }
+changes-empty kept none = record {
+  activities = ap activities_in none;
+  filed =
+      subst (All (IsChangeFiled [] kept.pairs)) (sym none) (All-nil (IsChangeFiled [] kept.pairs));
+}
 
 -- with more classes and pairs the changes are kept still
-pub changes-grown : (s : State) (old new : List Audience) (before after : KeptChanges) → Grows old new → Extends before.pairs after.pairs → after.rows ≡ before.rows → AreChanges s old before → AreChanges s new after
+pub changes-grown : (s : State) (old new : List Audience) (before after : KeptChanges)
+    → Grows old new → Extends before.pairs after.pairs → after.rows ≡ before.rows
+    → AreChanges s old before → AreChanges s new after
 changes-grown s old new before after grows extends rows are = record {
   activities = ap activities_in rows ∙ are.activities;
   filed = subst (All (IsChangeFiled new after.pairs)) (sym rows)
-      (All-gives (IsChangeFiled old before.pairs) (IsChangeFiled new after.pairs) before.rows (change-grown old new grows before.pairs after.pairs extends) are.filed);
+      (All-gives (IsChangeFiled old before.pairs) (IsChangeFiled new after.pairs) before.rows
+      (change-grown old new grows before.pairs after.pairs extends) are.filed);
 }
 
 -- the same with the same pairs
-pub classes-grown : (s : State) (old new : List Audience) (kept : KeptChanges) → Grows old new → AreChanges s old kept → AreChanges s new kept
-classes-grown s old new kept grows = changes-grown s old new kept kept grows (Extends-refl kept.pairs) refl
+pub classes-grown : (s : State) (old new : List Audience) (kept : KeptChanges) → Grows old new
+    → AreChanges s old kept → AreChanges s new kept
+classes-grown s old new kept grows =
+    changes-grown s old new kept kept grows (Extends-refl kept.pairs) refl
 
 -- the same where the entry's rows are planned too
-pub changes-prepared : (s t : State) (first old new : List Audience) (before after : KeptChanges) → t ≡ s → Grows first old → Grows old new → Extends before.pairs after.pairs → after.rows ≡ before.rows
+pub changes-prepared : (s t : State) (first old new : List Audience) (before after : KeptChanges)
+    → t ≡ s → Grows first old → Grows old new → Extends before.pairs after.pairs
+    → after.rows ≡ before.rows
     → AreChanges s first before → AreChanges t new after
 changes-prepared s t first old new before after same grows more extends rows are =
-    subst (λ (u : State). AreChanges u new after) (sym same) (classes-grown s old new after more (changes-grown s first old before after grows extends rows are))
+    subst (λ (u : State). AreChanges u new after) (sym same)
+    (classes-grown s old new after more
+    (changes-grown s first old before after grows extends rows are))
 
 pub ruleset kept_changes = (changes-grown, listing-grown)
 
 -- behind an entry its changes are kept too
-pub changes-after : (entry : Entry) (s : State) (classes : List Audience) (before later : KeptChanges) (added : List FiledChange) → AreChanges s classes before
+pub changes-after : (entry : Entry) (s : State) (classes : List Audience)
+    (before later : KeptChanges) (added : List FiledChange) → AreChanges s classes before
     → later.rows ≡ before.rows ++ added → later.pairs ≡ before.pairs
-    → activities_in added ≡ added_by entry → All (IsChangeFiled classes before.pairs) added → AreChanges (after s entry) classes later
+    → activities_in added ≡ added_by entry → All (IsChangeFiled classes before.pairs) added
+    → AreChanges (after s entry) classes later
 changes-after entry s classes before later added are rows pairs is filed = record {
   activities =
       ap activities_in rows
@@ -85,5 +102,7 @@ changes-after entry s classes before later added are rows pairs is filed = recor
       ∙ ap (λ (l : List Activity). l ++ activities_in added) are.activities
       ∙ ap (λ (l : List Activity). s.activities ++ l) is
       ∙ sym (entry-adds entry s);
-  filed = rw (rows, pairs) (All-append (IsChangeFiled classes before.pairs) before.rows added are.filed filed);
+  filed =
+      rw (rows, pairs)
+      (All-append (IsChangeFiled classes before.pairs) before.rows added are.filed filed);
 }

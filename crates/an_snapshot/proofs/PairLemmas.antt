@@ -25,30 +25,37 @@ same_pair-true a b h =
     λ i. record { before = before i; after = after i }
 
 pub same_pair-refl : (a : ClassChange) → same_pair a a ≡ true
-same_pair-refl a = and_from (same_class a.before a.before) _ (same_class-refl a.before) (same_class-refl a.after)
+same_pair-refl a =
+    and_from (same_class a.before a.before) _ (same_class-refl a.before) (same_class-refl a.after)
 
 pub Extends-refl : (pairs : List ClassChange) → Extends pairs pairs
 Extends-refl pairs number pair is = is
 
-slice_get-push : {A : Type 0} (xs : List A) (x y : A) (n : ℕ) → slice_get xs n ≡ Some y → slice_get (xs ++ x ∷ []) n ≡ Some y
+slice_get-push : {A : Type 0} (xs : List A) (x y : A) (n : ℕ) → slice_get xs n ≡ Some y
+    → slice_get (xs ++ x ∷ []) n ≡ Some y
 slice_get-push [] x y n h = absurd (cc)
 slice_get-push (z ∷ xs) x y zero h = h
 slice_get-push (z ∷ xs) x y (suc n) h = slice_get-push xs x y n h
 
-pub Extends-push : (added : ClassChange) (pairs : List ClassChange) → Extends pairs (pairs ++ added ∷ [])
+pub Extends-push : (added : ClassChange) (pairs : List ClassChange)
+    → Extends pairs (pairs ++ added ∷ [])
 Extends-push added pairs number pair is = slice_get-push pairs added pair number is
 
-pub Extends-with_pair : (added : ClassChange) (pairs : List ClassChange) → Extends pairs (with_pair added pairs)
+pub Extends-with_pair : (added : ClassChange) (pairs : List ClassChange)
+    → Extends pairs (with_pair added pairs)
 Extends-with_pair added pairs = grows (place_of_key same_pair added pairs)
   where
-    grows : (found : Option ℕ) → Extends pairs (elim found [ None ↦ pairs ++ added ∷ [] | Some n ↦ pairs ])
+    grows : (found : Option ℕ)
+        → Extends pairs (elim found [ None ↦ pairs ++ added ∷ [] | Some n ↦ pairs ])
     grows None = Extends-push added pairs
     grows (Some n) = Extends-refl pairs
 
 -- a pair stands where it is found
-pub pair-there : (pair : ClassChange) (pairs : List ClassChange) (number : ℕ) → place_of_key same_pair pair pairs ≡ Some number → slice_get pairs number ≡ Some pair
+pub pair-there : (pair : ClassChange) (pairs : List ClassChange) (number : ℕ)
+    → place_of_key same_pair pair pairs ≡ Some number → slice_get pairs number ≡ Some pair
 pair-there pair pairs number is =
     let at = position-Some (λ other. same_pair other pair) pairs number pair is in
-    slice_get_read pairs (length pairs) number pair refl at.0 (sym (same_pair-true (get_or pairs number pair) pair at.1))
+    slice_get_read pairs (length pairs) number pair refl at.0
+    (sym (same_pair-true (get_or pairs number pair) pair at.1))
 
 pub ruleset growth = (Extends-with_pair, Extends-push, Extends-refl, pair-there)

@@ -14,18 +14,28 @@ module _ {A : Type 0} (all : List A) (test q : A → Bool) where
   at place = elim (slice_get all place) [ None ↦ true | Some x ↦ q x ]
 
   -- all places of those that pass the one test pass the other where all of them do
-  places-all : (place : ℕ) (rows : List A) → ((k : ℕ) → slice_get all (place + k) ≡ slice_get rows k) → list_all at (places_from test place rows) ≡ list_all q (filter test rows)
+  places-all : (place : ℕ) (rows : List A)
+      → ((k : ℕ) → slice_get all (place + k) ≡ slice_get rows k)
+      → list_all at (places_from test place rows) ≡ list_all q (filter test rows)
   places-all place [] is = refl
   places-all place (row ∷ rows) is =
       let zero-is : place + 0 ≡ place = omega arith in
-      let here : at place ≡ q row = ap (λ (o : Option A). elim o [ None ↦ true | Some x ↦ q x ]) (ap (slice_get all) (sym zero-is) ∙ is 0) in
-      let rest = places-all (place + 1) rows (λ k. let next : place + 1 + k ≡ place + suc k = omega arith in ap (slice_get all) next ∙ is (suc k)) in
+      let here : at place ≡ q row =
+      ap (λ (o : Option A). elim o [ None ↦ true | Some x ↦ q x ])
+      (ap (slice_get all) (sym zero-is) ∙ is 0) in
+      let rest =
+      places-all (place + 1) rows
+      (λ k.
+      let next : place + 1 + k ≡ place + suc k = omega arith in
+      ap (slice_get all) next ∙ is (suc k)) in
       elim (cases_Bool (test row)) [
         | inl on ↦ rw (on, here, rest) refl
         | inr off ↦ rw (off, rest) refl
       ]
 
-all-notes : (test q : NoteState → Bool) (rows : List Filed) → list_all (λ (f : Filed). q f.note) (filter (λ (f : Filed). test f.note) rows) ≡ list_all q (filter test (map (λ (f : Filed). f.note) rows))
+all-notes : (test q : NoteState → Bool) (rows : List Filed)
+    → list_all (λ (f : Filed). q f.note) (filter (λ (f : Filed). test f.note) rows)
+    ≡ list_all q (filter test (map (λ (f : Filed). f.note) rows))
 all-notes test q [] = refl
 all-notes test q (row ∷ rows) = elim (cases_Bool (test row.note)) [
   | inl on ↦ rw (on, all-notes test q rows) refl
@@ -33,9 +43,12 @@ all-notes test q (row ∷ rows) = elim (cases_Bool (test row.note)) [
 ]
 
 -- each live annotation on a manifest is among these where each at their places is
-pub cleared-places : (s : State) (notes : List NoteState) (rows : List Filed) (manifest : List ℕ) → map (λ (f : Filed). f.note) rows ≡ s.notes
-    → list_all (has_place notes rows) (places_from (λ (f : Filed). is_on manifest f.note) 0 rows) ≡ list_all (has_note notes) (filter (is_on manifest) s.notes)
+pub cleared-places : (s : State) (notes : List NoteState) (rows : List Filed) (manifest : List ℕ)
+    → map (λ (f : Filed). f.note) rows ≡ s.notes
+    → list_all (has_place notes rows) (places_from (λ (f : Filed). is_on manifest f.note) 0 rows)
+    ≡ list_all (has_note notes) (filter (is_on manifest) s.notes)
 cleared-places s notes rows manifest is =
-    places-all rows (λ f. is_on manifest f.note) (λ f. has_note notes f.note) 0 rows (λ k. let none : 0 + k ≡ k = omega arith in ap (slice_get rows) none)
+    places-all rows (λ f. is_on manifest f.note) (λ f. has_note notes f.note) 0 rows
+    (λ k. let none : 0 + k ≡ k = omega arith in ap (slice_get rows) none)
     ∙ all-notes (is_on manifest) (has_note notes) rows
     ∙ ap (λ (l : List NoteState). list_all (has_note notes) (filter (is_on manifest) l)) is

@@ -74,16 +74,21 @@ module _ (D : RattleType) (g : Disk.Ghosts D.Denot) where
   log_send files = search (index_send, heap.crosses, sendable) depth 60 fits 40000
 
   pager_send : IsSend D → IsSend (Pager.the_row D g)
-  pager_send files = let log = log_send files in search (layer_send, heap.crosses, sendable) depth 60 fits 40000
+  pager_send files =
+      let log = log_send files in search (layer_send, heap.crosses, sendable) depth 60 fits 40000
 
   backing_send : IsSend D → IsSend (Backing.the_row D g)
-  backing_send files = let pager = pager_send files in search (heap.crosses, sendable) depth 60 fits 40000
+  backing_send files =
+      let pager = pager_send files in search (heap.crosses, sendable) depth 60 fits 40000
 
   pool_send : IsSend D → IsSend (Pool.the_row D g)
-  pool_send files = let backing = backing_send files in search (heap.crosses, sendable) depth 60 fits 40000
+  pool_send files =
+      let backing = backing_send files in search (heap.crosses, sendable) depth 60 fits 40000
 
   pub store_send : IsSend D → IsSend (FileStore.the_row D g)
-  store_send files = let pool = pool_send files in search (wanted_send, saved_send, cursor_send, heap.crosses, sendable) depth 60 fits 40000
+  store_send files =
+      let pool = pool_send files in
+      search (wanted_send, saved_send, cursor_send, heap.crosses, sendable) depth 60 fits 40000
 
 items_send : (T : RattleType) → IsSend T → IsSend (Items.the_row T)
 items_send T each = search (heap.crosses, sendable) depth 40 fits 20000
@@ -92,7 +97,8 @@ value_send : IsSend Value.the_row
 value_send = search (heap.crosses, sendable) depth 40 fits 20000
 
 op_send : IsSend Op.the_row
-op_send = search (value_send, variants_send, as_row_send, heap.crosses, sendable) depth 40 fits 20000
+op_send =
+    search (value_send, variants_send, as_row_send, heap.crosses, sendable) depth 40 fits 20000
 
 stage_send : IsSend Stage.the_row
 stage_send = search (items_send, heap.crosses, sendable) depth 40 fits 20000
@@ -113,7 +119,8 @@ column_send : IsSend Column.the_row
 column_send = search (heap.crosses, sendable) depth 40 fits 20000
 
 table_send : IsSend Table.the_row
-table_send = search (column_send, terms_send, items_send, heap.crosses, sendable) depth 40 fits 20000
+table_send =
+    search (column_send, terms_send, items_send, heap.crosses, sendable) depth 40 fits 20000
 
 index_row_send : IsSend Index.the_row
 index_row_send = search (items_send, heap.crosses, sendable) depth 40 fits 20000
@@ -122,28 +129,49 @@ view_row_send : IsSend View.the_row
 view_row_send = search (heap.crosses, sendable) depth 40 fits 20000
 
 schema_send : IsSend Schema.the_row
-schema_send = search (table_send, index_row_send, view_row_send, items_send, heap.crosses, sendable) depth 40 fits 20000
+schema_send =
+    search (table_send, index_row_send, view_row_send, items_send, heap.crosses, sendable) depth
+    40 fits 20000
 
 history_send : IsSend History.the_row
 history_send = search (schema_send, heap.crosses, sendable) depth 40 fits 20000
 
 source_send : IsSend Source.the_row
-source_send = search (terms_send, program_send, variants_send, as_row_send, heap.crosses, sendable) depth 40 fits 20000
+source_send =
+    search (terms_send, program_send, variants_send, as_row_send, heap.crosses, sendable) depth
+    40 fits 20000
 
 upsert_send : IsSend Upsert.the_row
 upsert_send = search (program_send, items_send, heap.crosses, sendable) depth 40 fits 20000
 
 returning_send : IsSend Returning.the_row
-returning_send = search (source_send, items_send, declared_send, as_row_send, heap.crosses, sendable) depth 40 fits 20000
+returning_send =
+    search (source_send, items_send, declared_send, as_row_send, heap.crosses, sendable) depth
+    40 fits 20000
 
 command_send : IsSend Command.the_row
-command_send = search (source_send, upsert_send, program_send, value_send, items_send, variants_send, as_row_send, heap.crosses, sendable) depth 40 fits 20000
+command_send =
+    search (
+      source_send,
+      upsert_send,
+      program_send,
+      value_send,
+      items_send,
+      variants_send,
+      as_row_send,
+      heap.crosses,
+      sendable,
+    ) depth 40 fits 20000
 
 compiled_send : IsSend Compiled.the_row
-compiled_send = search (command_send, returning_send, items_send, declared_send, as_row_send, heap.crosses, sendable) depth 40 fits 20000
+compiled_send =
+    search
+    (command_send, returning_send, items_send, declared_send, as_row_send, heap.crosses, sendable)
+    depth 40 fits 20000
 
 entry_send : IsSend Entry.the_row
-entry_send = search (compiled_send, declared_send, as_row_send, heap.crosses, sendable) depth 40 fits 20000
+entry_send =
+    search (compiled_send, declared_send, as_row_send, heap.crosses, sendable) depth 40 fits 20000
 
 workspace_send : IsSend Workspace.the_row
 workspace_send = search (heap.crosses, sendable) depth 40 fits 20000
@@ -153,7 +181,19 @@ reading_send = search (row_send, heap.crosses, sendable) depth 40 fits 20000
 
 module _ (S : RattleType) (g : Store.Ghosts S.Denot) where
   connection_send : IsSend S → IsSend (Connection.the_row S g)
-  connection_send store = search (schema_send, history_send, entry_send, reading_send, workspace_send, view_send, declared_send, as_row_send, heap.crosses, sendable) depth 60 fits 40000
+  connection_send store =
+      search (
+        schema_send,
+        history_send,
+        entry_send,
+        reading_send,
+        workspace_send,
+        view_send,
+        declared_send,
+        as_row_send,
+        heap.crosses,
+        sendable,
+      ) depth 60 fits 40000
 
 record_send : IsSend Record.the_row
 record_send = owning_send Record.the_type (search sendable, tt) (λ d. tt) (λ k x w. tt)
@@ -170,18 +210,26 @@ ahead_send = search (row_send, heap.crosses, sendable) depth 40 fits 20000
 
 module _ (S : RattleType) (g : Store.Ghosts S.Denot) where
   base_send : IsSend S → IsSend (Base.the_row S g)
-  base_send store = let connection = connection_send S g store in search (ahead_send, declared_send, as_row_send, heap.crosses, sendable) depth 60 fits 40000
+  base_send store =
+      let connection = connection_send S g store in
+      search (ahead_send, declared_send, as_row_send, heap.crosses, sendable) depth 60 fits 40000
 
 snapshot_send : (T : RattleType) → IsSend (Snapshot.the_row T)
 snapshot_send T = owning_send (Snapshot.the_type T) (search sendable, tt) (λ d. tt) (λ k x w. tt)
 
 module _ (S : RattleType) (g : Store.Ghosts S.Denot) where
   teller_send : IsSend S → IsSend (Teller.the_row S g)
-  teller_send store = let base = base_send S g store in search (snapshot_send, declared_send, heap.crosses, sendable) depth 60 fits 40000
+  teller_send store =
+      let base = base_send S g store in
+      search (snapshot_send, declared_send, heap.crosses, sendable) depth 60 fits 40000
 
 module _ (S : RattleType) (g : Store.Ghosts S.Denot) where
   place_send : IsSend S → IsSend (Connecting.the_row S g)
-  place_send store = let teller = teller_send S g store in search (variants_send, as_row_send, heap.crosses, sendable) depth 60 fits 40000
+  place_send store =
+      let teller = teller_send S g store in
+      search (variants_send, as_row_send, heap.crosses, sendable) depth 60 fits 40000
 
   pub keeper_send : IsSend S → IsSend (SqlKeeper.the_row S g)
-  keeper_send store = let place = place_send store in search (declared_send, as_row_send, heap.crosses, sendable) depth 60 fits 40000
+  keeper_send store =
+      let place = place_send store in
+      search (declared_send, as_row_send, heap.crosses, sendable) depth 60 fits 40000

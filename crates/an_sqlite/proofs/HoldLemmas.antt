@@ -20,18 +20,23 @@ use Rattle.an_sqlite.specs.Tells.{Rises, Tells, cells_of}
 use Rattle.an_sqlite.proofs.ChangeLemmas.{tells_from}
 
 -- what is live and lists this schema has it
-has_schema : (d : Database) (db : Trees) (schema : Schema) → IsDatabase d → d.trees ≡ db → Lists (db catalog_tree) schema → d.schema ≡ schema
-has_schema d db schema sound is lists = lists_once (d.trees catalog_tree) d.schema schema sound.lists (subst (λ (t : Trees). Lists (t catalog_tree) schema) (sym is) lists)
+has_schema : (d : Database) (db : Trees) (schema : Schema) → IsDatabase d → d.trees ≡ db
+    → Lists (db catalog_tree) schema → d.schema ≡ schema
+has_schema d db schema sound is lists =
+    lists_once (d.trees catalog_tree) d.schema schema sound.lists
+    (subst (λ (t : Trees). Lists (t catalog_tree) schema) (sym is) lists)
 
 not_there : (image : Image) → image.db ≡ [] → 0 < length image.db → ⊥
 not_there image empty present = let none = ap length empty in omega (arith, present, none)
 
 -- an empty file is no database, whatever its log holds
-nothing_found : (image : Image) (db : Trees) → image.db ≡ [] → AreFoundIn image db → db catalog_tree ≡ []
+nothing_found : (image : Image) (db : Trees) → image.db ≡ [] → AreFoundIn image db
+    → db catalog_tree ≡ []
 nothing_found image db empty (inl found) = absurd (not_there image empty found.3.found.present)
 nothing_found image db empty (inr nothing) = nothing.1.1
 
-module _ (image : Image) (s : State) (opens : Opens s) (live : IsLive s) (finds : FindsIn image s) where
+module _ (image : Image) (s : State) (opens : Opens s) (live : IsLive s)
+    (finds : FindsIn image s) where
   sound : IsDatabase s.now
   sound = (live opens.is_open).0
 
@@ -41,13 +46,16 @@ module _ (image : Image) (s : State) (opens : Opens s) (live : IsLive s) (finds 
   table_found : (cells : List Cell) → HoldTable image cells → Tells s × (cells_of s ≡ cells)
   table_found cells holds =
       let is = trees_are holds.db (finds.holds holds.db holds.holds) in
-      let schema = has_schema s.now holds.db cell_schema sound is holds.lists in
-      (tells_from s schema sound (subst (λ (t : Trees). Rises (t 0)) (sym is) holds.rises), ap (λ (t : Trees). table (t 0)) is ∙ holds.are)
+      let schema = has_schema s.now holds.db cell_schema sound is holds.lists in (
+        tells_from s schema sound (subst (λ (t : Trees). Rises (t 0)) (sym is) holds.rises),
+        ap (λ (t : Trees). table (t 0)) is ∙ holds.are,
+      )
 
   none_found : image.db ≡ [] → s.now.schema ≡ no_schema
   none_found empty =
       let none = nothing_found image s.committed.trees empty finds.reads in
-      has_schema s.now s.committed.trees no_schema sound (trees_are s.committed.trees refl) (empty_is_sound s.committed.trees none).lists
+      has_schema s.now s.committed.trees no_schema sound (trees_are s.committed.trees refl)
+      (empty_is_sound s.committed.trees none).lists
 
   -- what is opened begins with the cells that the files hold
   pub finds_cells : (cells : List Cell) → Hold image cells → BeginsWith s cells

@@ -25,7 +25,8 @@ pub record IsAt (tab key : ℕ) (r : Row) : Type 0 where
 -- each row is one of a cell, and no two have one table and key
 pub record AreCells (rows : List Row) : Type 0 where
   pub typed : (r : Row) → Has rows r → IsCellRow r
-  pub once : (tab key : ℕ) (r s : Row) → Has rows r → Has rows s → IsAt tab key r → IsAt tab key s → r ≡ s
+  pub once : (tab key : ℕ) (r s : Row) → Has rows r → Has rows s → IsAt tab key r → IsAt tab key s
+      → r ≡ s
 
 -- no row had the table and key, and there is one more, behind the others
 pub record Adds (tab key : ℕ) (val : List ℕ) (old new : List Row) : Type 0 where
@@ -38,7 +39,8 @@ pub record Replaces (tab key : ℕ) (val : List ℕ) (old new : List Row) : Type
   pub row : Row
   pub listed : Has old row
   pub at : IsAt tab key row
-  pub is : new ≡ put_row (row_of (id_in (rowid row)) tab key val) (without_rowid (id_in (rowid row)) old)
+  pub is : new
+      ≡ put_row (row_of (id_in (rowid row)) tab key val) (without_rowid (id_in (rowid row)) old)
 
 abbrev pub Puts : ℕ → ℕ → List ℕ → List Row → List Row → Type 0
 Puts tab key val old new = Adds tab key val old new ⊎ Replaces tab key val old new

@@ -37,14 +37,16 @@ int_of (Real x) h k = absurd (true≢false (sym h))
 int_of (Text t) h k = absurd (true≢false (sym h))
 int_of (Blob b) h k = absurd (true≢false (sym h))
 
-blob_of : (v : Value) → is_of kind.Blob v ≡ true → not (is_null v) ≡ true → (b : List ℕ) × (v ≡ Blob b)
+blob_of : (v : Value) → is_of kind.Blob v ≡ true → not (is_null v) ≡ true
+    → (b : List ℕ) × (v ≡ Blob b)
 blob_of Null h k = absurd (true≢false (sym k))
 blob_of (Int n) h k = absurd (true≢false (sym h))
 blob_of (Real x) h k = absurd (true≢false (sym h))
 blob_of (Text t) h k = absurd (true≢false (sym h))
 blob_of (Blob b) h k = (b, refl)
 
-no_less : (n : ℤ) → not (is_false (binary (Compare Ge Binary) (Int n) (Int (pos 0)))) ≡ true → (k : ℕ) × (n ≡ pos k)
+no_less : (n : ℤ) → not (is_false (binary (Compare Ge Binary) (Int n) (Int (pos 0)))) ≡ true
+    → (k : ℕ) × (n ≡ pos k)
 unfolding binary
 no_less (pos k) h = (k, refl)
 no_less (negsuc k) h = absurd (true≢false (sym (rw (value_cmp-Int (negsuc k) (pos 0)) at h)))
@@ -55,32 +57,52 @@ low_is k h = grind (arith, ints, nat_tests)
 no_below : (k : ℕ) → is_ge (int_cmp (pos k) (pos 0)) ≡ true
 no_below k = grind (arith, ints, nat_tests)
 
-within : (n : ℤ) → not (is_false (binary And (binary (Compare Ge Binary) (Int n) (Int (pos 0))) (binary (Compare Le Binary) (Int n) (Int (pos 255))))) ≡ true
+within : (n : ℤ)
+    → not (is_false (binary And (binary (Compare Ge Binary) (Int n) (Int (pos 0)))
+    (binary (Compare Le Binary) (Int n) (Int (pos 255))))) ≡ true
     → (k : ℕ) × (n ≡ pos k) × (k ≤ 255)
 unfolding binary
 within (negsuc k) h = absurd (true≢false (sym (rw (value_cmp-Int (negsuc k) (pos 0)) at h)))
 within (pos k) h = elim (cases_Bool (is_le (int_cmp (pos k) (pos 255)))) [
   | inl low ↦ (k, refl, low_is k low)
-  | inr high ↦ absurd (true≢false (sym (rw (value_cmp-Int (pos k) (pos 0), value_cmp-Int (pos k) (pos 255), no_below k, high) at h)))
+  | inr high ↦
+      absurd (true≢false (sym
+      (rw (value_cmp-Int (pos k) (pos 0), value_cmp-Int (pos k) (pos 255), no_below k, high) at h)))
 ]
 
-from_values : (i a b c : Value) (m n : ℤ) (v : List ℕ) → a ≡ Int m → b ≡ Int n → c ≡ Blob v → is_int i ≡ true → passes_checks cells (i ∷ a ∷ b ∷ c ∷ []) ≡ true → IsCellRow (i ∷ a ∷ b ∷ c ∷ [])
+from_values : (i a b c : Value) (m n : ℤ) (v : List ℕ) → a ≡ Int m → b ≡ Int n → c ≡ Blob v
+    → is_int i ≡ true → passes_checks cells (i ∷ a ∷ b ∷ c ∷ []) ≡ true
+    → IsCellRow (i ∷ a ∷ b ∷ c ∷ [])
 from_values i a b c m n v is_a is_b is_c keyed checks =
     let tests = and_parts _ _ (rw (is_a, is_b) at checks) in
     let low = within m tests.0 in
     let up = no_less n (and_parts _ _ tests.1).0 in
-    record { id = id_in i; tab = low.0; key = up.0; val = v; is = four (int_is i keyed) (is_a ∙ ap Int low.1) (is_b ∙ ap Int up.1) is_c; low = low.2 }
+    record {
+      id = id_in i;
+      tab = low.0;
+      key = up.0;
+      val = v;
+      is = four (int_is i keyed) (is_a ∙ ap Int low.1) (is_b ∙ ap Int up.1) is_c;
+      low = low.2;
+    }
   where
-    four : {a b c d e f g h : Value} → a ≡ e → b ≡ f → c ≡ g → d ≡ h → a ∷ b ∷ c ∷ d ∷ [] ≡ e ∷ f ∷ g ∷ h ∷ []
+    four : {a b c d e f g h : Value} → a ≡ e → b ≡ f → c ≡ g → d ≡ h
+        → a ∷ b ∷ c ∷ d ∷ [] ≡ e ∷ f ∷ g ∷ h ∷ []
     four p q r s = rw (p, q, r, s) refl
 
-pub cell_row : (r : Row) → is_int (rowid r) ≡ true → are_typed None 0 cells.columns (drop 1 r) ≡ true → are_present None 0 cells.columns r ≡ true → passes_checks cells r ≡ true → IsCellRow r
+pub cell_row : (r : Row) → is_int (rowid r) ≡ true
+    → are_typed None 0 cells.columns (drop 1 r) ≡ true → are_present None 0 cells.columns r ≡ true
+    → passes_checks cells r ≡ true → IsCellRow r
 cell_row [] keyed typed present checks = absurd (true≢false (sym keyed))
 cell_row (i ∷ []) keyed typed present checks = absurd (true≢false (sym present))
-cell_row (i ∷ a ∷ []) keyed typed present checks = absurd (true≢false (sym (and_parts _ _ present).1))
-cell_row (i ∷ a ∷ b ∷ []) keyed typed present checks = absurd (true≢false (sym (and_parts _ _ (and_parts _ _ present).1).1))
+cell_row (i ∷ a ∷ []) keyed typed present checks =
+    absurd (true≢false (sym (and_parts _ _ present).1))
+cell_row (i ∷ a ∷ b ∷ []) keyed typed present checks =
+    absurd (true≢false (sym (and_parts _ _ (and_parts _ _ present).1).1))
 cell_row (i ∷ a ∷ b ∷ c ∷ d ∷ more) keyed typed present checks =
-    absurd (true≢false (sym (never (suits (column_of (codes "tab") kind.Integer) a) (suits (column_of (codes "key") kind.Integer) b) (suits (column_of (codes "val") kind.Blob) c) typed)))
+    absurd (true≢false (sym (never (suits (column_of (codes "tab") kind.Integer) a)
+    (suits (column_of (codes "key") kind.Integer) b)
+    (suits (column_of (codes "val") kind.Blob) c) typed)))
   where
     never : (x y z : Bool) → x && (y && (z && false)) ≡ true → false ≡ true
     never true true true h = h
@@ -116,9 +138,12 @@ truth_is false = refl
 
 pub equal_is : (how : Collation) (m n : ℤ) → equal how (Int m) (Int n) ≡ true → m ≡ n
 unfolding binary
-equal_is Binary m n h = eq_truth (int_cmp m n) m n refl (sym (truth_is _) ∙ rw (value_cmp-Int m n) at h)
-equal_is NoCase m n h = eq_truth (int_cmp m n) m n refl (sym (truth_is _) ∙ rw (value_cmp-Int m n) at h)
-equal_is RTrim m n h = eq_truth (int_cmp m n) m n refl (sym (truth_is _) ∙ rw (value_cmp-Int m n) at h)
+equal_is Binary m n h =
+    eq_truth (int_cmp m n) m n refl (sym (truth_is _) ∙ rw (value_cmp-Int m n) at h)
+equal_is NoCase m n h =
+    eq_truth (int_cmp m n) m n refl (sym (truth_is _) ∙ rw (value_cmp-Int m n) at h)
+equal_is RTrim m n h =
+    eq_truth (int_cmp m n) m n refl (sym (truth_is _) ∙ rw (value_cmp-Int m n) at h)
 
 no_ne : (o : Ordering) → is_ne o ≡ false → o ≡ Equal
 no_ne Less h = absurd (true≢false h)
@@ -135,22 +160,45 @@ are_cells db rises obeys = record { typed = typed; once = once }
     typed : (r : Row) → Has (db 0) r → IsCellRow r
     typed r h =
         let d = and_parts _ _ (all_has _ (db 0) r (obeys.rules Datatype).0 h) in
-        cell_row r (all_has _ (db 0) r rises.1 h) d.0 (all_has _ (db 0) r (obeys.rules NotNull).0 h) (all_has _ (db 0) r (obeys.rules Check).0 h)
+        cell_row r (all_has _ (db 0) r rises.1 h) d.0 (all_has _ (db 0) r (obeys.rules NotNull).0 h)
+        (all_has _ (db 0) r (obeys.rules Check).0 h)
 
-    once : (tab key : ℕ) (r s : Row) → Has (db 0) r → Has (db 0) s → IsAt tab key r → IsAt tab key s → r ≡ s
+    once : (tab key : ℕ) (r s : Row) → Has (db 0) r → Has (db 0) s → IsAt tab key r → IsAt tab key s
+        → r ≡ s
     once tab key r s h k p q =
-        let alone : clashes plain (1 ∷ 2 ∷ []) (db 0) s ≡ false = not-true _ (and_parts _ _ (all_has _ (db 0) s (obeys.rules Unique).0 k)).0 in
+        let alone : clashes plain (1 ∷ 2 ∷ []) (db 0) s ≡ false =
+        not-true _ (and_parts _ _ (all_has _ (db 0) s (obeys.rules Unique).0 k)).0 in
         let here = some_other alone in
-        tied_same (db 0) r s rises.0 h k (rw (int_is (rowid r) (all_has _ (db 0) r rises.1 h), int_is (rowid s) (all_has _ (db 0) s rises.1 k)) here)
+        tied_same (db 0) r s rises.0 h k
+        (rw (
+          int_is (rowid r) (all_has _ (db 0) r rises.1 h),
+          int_is (rowid s) (all_has _ (db 0) s rises.1 k),
+        ) here)
       where
         same : agree plain (1 ∷ 2 ∷ []) r (1 ∷ 2 ∷ []) s ≡ true
-        same = rw (p.tab_is, p.key_is, q.tab_is, q.key_is, equal_itself _ (pos tab), equal_itself _ (pos key)) refl
+        same =
+            rw (
+              p.tab_is,
+              p.key_is,
+              q.tab_is,
+              q.key_is,
+              equal_itself _ (pos tab),
+              equal_itself _ (pos key),
+            ) refl
 
         apart : differ (rowid r) (rowid s) ≡ true → clashes plain (1 ∷ 2 ∷ []) (db 0) s ≡ true
-        apart d = some_from (λ other. agree plain (1 ∷ 2 ∷ []) other (1 ∷ 2 ∷ []) s && differ (rowid other) (rowid s)) (db 0) r h (rw (same, d) refl)
+        apart d =
+            some_from (λ other.
+            agree plain (1 ∷ 2 ∷ []) other (1 ∷ 2 ∷ []) s && differ (rowid other) (rowid s))
+            (db 0) r h (rw (same, d) refl)
 
-        some_other : clashes plain (1 ∷ 2 ∷ []) (db 0) s ≡ false → value_cmp (Int (id_in (rowid r))) (Int (id_in (rowid s))) ≡ Equal
+        some_other : clashes plain (1 ∷ 2 ∷ []) (db 0) s ≡ false
+            → value_cmp (Int (id_in (rowid r))) (Int (id_in (rowid s))) ≡ Equal
         some_other alone = elim (cases_Bool (differ (rowid r) (rowid s))) [
           | inl d ↦ absurd (true≢false (sym (apart d) ∙ alone))
-          | inr d ↦ tied_if_not_differ _ _ (rw (int_is (rowid r) (all_has _ (db 0) r rises.1 h), int_is (rowid s) (all_has _ (db 0) s rises.1 k)) at d)
+          | inr d ↦
+              tied_if_not_differ _ _ (rw (
+                int_is (rowid r) (all_has _ (db 0) r rises.1 h),
+                int_is (rowid s) (all_has _ (db 0) s rises.1 k),
+              ) at d)
         ]

@@ -16,7 +16,10 @@ pub create_again_is : command_of (understood cell_schema create_text) ≡ Nothin
 unfolding understood everything
 create_again_is = refl
 
-pub first_is : (command_of (understood cell_schema first_text) ≡ Select (record { lets = []; body = first_query }) (codes "tab" ∷ codes "key" ∷ codes "val" ∷ [])) × (reads_listing cell_schema first_text ≡ false)
+pub first_is : (command_of (understood cell_schema first_text)
+    ≡ Select (record { lets = []; body = first_query })
+    (codes "tab" ∷ codes "key" ∷ codes "val" ∷ []))
+    × (reads_listing cell_schema first_text ≡ false)
 unfolding understood everything
 first_is = (refl, refl)
 

@@ -35,22 +35,31 @@ at_itself_nat : (a b : ℕ) → (a == a) && (b == b) ≡ true
 at_itself_nat a b = grind (arith, nat_tests)
 
 -- a row stands at the table and key of its cell
-pub at_of : (tab key : ℕ) (r : Row) → IsCellRow r → is_at tab key (cell_of r) ≡ true → IsAt tab key r
+pub at_of : (tab key : ℕ) (r : Row) → IsCellRow r → is_at tab key (cell_of r) ≡ true
+    → IsAt tab key r
 at_of tab key r row h =
-    let same = same_at row.tab row.key tab key (subst (λ x. is_at tab key (cell_of x) ≡ true) row.is h) in
-    record { tab_is = ap (λ x. column x 1) row.is ∙ ap (λ n. Int (pos n)) same.0; key_is = ap (λ x. column x 2) row.is ∙ ap (λ n. Int (pos n)) same.1 }
+    let same =
+    same_at row.tab row.key tab key (subst (λ x. is_at tab key (cell_of x) ≡ true) row.is h) in
+    record {
+      tab_is = ap (λ x. column x 1) row.is ∙ ap (λ n. Int (pos n)) same.0;
+      key_is = ap (λ x. column x 2) row.is ∙ ap (λ n. Int (pos n)) same.1;
+    }
 
 pub of_at : (tab key : ℕ) (r : Row) → IsAt tab key r → is_at tab key (cell_of r) ≡ true
 of_at tab key r at = rw (at.tab_is, at.key_is) (at_itself_nat tab key)
 
-off_of : (tab key : ℕ) (r : Row) → IsCellRow r → (IsAt tab key r → ⊥) → is_at tab key (cell_of r) ≡ false
-off_of tab key r row off = elim (cases_Bool (is_at tab key (cell_of r))) [ inl at ↦ absurd (off (at_of tab key r row at)) | inr no_at ↦ no_at ]
+off_of : (tab key : ℕ) (r : Row) → IsCellRow r → (IsAt tab key r → ⊥)
+    → is_at tab key (cell_of r) ≡ false
+off_of tab key r row off = elim (cases_Bool (is_at tab key (cell_of r)))
+    [ inl at ↦ absurd (off (at_of tab key r row at)) | inr no_at ↦ no_at ]
 
 module _ (rows : List Row) (are : AreCells rows) where
-  once : (y z : Row) → Has rows y → Has rows z → is_at (cell_of z).tab (cell_of z).key (cell_of y) ≡ true → cell_of y ≡ cell_of z
+  once : (y z : Row) → Has rows y → Has rows z
+      → is_at (cell_of z).tab (cell_of z).key (cell_of y) ≡ true → cell_of y ≡ cell_of z
   once y z h k at =
       let own = at_of (cell_of z).tab (cell_of z).key z (are.typed z k) (at_itself (cell_of z)) in
-      ap cell_of (are.once (cell_of z).tab (cell_of z).key y z h k (at_of (cell_of z).tab (cell_of z).key y (are.typed y h) at) own)
+      ap cell_of (are.once (cell_of z).tab (cell_of z).key y z h k
+      (at_of (cell_of z).tab (cell_of z).key y (are.typed y h) at) own)
 
   pub table_has : (r : Row) → Has rows r → Has (table rows) (cell_of r)
   table_has r h = put_all_has cell_of rows [] r h once
@@ -58,8 +67,10 @@ module _ (rows : List Row) (are : AreCells rows) where
 pub table_ascends : (rows : List Row) → Ascend (table rows)
 table_ascends rows = put_all-ascends cell_of rows [] refl
 
-pub table_from : (rows : List Row) (c : Cell) → Has (table rows) c → (r : Row) × Has rows r × (c ≡ cell_of r)
-table_from rows c h = elim (put_all_from cell_of rows [] c refl h) [ inl none ↦ absurd none | inr some ↦ some ]
+pub table_from : (rows : List Row) (c : Cell) → Has (table rows) c
+    → (r : Row) × Has rows r × (c ≡ cell_of r)
+table_from rows c h =
+    elim (put_all_from cell_of rows [] c refl h) [ inl none ↦ absurd none | inr some ↦ some ]
 
 is_equal : (o : Ordering) → is_eq o ≡ true → o ≡ Equal
 is_equal Less h = absurd (true≢false (sym h))
@@ -70,9 +81,11 @@ is_equal Greater h = absurd (true≢false (sym h))
 
 none_left : (id : _) (rows : List Row) → list_any (has_rowid id) (without_rowid id rows) ≡ false
 none_left id [] = refl
-none_left id (r ∷ rows) = elim (cases_Bool (has_rowid id r)) [ inl here ↦ rw here (none_left id rows) | inr other ↦ rw (other, other) (none_left id rows) ]
+none_left id (r ∷ rows) = elim (cases_Bool (has_rowid id r))
+    [ inl here ↦ rw here (none_left id rows) | inr other ↦ rw (other, other) (none_left id rows) ]
 
-module _ (tab key : ℕ) (val : List ℕ) (old new : List Row) (rises : Rises old) (are : AreCells old) where
+module _ (tab key : ℕ) (val : List ℕ) (old new : List Row) (rises : Rises old)
+    (are : AreCells old) where
   abbrev put : Cell
   put = record { tab = tab; key = key; val = val }
 
@@ -85,9 +98,13 @@ module _ (tab key : ℕ) (val : List ℕ) (old new : List Row) (rises : Rises ol
   pub puts_only : Puts tab key val old new → PutsOnly
   puts_only (inl a) =
       let n = row_of (next_rowid old) tab key val in record {
-        sound = λ x h. elim (put_has n old x (subst (λ l. Has l x) a.is h)) [ inl same ↦ inl (ap cell_of same) | inr was ↦ inr (was, a.none x was) ];
+        sound =
+            λ x h. elim (put_has n old x (subst (λ l. Has l x) a.is h))
+            [ inl same ↦ inl (ap cell_of same) | inr was ↦ inr (was, a.none x was) ];
         there = (n, subst (λ l. Has l n) (sym a.is) (has_put n old), refl);
-        kept = λ x h off. subst (λ l. Has l x) (sym a.is) (put_row_keeps (n ∷ []) old x (rw a.free refl) h);
+        kept =
+            λ x h off.
+            subst (λ l. Has l x) (sym a.is) (put_row_keeps (n ∷ []) old x (rw a.free refl) h);
         rise = subst Rises (sym a.is) (IsShaped-put_row n old refl rises);
       }
   puts_only (inr p) =
@@ -95,30 +112,55 @@ module _ (tab key : ℕ) (val : List ℕ) (old new : List Row) (rises : Rises ol
       let n = row_of id tab key val in
       let left = without_rowid id old in
       let row_is = int_is (rowid p.row) (all_has _ old p.row rises.1 p.listed) in
-      let itself : has_rowid id p.row ≡ true = rw row_is (ap is_eq (tied_itself value_cmp_total (Int id))) in
-      let off = λ (x : Row) (h : Has left x). let was = has_filtered _ old x h in λ (at : IsAt tab key x).
-      true≢false (sym itself ∙ ap (has_rowid id) (sym (are.once tab key x p.row was.0 p.listed at p.at)) ∙ not-true _ was.1) in
+      let itself : has_rowid id p.row ≡ true =
+      rw row_is (ap is_eq (tied_itself value_cmp_total (Int id))) in
+      let off =
+      λ (x : Row) (h : Has left x). let was = has_filtered _ old x h in λ (at : IsAt tab key x).
+      true≢false (sym itself
+      ∙ ap (has_rowid id) (sym (are.once tab key x p.row was.0 p.listed at p.at))
+      ∙ not-true _ was.1) in
       record {
-        sound = λ x h. elim (put_has n left x (subst (λ l. Has l x) p.is h)) [ inl same ↦ inl (ap cell_of same) | inr was ↦ inr ((has_filtered _ old x was).0, off x was) ];
+        sound =
+            λ x h. elim (put_has n left x (subst (λ l. Has l x) p.is h)) [
+              | inl same ↦ inl (ap cell_of same)
+              | inr was ↦ inr ((has_filtered _ old x was).0, off x was)
+            ];
         there = (n, subst (λ l. Has l n) (sym p.is) (has_put n left), refl);
-        kept = λ x h away. subst (λ l. Has l x) (sym p.is) (put_row_keeps (n ∷ []) left x (rw (none_left id old) refl) (has_kept (λ r. not (has_rowid id r)) old x h (elim (cases_Bool (has_rowid id x)) [
-          | inl here ↦ absurd (away (subst (IsAt tab key) (sym (tied_same old x p.row rises.0 h p.listed (rw row_is (is_equal _ here)))) p.at))
-          | inr other ↦ rw other refl
-        ])));
-        rise = subst Rises (sym p.is) (IsShaped-put_row n left refl (IsShaped-filter shape.Table (λ r. not (has_rowid id r)) old rises));
+        kept =
+            λ x h away. subst (λ l. Has l x) (sym p.is)
+            (put_row_keeps (n ∷ []) left x (rw (none_left id old) refl)
+            (has_kept (λ r. not (has_rowid id r)) old x h (elim (cases_Bool (has_rowid id x)) [
+              | inl here ↦
+                  absurd (away (subst (IsAt tab key)
+                  (sym (tied_same old x p.row rises.0 h p.listed (rw row_is (is_equal _ here))))
+                  p.at))
+              | inr other ↦ rw other refl
+            ])));
+        rise =
+            subst Rises (sym p.is) (IsShaped-put_row n left refl
+            (IsShaped-filter shape.Table (λ r. not (has_rowid id r)) old rises));
       }
 
   pub put_table : Puts tab key val old new → AreCells new → table new ≡ put_cell put (table old)
   put_table puts now =
       let p = puts_only puts in
-      same_cells (table new) (put_cell put (table old)) (table_ascends new) (put-ascends put (table old) (table_ascends old))
+      same_cells (table new) (put_cell put (table old)) (table_ascends new)
+      (put-ascends put (table old) (table_ascends old))
       (λ c h. let r = table_from new c h in elim (p.sound r.0 r.1) [
         | inl is ↦ subst (Has (put_cell put (table old))) (sym (r.2 ∙ is)) (has_new put (table old))
-        | inr was ↦ subst (Has (put_cell put (table old))) (sym r.2) (has_old put (table old) (cell_of r.0) (table_has old are r.0 was.0) (off_of tab key r.0 (are.typed r.0 was.0) was.1))
+        | inr was ↦
+            subst (Has (put_cell put (table old))) (sym r.2)
+            (has_old put (table old) (cell_of r.0) (table_has old are r.0 was.0)
+            (off_of tab key r.0 (are.typed r.0 was.0) was.1))
       ])
       (λ c h. elim (put_cell_has put (table old) c (table_ascends old) h) [
-        | inl is ↦ subst (Has (table new)) (p.there.2 ∙ sym is) (table_has new now p.there.0 p.there.1)
-        | inr was ↦ let r = table_from old c was.0 in subst (Has (table new)) (sym r.2) (table_has new now r.0 (p.kept r.0 r.1 (λ at. true≢false (sym (of_at tab key r.0 at) ∙ ap (is_at tab key) (sym r.2) ∙ was.1))))
+        | inl is ↦
+            subst (Has (table new)) (p.there.2 ∙ sym is) (table_has new now p.there.0 p.there.1)
+        | inr was ↦
+            let r = table_from old c was.0 in
+            subst (Has (table new)) (sym r.2)
+            (table_has new now r.0 (p.kept r.0 r.1
+            (λ at. true≢false (sym (of_at tab key r.0 at) ∙ ap (is_at tab key) (sym r.2) ∙ was.1))))
       ])
 
 -- ---- a row taken away
@@ -138,46 +180,75 @@ module _ (tab key : ℕ) (old new : List Row) (rises : Rises old) (are : AreCell
   takes_only (inr d) =
       let id = id_in (rowid d.row) in
       let row_is = int_is (rowid d.row) (all_has _ old d.row rises.1 d.listed) in
-      let itself : has_rowid id d.row ≡ true = rw row_is (ap is_eq (tied_itself value_cmp_total (Int id))) in
+      let itself : has_rowid id d.row ≡ true =
+      rw row_is (ap is_eq (tied_itself value_cmp_total (Int id))) in
       record {
-        sound = λ x h. let was = has_filtered (λ r. not (has_rowid id r)) old x (subst (λ all. Has all x) d.is h) in
-            (was.0, λ at. true≢false (sym itself ∙ ap (has_rowid id) (sym (are.once tab key x d.row was.0 d.listed at d.at)) ∙ not-true _ was.1));
-        kept = λ x h away. subst (λ all. Has all x) (sym d.is) (has_kept (λ r. not (has_rowid id r)) old x h (elim (cases_Bool (has_rowid id x)) [
-          | inl here ↦ absurd (away (subst (IsAt tab key) (sym (tied_same old x d.row rises.0 h d.listed (rw row_is (is_equal _ here)))) d.at))
-          | inr other ↦ rw other refl
-        ]));
-        rise = subst Rises (sym d.is) (IsShaped-filter shape.Table (λ r. not (has_rowid id r)) old rises);
+        sound =
+            λ x h.
+            let was =
+            has_filtered (λ r. not (has_rowid id r)) old x (subst (λ all. Has all x) d.is h) in (
+              was.0,
+              λ at. true≢false (sym itself
+                  ∙ ap (has_rowid id) (sym (are.once tab key x d.row was.0 d.listed at d.at))
+                  ∙ not-true _ was.1),
+            );
+        kept =
+            λ x h away. subst (λ all. Has all x) (sym d.is)
+            (has_kept (λ r. not (has_rowid id r)) old x h (elim (cases_Bool (has_rowid id x)) [
+              | inl here ↦
+                  absurd (away (subst (IsAt tab key)
+                  (sym (tied_same old x d.row rises.0 h d.listed (rw row_is (is_equal _ here))))
+                  d.at))
+              | inr other ↦ rw other refl
+            ]));
+        rise =
+            subst Rises (sym d.is)
+            (IsShaped-filter shape.Table (λ r. not (has_rowid id r)) old rises);
       }
 
   pub take_table : Takes tab key old new → AreCells new → table new ≡ take_cell tab key (table old)
   take_table takes now =
       let t = takes_only takes in
-      same_cells (table new) (take_cell tab key (table old)) (table_ascends new) (take-ascends tab key (table old) (table_ascends old))
+      same_cells (table new) (take_cell tab key (table old)) (table_ascends new)
+      (take-ascends tab key (table old) (table_ascends old))
       (λ c h. let r = table_from new c h in let was = t.sound r.0 r.1 in
       subst (Has (take_cell tab key (table old))) (sym r.2)
-      (has_kept (λ x. not (is_at tab key x)) (table old) (cell_of r.0) (table_has old are r.0 was.0) (rw (off_of tab key r.0 (are.typed r.0 was.0) was.1) refl)))
-      (λ c h. let was = has_filtered (λ x. not (is_at tab key x)) (table old) c h in let r = table_from old c was.0 in
-      subst (Has (table new)) (sym r.2) (table_has new now r.0 (t.kept r.0 r.1 (λ at. true≢false (sym (of_at tab key r.0 at) ∙ ap (is_at tab key) (sym r.2) ∙ not-true _ was.1)))))
+      (has_kept (λ x. not (is_at tab key x)) (table old) (cell_of r.0) (table_has old are r.0 was.0)
+      (rw (off_of tab key r.0 (are.typed r.0 was.0) was.1) refl)))
+      (λ c h.
+      let was = has_filtered (λ x. not (is_at tab key x)) (table old) c h in
+      let r = table_from old c was.0 in
+      subst (Has (table new)) (sym r.2)
+      (table_has new now r.0 (t.kept r.0 r.1
+      (λ at.
+      true≢false (sym (of_at tab key r.0 at) ∙ ap (is_at tab key) (sym r.2) ∙ not-true _ was.1)))))
 
 -- ---- the least row
 
 all_then : {X : Type 0} (P : X → Type 0) (xs : List X) (x : X) → All P xs → Has xs x → P x
 all_then P [] x all h = absurd h
 all_then P (y ∷ xs) x all (inl same) = subst P (sym same) (all 0 y (omega arith))
-all_then P (y ∷ xs) x all (inr later) = all_then P xs x (λ k d low. all (suc k) d (omega arith)) later
+all_then P (y ∷ xs) x all (inr later) =
+    all_then P xs x (λ k d low. all (suc k) d (omega arith)) later
 
-get_or_any : {X : Type 0} (xs : List X) (k : ℕ) (d e : X) → k < length xs → get_or xs k d ≡ get_or xs k e
+get_or_any : {X : Type 0} (xs : List X) (k : ℕ) (d e : X) → k < length xs
+    → get_or xs k d ≡ get_or xs k e
 get_or_any [] k d e low = absurd (omega arith)
 get_or_any (x ∷ xs) zero d e low = refl
 get_or_any (x ∷ xs) (suc k) d e low = get_or_any xs k d e (omega arith)
 
-pub order_is : (t k t′ k′ : ℕ) → is_gt (ordering_then (int_cmp (pos t) (pos t′)) (ordering_then (int_cmp (pos k) (pos k′)) Equal)) ≡ false → comes_before t′ k′ t k ≡ false
+pub order_is : (t k t′ k′ : ℕ)
+    → is_gt
+    (ordering_then (int_cmp (pos t) (pos t′)) (ordering_then (int_cmp (pos k) (pos k′)) Equal))
+    ≡ false
+    → comes_before t′ k′ t k ≡ false
 order_is t k t′ k′ h = grind (arith, ints, nat_tests)
 
 not_behind_same : (t k : ℕ) → comes_before t k t k ≡ false
 not_behind_same t k = grind (arith, nat_tests)
 
-module _ (rows : List Row) (typed : (r : Row) → Has rows r → IsCellRow r) (row : Row) (l : IsLeastOf rows row) where
+module _ (rows : List Row) (typed : (r : Row) → Has rows r → IsCellRow r) (row : Row)
+    (l : IsLeastOf rows row) where
   abbrev least : Row
   least = get_or rows l.place []
 
@@ -185,28 +256,42 @@ module _ (rows : List Row) (typed : (r : Row) → Has rows r → IsCellRow r) (r
   least_listed = has_at rows l.place least l.within (get_or_any rows l.place [] least l.within)
 
   pub least_shown : row ≡ shown_cell (cell_of least)
-  least_shown = let r = typed least least_listed in l.is ∙ ap shown r.is ∙ ap (λ x. shown_cell (cell_of x)) (sym r.is)
+  least_shown =
+      let r = typed least least_listed in
+      l.is ∙ ap shown r.is ∙ ap (λ x. shown_cell (cell_of x)) (sym r.is)
 
-  pub least_before : (x : Row) → Has rows x → is_behind (cell_of x).tab (cell_of x).key (cell_of least) ≡ false
+  pub least_before : (x : Row) → Has rows x
+      → is_behind (cell_of x).tab (cell_of x).key (cell_of least) ≡ false
   least_before x h =
       let r = typed x h in
       let s = typed least least_listed in
-      by x least r s (all_then (λ x′. (key x′ ≡ key least) ⊎ (is_gt (key_cmp 0 keys (key least) (key x′)) ≡ false)) rows x l.least h)
+      by x least r s (all_then
+      (λ x′. (key x′ ≡ key least) ⊎ (is_gt (key_cmp 0 keys (key least) (key x′)) ≡ false)) rows
+      x l.least h)
     where
-      by : (x y : Row) → IsCellRow x → IsCellRow y → (key x ≡ key y) ⊎ (is_gt (key_cmp 0 keys (key y) (key x)) ≡ false) → is_behind (cell_of x).tab (cell_of x).key (cell_of y) ≡ false
+      by : (x y : Row) → IsCellRow x → IsCellRow y
+          → (key x ≡ key y) ⊎ (is_gt (key_cmp 0 keys (key y) (key x)) ≡ false)
+          → is_behind (cell_of x).tab (cell_of x).key (cell_of y) ≡ false
       by x y r s (inl same) =
-          let both : key (row_of r.id r.tab r.key r.val) ≡ key (row_of s.id s.tab s.key s.val) = ap key (sym r.is) ∙ same ∙ ap key s.is in
+          let both : key (row_of r.id r.tab r.key r.val) ≡ key (row_of s.id s.tab s.key s.val) =
+          ap key (sym r.is) ∙ same ∙ ap key s.is in
           let tabs : r.tab ≡ s.tab = cc in
           let numbers : r.key ≡ s.key = cc in
           rw (r.is, s.is, tabs, numbers) (not_behind_same s.tab s.key)
       by x y r s (inr low) =
-          rw (r.is, s.is) (order_is s.tab s.key r.tab r.key (rw (r.is, s.is, value_cmp-Int (pos s.tab) (pos r.tab), value_cmp-Int (pos s.key) (pos r.key)) at low))
+          rw (r.is, s.is) (order_is s.tab s.key r.tab r.key
+          (rw
+          (r.is, s.is, value_cmp-Int (pos s.tab) (pos r.tab), value_cmp-Int (pos s.key) (pos r.key))
+          at low))
 
-pub first_cell : (rows : List Row) → AreCells rows → (row : Row) → IsLeastOf rows row → (c : Cell) × (row ≡ shown_cell c) × (first_of (table rows) ≡ Some c)
+pub first_cell : (rows : List Row) → AreCells rows → (row : Row) → IsLeastOf rows row
+    → (c : Cell) × (row ≡ shown_cell c) × (first_of (table rows) ≡ Some c)
 first_cell rows are row l =
     let c = cell_of (get_or rows l.place []) in (
       c,
       least_shown rows are.typed row l,
-      first_is_least (table rows) c (table_ascends rows) (table_has rows are _ (least_listed rows are.typed row l))
-          (λ x h. let r = table_from rows x h in rw r.2 (least_before rows are.typed row l r.0 r.1)),
+      first_is_least (table rows) c (table_ascends rows)
+          (table_has rows are _ (least_listed rows are.typed row l))
+          (λ x h.
+          let r = table_from rows x h in rw r.2 (least_before rows are.typed row l r.0 r.1)),
     )

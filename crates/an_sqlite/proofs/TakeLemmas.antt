@@ -36,13 +36,19 @@ module _ (tab key : ℕ) (rows : List Row) (rises : Rises rows) (are : AreCells 
   is_taken s = list_all (holds (env s)) take_query.filter
 
   taken_at : (s : Row) → IsAt tab key s → is_taken s ≡ true
-  taken_at s at = and_from (equal Binary (column s 1) (Int (pos tab))) (equal Binary (column s 2) (Int (pos key)) && true) (rw at.tab_is (equal_itself Binary (pos tab)))
-      (and_from (equal Binary (column s 2) (Int (pos key))) true (rw at.key_is (equal_itself Binary (pos key))) refl)
+  taken_at s at =
+      and_from (equal Binary (column s 1) (Int (pos tab)))
+      (equal Binary (column s 2) (Int (pos key)) && true)
+      (rw at.tab_is (equal_itself Binary (pos tab)))
+      (and_from (equal Binary (column s 2) (Int (pos key))) true
+      (rw at.key_is (equal_itself Binary (pos key))) refl)
 
   at_taken : (s : Row) → Has rows s → is_taken s ≡ true → IsAt tab key s
   at_taken s h t =
       let row = are.typed s h in
-      let first = and_parts (equal Binary (column s 1) (Int (pos tab))) (equal Binary (column s 2) (Int (pos key)) && true) t in
+      let first =
+      and_parts (equal Binary (column s 1) (Int (pos tab)))
+      (equal Binary (column s 2) (Int (pos key)) && true) t in
       let second = and_parts (equal Binary (column s 2) (Int (pos key))) true first.1 in
       let tab_is = ap (λ x. column x 1) row.is in
       let key_is = ap (λ x. column x 2) row.is in
@@ -55,21 +61,43 @@ module _ (tab key : ℕ) (rows : List Row) (rises : Rises rows) (are : AreCells 
   none_ordered [] same = refl
   none_ordered (o ∷ more) same = absurd (let e = length_permutation [] (o ∷ more) same in cc)
 
-  pub take_rows : (db : Trees) (new found : List Row) → db 0 ≡ rows → IsAnswer take_query (overlay db []) params found → new ≡ without_all rows (ids_of found) → Takes tab key rows new
+  pub take_rows : (db : Trees) (new found : List Row) → db 0 ≡ rows
+      → IsAnswer take_query (overlay db []) params found → new ≡ without_all rows (ids_of found)
+      → Takes tab key rows new
   take_rows db new found here a left = elim (cases_Bool (list_any is_taken rows)) [
     | inl some ↦
         let r = some_has is_taken rows some in
         let at = at_taken r.0 r.1 r.2 in
-        let staged : a.staged ≡ env r.0 ∷ [] = a.grouped ∙ ap (flat_map (λ s. cond (is_taken s) (env s ∷ []) [])) here
-        ∙ one_kept is_taken env rows r.0 rises.0 r.1 r.2 (λ s k t. are.once tab key s r.0 k r.1 (at_taken s k t) at) in
+        let staged : a.staged ≡ env r.0 ∷ [] =
+        a.grouped ∙ ap (flat_map (λ s. cond (is_taken s) (env s ∷ []) [])) here
+        ∙ one_kept is_taken env rows r.0 rises.0 r.1 r.2
+        (λ s k t. are.once tab key s r.0 k r.1 (at_taken s k t) at) in
         let one = a.distinct ∙ ap (map (output take_query)) staged in
-        let ordered = one_permutation (output take_query (env r.0)) a.ordered (subst (λ k. IsPermutation k a.ordered) one a.same) in
-        let is : found ≡ (rowid r.0 ∷ []) ∷ [] = a.shown ∙ ap (λ k. page take_query params (map (λ (o : Output). o.1) k)) ordered in
-        inr (record { row = r.0; listed = r.1; at = at; is = left ∙ ap (λ all. without_all rows (ids_of all)) is })
+        let ordered =
+        one_permutation (output take_query (env r.0)) a.ordered
+        (subst (λ k. IsPermutation k a.ordered) one a.same) in
+        let is : found ≡ (rowid r.0 ∷ []) ∷ [] =
+        a.shown ∙ ap (λ k. page take_query params (map (λ (o : Output). o.1) k)) ordered in
+        inr (record {
+          row = r.0;
+          listed = r.1;
+          at = at;
+          is = left ∙ ap (λ all. without_all rows (ids_of all)) is;
+        })
     | inr none ↦
-        let off = λ (s : Row) (h : Has rows s) (t : is_taken s ≡ true). true≢false (sym (some_from is_taken rows s h t) ∙ none) in
-        let staged : a.staged ≡ [] = a.grouped ∙ ap (flat_map (λ s. cond (is_taken s) (env s ∷ []) [])) here ∙ none_kept is_taken env rows off in
-        let ordered = none_ordered a.ordered (subst (λ k. IsPermutation k a.ordered) (a.distinct ∙ ap (map (output take_query)) staged) a.same) in
-        let is : found ≡ [] = a.shown ∙ ap (λ k. page take_query params (map (λ (o : Output). o.1) k)) ordered in
-        inl (record { none = λ s h at. off s h (taken_at s at); is = left ∙ ap (λ all. without_all rows (ids_of all)) is })
+        let off =
+        λ (s : Row) (h : Has rows s) (t : is_taken s ≡ true).
+        true≢false (sym (some_from is_taken rows s h t) ∙ none) in
+        let staged : a.staged ≡ [] =
+        a.grouped ∙ ap (flat_map (λ s. cond (is_taken s) (env s ∷ []) [])) here
+        ∙ none_kept is_taken env rows off in
+        let ordered =
+        none_ordered a.ordered (subst (λ k. IsPermutation k a.ordered)
+        (a.distinct ∙ ap (map (output take_query)) staged) a.same) in
+        let is : found ≡ [] =
+        a.shown ∙ ap (λ k. page take_query params (map (λ (o : Output). o.1) k)) ordered in
+        inl (record {
+          none = λ s h at. off s h (taken_at s at);
+          is = left ∙ ap (λ all. without_all rows (ids_of all)) is;
+        })
   ]

@@ -14,7 +14,8 @@ use Rattle.an_stream.specs.Stream.{changes_of, changes_page_of, page_of_stream, 
 use Rattle.an_list.specs.declared.error.ReadError.TheVariants.{NoPage}
 
 unfoldable changes_on_literals : Unit {0}
-unfolding activity stream_page page_of_stream moment_text date_time_after days_of_months escape_byte digits
+unfolding activity stream_page page_of_stream moment_text date_time_after days_of_months
+    escape_byte digits
 changes_on_literals = tt
 
 abbrev site : Site
@@ -24,10 +25,12 @@ abbrev made : Seen
 made = record { moment = pos 1_714_557_600; object = Manifest (codes "m1"); kind = Create }
 
 abbrev changed : Seen
-changed = record { moment = pos 1_714_557_660; object = Note (codes "mara") (codes "n1"); kind = Update }
+changed =
+    record { moment = pos 1_714_557_660; object = Note (codes "mara") (codes "n1"); kind = Update }
 
 abbrev hidden : Seen
-hidden = record { moment = pos 1_714_557_720; object = Note (codes "mara") (codes "n1"); kind = Delete }
+hidden =
+    record { moment = pos 1_714_557_720; object = Note (codes "mara") (codes "n1"); kind = Delete }
 
 -- the view of a caller who sees these
 abbrev view : List Seen → View
@@ -41,8 +44,11 @@ three = view (made ∷ changed ∷ hidden ∷ [])
 abbrev stream : List ℕ → List ℕ → List ℕ
 stream last total =
     codes "{\"@context\":\"http://iiif.io/api/discovery/1/context.json\"," ++ (
-    codes "\"first\":{\"id\":\"http://a.example/changes?page=1\",\"type\":\"OrderedCollectionPage\"}," ++ (
-    codes "\"id\":\"http://a.example/changes\",\"last\":{\"id\":\"http://a.example/changes?page=" ++ (last ++ (
+    codes
+    "\"first\":{\"id\":\"http://a.example/changes?page=1\",\"type\":\"OrderedCollectionPage\"},"
+    ++ (
+    codes "\"id\":\"http://a.example/changes\",\"last\":{\"id\":\"http://a.example/changes?page="
+    ++ (last ++ (
     codes "\",\"type\":\"OrderedCollectionPage\"},\"totalItems\":" ++ (total ++
     codes ",\"type\":\"OrderedCollection\"}")))))
 
@@ -64,11 +70,16 @@ first_page : List ℕ
 first_page =
     codes "{\"@context\":\"http://iiif.io/api/discovery/1/context.json\"," ++ (
     codes "\"id\":\"http://a.example/changes?page=1\"," ++ (
-    codes "\"next\":{\"id\":\"http://a.example/changes?page=2\",\"type\":\"OrderedCollectionPage\"}," ++ (
+    codes
+    "\"next\":{\"id\":\"http://a.example/changes?page=2\",\"type\":\"OrderedCollectionPage\"}," ++ (
     codes "\"orderedItems\":[{\"endTime\":\"2024-05-01T10:00:00Z\"," ++ (
-    codes "\"object\":{\"id\":\"http://a.example/manifests/m1\",\"type\":\"Manifest\"},\"type\":\"Create\"}," ++ (
+    codes
+    "\"object\":{\"id\":\"http://a.example/manifests/m1\",\"type\":\"Manifest\"},\"type\":\"Create\"},"
+    ++ (
     codes "{\"endTime\":\"2024-05-01T10:01:00Z\"," ++ (
-    codes "\"object\":{\"id\":\"http://a.example/annotations/mara/n1\",\"type\":\"Annotation\"},\"type\":\"Update\"}]," ++ (
+    codes
+    "\"object\":{\"id\":\"http://a.example/annotations/mara/n1\",\"type\":\"Annotation\"},\"type\":\"Update\"}],"
+    ++ (
     codes "\"partOf\":{\"id\":\"http://a.example/changes\",\"type\":\"OrderedCollection\"}," ++ (
     codes "\"startIndex\":0,\"type\":\"OrderedCollectionPage\"}"))))))))
 
@@ -84,9 +95,12 @@ row-last_page : changes_page_of site three 2 ≡ Ok (
     codes "{\"@context\":\"http://iiif.io/api/discovery/1/context.json\"," ++ (
     codes "\"id\":\"http://a.example/changes?page=2\"," ++ (
     codes "\"orderedItems\":[{\"endTime\":\"2024-05-01T10:02:00Z\"," ++ (
-    codes "\"object\":{\"id\":\"http://a.example/annotations/mara/n1\",\"type\":\"Annotation\"},\"type\":\"Delete\"}]," ++ (
+    codes
+    "\"object\":{\"id\":\"http://a.example/annotations/mara/n1\",\"type\":\"Annotation\"},\"type\":\"Delete\"}],"
+    ++ (
     codes "\"partOf\":{\"id\":\"http://a.example/changes\",\"type\":\"OrderedCollection\"}," ++ (
-    codes "\"prev\":{\"id\":\"http://a.example/changes?page=1\",\"type\":\"OrderedCollectionPage\"}," ++ (
+    codes
+    "\"prev\":{\"id\":\"http://a.example/changes?page=1\",\"type\":\"OrderedCollectionPage\"}," ++ (
     codes "\"startIndex\":2,\"type\":\"OrderedCollectionPage\"}")))))))
 unfolding changes_on_literals
 row-last_page = refl

@@ -30,6 +30,7 @@ pub manifest_value : (d : Data) → d ≡ manifest_tree → IsTrue (is_tree d)
 manifest_value d is = subst (λ d. IsTrue (is_tree d)) (sym is) manifest_is_tree
 
 pub note_value : (d : Data) (text : List ℕ) → IsUtf8 text → d ≡ note_tree text → IsTrue (is_tree d)
-note_value d text utf8 is = subst (λ d. IsTrue (is_tree d)) (sym is) (note_is_tree text (is_utf8-from_IsUtf8 text utf8))
+note_value d text utf8 is =
+    subst (λ d. IsTrue (is_tree d)) (sym is) (note_is_tree text (is_utf8-from_IsUtf8 text utf8))
 
 pub ruleset trial_trees = (reader_value, manifest_value, note_value)

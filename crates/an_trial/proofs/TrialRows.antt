@@ -27,9 +27,11 @@ row-words_second = refl
 row-words_third : words_text 4086 2749 12767 ≡ codes "ibis stork egret"
 row-words_third = refl
 
-row-groups : map group_of (16838 ∷ 31051 ∷ 16212 ∷ []) ≡ group.Public ∷ group.Public ∷ group.Named (codes "a") ∷ []
+row-groups : map group_of (16838 ∷ 31051 ∷ 16212 ∷ [])
+    ≡ group.Public ∷ group.Public ∷ group.Named (codes "a") ∷ []
 row-groups = refl
 
 -- the first annotation, whole
-row-note : note_behind 1 0 ≡ note_write 1 (record { group = 16838; first = 5758; second = 10113; third = 17515 })
+row-note : note_behind 1 0
+    ≡ note_write 1 (record { group = 16838; first = 5758; second = 10113; third = 17515 })
 row-note = refl

@@ -18,7 +18,8 @@ reader-sendable write is = subst IsSendable (sym is) one_is_number
 pub manifest-sendable : (write : Write) → write ≡ manifest_write → IsSendable write
 manifest-sendable write is = subst IsSendable (sym is) (rw one_is_number refl)
 
-pub note-sendable : (write : Write) (n : ℕ) (draws : Draws) → write ≡ note_write n draws → IsSendable write
+pub note-sendable : (write : Write) (n : ℕ) (draws : Draws) → write ≡ note_write n draws
+    → IsSendable write
 note-sendable write n draws is = subst IsSendable (sym is) one_is_number
 
 pub ruleset trial_writes = (reader-sendable, manifest-sendable, note-sendable)

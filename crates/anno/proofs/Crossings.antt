@@ -9,4 +9,6 @@ use Rattle.anno.specs.contracts.progress.ToldKeeper as ToldKeeper
 
 module _ (S : RattleType) (g : Store.Ghosts S.Denot) where
   pub told_send : IsSend S → IsSend (ToldKeeper.the_row S g)
-  told_send store = let keeper = keeper_send S g store in search (declared_send, as_row_send, heap.crosses, sendable) depth 60 fits 40000
+  told_send store =
+      let keeper = keeper_send S g store in
+      search (declared_send, as_row_send, heap.crosses, sendable) depth 60 fits 40000

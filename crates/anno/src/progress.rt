@@ -81,7 +81,8 @@ impl<S: Alter + Drop> Keeper for ToldKeeper<S> {
         ensures came { came_in self.new.keeper.place ≡ came_in self.old.keeper.place }
         ensures held { IsClean S.Store self.new.keeper.place → (cells : List Cell)
             → HoldsCells S.Store self.old.keeper.place cells
-            → OnOk result (HoldsCells S.Store self.new.keeper.place (put_changes changes.now cells)) }
+            → OnOk result
+            (HoldsCells S.Store self.new.keeper.place (put_changes changes.now cells)) }
         ensures kept { IsClean S.Store self.new.keeper.place → IsOpen S.Store self.new.keeper.place
             → (cells : List Cell) → HoldsCells S.Store self.old.keeper.place cells
             → OnErr result (HoldsCells S.Store self.new.keeper.place cells) }

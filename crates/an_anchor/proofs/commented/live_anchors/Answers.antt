@@ -21,12 +21,19 @@ returns-clause-answer g c =
     let live = c.args.live.now in
     let texts = texts_of live.tree.now in
     let on = targets_on view live.manifest.now in
-    let whole = c.in_ok-whole.ensures ∙ ap (λ base. anchors_whole base owner name) c.base-base.ensures.value in
-    let has = subst (λ base. HasCounted (anchor_item base texts) c.of-window.result (filter (is_about (note_iri base owner name)) on) c.in_ok-counted.counted) c.base-base.ensures.value c.in_ok-counted.ensures.counted in
+    let whole =
+    c.in_ok-whole.ensures ∙ ap (λ base. anchors_whole base owner name) c.base-base.ensures.value in
+    let has =
+    subst (λ base. HasCounted (anchor_item base texts) c.of-window.result
+    (filter (is_about (note_iri base owner name)) on) c.in_ok-counted.counted)
+    c.base-base.ensures.value c.in_ok-counted.ensures.counted in
     let start = c.of-window.ensures.start ∙ ap (start_of c.args.page) c.size.ensures.value in
     let size = c.of-window.ensures.size ∙ c.size.ensures.value in
-    subst (λ whole. Gives (λ body. body) Memory c.anchors_page.result (anchors_text site whole c.args.page texts (comments site view owner name live.manifest.now))) whole
+    subst (λ whole. Gives (λ body. body) Memory c.anchors_page.result
+    (anchors_text site whole c.args.page texts (comments site view owner name live.manifest.now)))
+    whole
     (c.anchors_page.ensures texts _ c.of-window.result start size has)
 
 pub returns-clause-steps : goal.returns-clause-steps
-returns-clause-steps g c = takes_anyway Memory c.anchors_page.result _ _ _ c.in_ok-counted.ensures.steps
+returns-clause-steps g c =
+    takes_anyway Memory c.anchors_page.result _ _ _ c.in_ok-counted.ensures.steps

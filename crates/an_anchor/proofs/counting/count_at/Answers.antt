@@ -10,8 +10,12 @@ use Rattle.an_anchor.proofs.counting.count_at.Goals as goal
 use Rattle.an_anchor.proofs.counting.count_at.Goals.{in-Some+in_ok-counted-in-Some, in-None}
 
 pub loop-place-init : goal.loop-place-init
-loop-place-init g c =
-    (counted-none (anchor_item c.args.asked.now.base.now c.args.asked.now.texts.now) c.args.asked.now.window _ c.none_counted-counted.ensures.items c.none_counted-counted.ensures.total, omega arith)
+loop-place-init g c = (
+  counted-none (anchor_item c.args.asked.now.base.now c.args.asked.now.texts.now)
+      c.args.asked.now.window _ c.none_counted-counted.ensures.items
+      c.none_counted-counted.ensures.total,
+  omega arith,
+)
 
 pub loop-place-preserved : goal.loop-place-preserved
 loop-place-preserved g c =
@@ -22,14 +26,28 @@ loop-place-preserved g c =
     let so_far = filter about (flat_map row_targets found) in
     elim c.match-note_at.branch [
       | in-Some+in_ok-counted-in-Some w ↦
-          let more = ap (λ rows. filter about (flat_map row_targets rows)) (place_with_row notes c.args.places.now c.loop-place.place-index c.loop-place-test.true w.in-Some.row.now w.in-Some.ensures.row)
+          let more =
+          ap (λ rows. filter about (flat_map row_targets rows))
+          (place_with_row notes c.args.places.now c.loop-place.place-index c.loop-place-test.true
+          w.in-Some.row.now w.in-Some.ensures.row)
           ∙ targets-more about found w.in-Some.row.now in
-          rw (w.counted-is, more) (w.in_ok-counted-in-Some.ensures.counted so_far c.loop-place.invariant.0, omega (arith, c.note_at.ensures.step, c.loop-place.invariant.1))
+          rw (w.counted-is, more) (
+            w.in_ok-counted-in-Some.ensures.counted so_far c.loop-place.invariant.0,
+            omega (arith, c.note_at.ensures.step, c.loop-place.invariant.1),
+          )
       | in-None w ↦
-          let more = ap (λ rows. filter about (flat_map row_targets rows)) (place_without notes c.args.places.now c.loop-place.place-index c.loop-place-test.true w.in-None.ensures.row) in
-          rw (w.counted-is, more) (c.loop-place.invariant.0, omega (arith, c.note_at.ensures.step, c.loop-place.invariant.1))
+          let more =
+          ap (λ rows. filter about (flat_map row_targets rows))
+          (place_without notes c.args.places.now c.loop-place.place-index c.loop-place-test.true
+          w.in-None.ensures.row) in
+          rw (w.counted-is, more) (
+            c.loop-place.invariant.0,
+            omega (arith, c.note_at.ensures.step, c.loop-place.invariant.1),
+          )
     ]
 
 pub returns-clause-counted : goal.returns-clause-counted
 returns-clause-counted g c =
-    rw (take_all c.loop-place.place-index c.args.places.now (omega (arith, c.loop-place-test.false))) at c.loop-place.invariant.0
+    rw
+    (take_all c.loop-place.place-index c.args.places.now (omega (arith, c.loop-place-test.false)))
+    at c.loop-place.invariant.0

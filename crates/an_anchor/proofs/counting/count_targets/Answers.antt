@@ -19,9 +19,16 @@ loop-target-preserved c =
     let more = taken-more row about targets i target c.loop-target-test.true c.target-item.is in
     record {
       counted = λ comments has.
-          let counted = c.in_ok-counted.ensures.counted (comments ++ so_far) (c.loop-target.invariant.counted comments has) in
-          let here = subst (λ n. HasCounted (anchor_item asked.base.now asked.texts.now) asked.window (comments ++ so_far ++ filter about (numbered row n (target ∷ []))) c.in_ok-counted.counted) c.loop-target.invariant.number counted in
-          subst (λ all. HasCounted (anchor_item asked.base.now asked.texts.now) asked.window all c.in_ok-counted.counted) (append_assoc comments so_far next ∙ ap (λ more. comments ++ more) (sym more)) here;
+          let counted =
+          c.in_ok-counted.ensures.counted (comments ++ so_far)
+          (c.loop-target.invariant.counted comments has) in
+          let here =
+          subst (λ n. HasCounted (anchor_item asked.base.now asked.texts.now) asked.window
+          (comments ++ so_far ++ filter about (numbered row n (target ∷ [])))
+          c.in_ok-counted.counted) c.loop-target.invariant.number counted in
+          subst (λ all. HasCounted (anchor_item asked.base.now asked.texts.now) asked.window all
+          c.in_ok-counted.counted)
+          (append_assoc comments so_far next ∙ ap (λ more. comments ++ more) (sym more)) here;
       number = omega (arith, c.loop-target.invariant.number);
     }
 
@@ -30,5 +37,7 @@ returns c =
     let asked = c.args.asked.now in
     record {
       counted = λ comments has.
-          rw (take_all c.loop-target.target-index c.args.targets.now (omega (arith, c.loop-target-test.false))) at c.loop-target.invariant.counted comments has;
+          rw (take_all c.loop-target.target-index c.args.targets.now
+          (omega (arith, c.loop-target-test.false))) at c.loop-target.invariant.counted comments
+          has;
     }

@@ -8,7 +8,12 @@ use Rattle.an_anchor.proofs.counting.count_targets.Given as goal
 -- those of the targets so far that are comments were counted
 abbrev pub invariant-loop-target : goal.invariant-loop-target
 invariant-loop-target l = record {
-  counted : (comments : List Comment) → HasCounted (anchor_item l.asked.base.now l.asked.texts.now) l.asked.window comments l.fn.counted
-      → HasCounted (anchor_item l.asked.base.now l.asked.texts.now) l.asked.window (comments ++ filter (is_about l.asked.iri.now) (numbered l.row 0 (take l.target-index l.targets))) l.counted;
+  counted : (comments : List Comment)
+      → HasCounted (anchor_item l.asked.base.now l.asked.texts.now) l.asked.window comments
+      l.fn.counted
+      → HasCounted (anchor_item l.asked.base.now l.asked.texts.now) l.asked.window
+      (comments
+      ++ filter (is_about l.asked.iri.now) (numbered l.row 0 (take l.target-index l.targets)))
+      l.counted;
   number : l.number ≡ l.target-index;
 }

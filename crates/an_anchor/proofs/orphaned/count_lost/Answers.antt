@@ -11,12 +11,22 @@ loop-place-preserved c = λ is_lost are.
     let i = c.loop-place.place in
     let comment = c.index-comments-place.result in
     let within : i < length comments = omega (arith, c.loop-place-test.true) in
-    let at : slice_get comments i ≡ Some comment = slice_get_read comments (length comments) i comment refl within c.index-comments-place.is in
+    let at : slice_get comments i ≡ Some comment =
+    slice_get_read comments (length comments) i comment refl within c.index-comments-place.is in
     let verdict = found-at is_lost comments c.args.lost.now i false comment are at in
     elim c.if-lost-place.branch [
       | then-lost-place+in_ok-counted w ↦
-          rw (w.counted-is, kept-more is_lost comments i comment within c.index-comments-place.is (sym verdict ∙ w.if-lost-place.true))
-          (w.in_ok-counted.ensures (filter is_lost (take i comments)) (c.loop-place.invariant is_lost are))
+          rw (
+            w.counted-is,
+            kept-more is_lost comments i comment within c.index-comments-place.is
+                (sym verdict ∙ w.if-lost-place.true),
+          )
+          (w.in_ok-counted.ensures (filter is_lost (take i comments))
+          (c.loop-place.invariant is_lost are))
       | else-lost-place w ↦
-          rw (w.counted-is, left-out is_lost comments i comment within c.index-comments-place.is (sym verdict ∙ w.if-lost-place.false)) (c.loop-place.invariant is_lost are)
+          rw (
+            w.counted-is,
+            left-out is_lost comments i comment within c.index-comments-place.is
+                (sym verdict ∙ w.if-lost-place.false),
+          ) (c.loop-place.invariant is_lost are)
     ]

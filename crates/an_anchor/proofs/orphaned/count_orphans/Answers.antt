@@ -14,7 +14,11 @@ count_lost-requires g c =
     let view = view_of (g.T.Look.state c.args.look.now) (identity c.args.who.now) in
     let lost = c.as_slice-3.ensures.value ∙ c.in_ok-lost.ensures.lost in
     let same = c.as_slice.ensures.value ∙ sym c.as_slice-2.ensures.value in
-    record { each = ap length lost ∙ length-map c.as_slice.result.now (is_lost c.base-base.result.now view) ∙ ap length same }
+    record {
+      each =
+          ap length lost ∙ length-map c.as_slice.result.now (is_lost c.base-base.result.now view)
+          ∙ ap length same;
+    }
 
 pub returns-clause-counted : goal.returns-clause-counted
 returns-clause-counted g c =
@@ -23,10 +27,18 @@ returns-clause-counted g c =
     let base = c.base-base.result.now in
     let on = targets_on view c.args.manifest.now in
     let same = c.as_slice.ensures.value ∙ sym c.as_slice-2.ensures.value in
-    let lost = c.as_slice-3.ensures.value ∙ c.in_ok-lost.ensures.lost ∙ ap (map (is_lost base view)) same in
+    let lost =
+    c.as_slice-3.ensures.value ∙ c.in_ok-lost.ensures.lost ∙ ap (map (is_lost base view)) same in
     let found = c.as_slice-2.ensures.value ∙ c.in_ok-comments.ensures.comments in
-    let asked = ap (filter (is_lost base view)) found ∙ ap (λ base. filter (is_lost base view) (filter (is_comment base) on)) c.base-base.ensures.value ∙ orphans-are site view on in
+    let asked =
+    ap (filter (is_lost base view)) found
+    ∙ ap (λ base. filter (is_lost base view) (filter (is_comment base) on))
+    c.base-base.ensures.value
+    ∙ orphans-are site view on in
     IfOk-weaker c.count_lost.result _ _ (λ counted has.
-    subst (λ base. HasCounted (orphan_item base) c.args.window (orphans site view c.args.manifest.now) counted) c.base-base.ensures.value
-    (subst (λ orphans. HasCounted (orphan_item base) c.args.window orphans counted) asked (has (is_lost base view) lost)))
+    subst (λ base.
+    HasCounted (orphan_item base) c.args.window (orphans site view c.args.manifest.now) counted)
+    c.base-base.ensures.value
+    (subst (λ orphans. HasCounted (orphan_item base) c.args.window orphans counted) asked
+    (has (is_lost base view) lost)))
     c.count_lost.ensures

@@ -12,11 +12,15 @@ pub returns-clause-body : goal.returns-clause-body
 returns-clause-body g c =
     let view = view_of (g.T.Look.state c.args.look.now) (identity c.args.who.now) in
     let site = c.args.site.now in
-    let whole = c.in_ok-whole.ensures ∙ ap (λ base. orphans_whole base c.args.manifest.now) c.base.ensures.value in
+    let whole =
+    c.in_ok-whole.ensures
+    ∙ ap (λ base. orphans_whole base c.args.manifest.now) c.base.ensures.value in
     let start = c.of-window.ensures.start ∙ ap (start_of c.args.page) c.size.ensures.value in
     let size = c.of-window.ensures.size ∙ c.size.ensures.value in
-    subst (λ whole. Gives (λ body. body) Memory c.orphans_page.result (orphans_text site whole c.args.page (orphans site view c.args.manifest.now))) whole
+    subst (λ whole. Gives (λ body. body) Memory c.orphans_page.result
+    (orphans_text site whole c.args.page (orphans site view c.args.manifest.now))) whole
     (c.orphans_page.ensures _ c.of-window.result start size c.in_ok-counted.ensures.counted)
 
 pub returns-clause-steps : goal.returns-clause-steps
-returns-clause-steps g c = takes_anyway Memory c.orphans_page.result _ _ _ c.in_ok-counted.ensures.steps
+returns-clause-steps g c =
+    takes_anyway Memory c.orphans_page.result _ _ _ c.in_ok-counted.ensures.steps

@@ -12,20 +12,30 @@ pub returns-clause-comments : goal.returns-clause-comments
 returns-clause-comments g c =
     let s = g.T.Look.state c.args.look.now in
     c.in_ok-comments.ensures.comments
-    ∙ ap (filter (is_comment c.args.base.now)) (ap (λ places. flat_map row_targets (filter_map (slice_get s.notes) places)) (c.as_slice.ensures.value ∙ c.in_ok-places.ensures.places)
+    ∙ ap (filter (is_comment c.args.base.now))
+    (ap (λ places. flat_map row_targets (filter_map (slice_get s.notes) places))
+    (c.as_slice.ensures.value ∙ c.in_ok-places.ensures.places)
     ∙ targets-read s (identity c.args.who.now) c.args.manifest.now)
 
 pub returns-clause-steps : goal.returns-clause-steps
 returns-clause-steps g c =
-    let count = ap length (c.as_slice.ensures.value ∙ c.in_ok-places.ensures.places) ∙ on_count (g.T.Look.state c.args.look.now) (identity c.args.who.now) c.args.manifest.now in
+    let count =
+    ap length (c.as_slice.ensures.value ∙ c.in_ok-places.ensures.places)
+    ∙ on_count (g.T.Look.state c.args.look.now) (identity c.args.who.now) c.args.manifest.now in
     c.in_ok-comments.ensures.steps ∙ ap (λ n. c.args.steps.now + n) count
 
 pub returns-clause-steps_most : goal.returns-clause-steps_most
 returns-clause-steps_most g c =
-    let count = ap length (c.as_slice.ensures.value ∙ c.in_ok-places.ensures.places) ∙ on_count (g.T.Look.state c.args.look.now) (identity c.args.who.now) c.args.manifest.now in
-    subst (λ n. c.comments_at.new.steps ≤ c.args.steps.now + n) count c.comments_at.ensures.steps_most
+    let count =
+    ap length (c.as_slice.ensures.value ∙ c.in_ok-places.ensures.places)
+    ∙ on_count (g.T.Look.state c.args.look.now) (identity c.args.who.now) c.args.manifest.now in
+    subst (λ n. c.comments_at.new.steps ≤ c.args.steps.now + n) count
+    c.comments_at.ensures.steps_most
 
 pub returns-in_err-comments-clause-steps_most : goal.returns-in_err-comments-clause-steps_most
 returns-in_err-comments-clause-steps_most g c =
-    let count = ap length (c.as_slice.ensures.value ∙ c.in_ok-places.ensures.places) ∙ on_count (g.T.Look.state c.args.look.now) (identity c.args.who.now) c.args.manifest.now in
-    subst (λ n. c.comments_at.new.steps ≤ c.args.steps.now + n) count c.comments_at.ensures.steps_most
+    let count =
+    ap length (c.as_slice.ensures.value ∙ c.in_ok-places.ensures.places)
+    ∙ on_count (g.T.Look.state c.args.look.now) (identity c.args.who.now) c.args.manifest.now in
+    subst (λ n. c.comments_at.new.steps ≤ c.args.steps.now + n) count
+    c.comments_at.ensures.steps_most

@@ -10,5 +10,7 @@ returns-else-branch c =
     let base = c.args.base.now in
     let comments = c.args.comments.now.items in
     let none = kept-none c.args.row.now base 0 (targets_of c.args.kept.now)
-    (sym (c.in_ok-has_comment.ensures ∙ ap (list_any (is_kept_comment base)) c.targets.ensures.targets) ∙ c.if-branch.false) in
+    (sym
+    (c.in_ok-has_comment.ensures ∙ ap (list_any (is_kept_comment base)) c.targets.ensures.targets)
+    ∙ c.if-branch.false) in
     sym (append-nil comments) ∙ ap (λ last. comments ++ last) (sym none)

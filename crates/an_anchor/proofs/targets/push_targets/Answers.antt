@@ -19,20 +19,29 @@ loop-target-preserved c =
     let so_far = filter test (numbered row 0 (take i targets)) in
     let one = numbered row i (target ∷ []) in
     let more = taken-more row test targets i target c.loop-target-test.true c.target-item.is in
-    let asked = c.in_ok-is_note_iri.ensures ∙ ap (λ iri. is_some (names_in base iri)) c.as_str.ensures.value in
+    let asked =
+    c.in_ok-is_note_iri.ensures ∙ ap (λ iri. is_some (names_in base iri)) c.as_str.ensures.value in
     elim c.if-branch.branch [
       | then-branch+in_ok-comment+in_ok-push w ↦
           let pass : is_some (names_in base target.source) ≡ true = sym asked ∙ w.if-branch.true in
-          let last = w.in_ok-comment.ensures ∙ ap (λ n. numbered row n (target ∷ [])) c.loop-target.invariant.number ∙ sym (ap (λ b. cond b one []) pass) in
+          let last =
+          w.in_ok-comment.ensures
+          ∙ ap (λ n. numbered row n (target ∷ [])) c.loop-target.invariant.number
+          ∙ sym (ap (λ b. cond b one []) pass) in
           rw (w.comments-is, more) (record {
-            found = w.in_ok-push.ensures.items ∙ ap (λ front. front ++ w.in_ok-comment.field-0 ∷ []) c.loop-target.invariant.found
-                ∙ append_assoc old so_far (w.in_ok-comment.field-0 ∷ []) ∙ ap (λ last. old ++ (so_far ++ last)) last;
+            found =
+                w.in_ok-push.ensures.items
+                ∙ ap (λ front. front ++ w.in_ok-comment.field-0 ∷ []) c.loop-target.invariant.found
+                ∙ append_assoc old so_far (w.in_ok-comment.field-0 ∷ [])
+                ∙ ap (λ last. old ++ (so_far ++ last)) last;
             number = omega (arith, c.loop-target.invariant.number);
           })
       | else-branch w ↦
-          let pass : is_some (names_in base target.source) ≡ false = sym asked ∙ w.if-branch.false in
+          let pass : is_some (names_in base target.source) ≡ false =
+          sym asked ∙ w.if-branch.false in
           rw (w.comments-is, more) (record {
-            found = c.loop-target.invariant.found ∙ ap (λ last. old ++ last) (sym (append-nil so_far))
+            found =
+                c.loop-target.invariant.found ∙ ap (λ last. old ++ last) (sym (append-nil so_far))
                 ∙ ap (λ last. old ++ (so_far ++ last)) (sym (ap (λ b. cond b one []) pass));
             number = omega (arith, c.loop-target.invariant.number);
           })

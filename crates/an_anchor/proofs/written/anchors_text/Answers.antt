@@ -16,10 +16,18 @@ returns c =
     record {
       text = λ list items.
           let array_is = member_text (codes "anchors") (array (items_of list)) in
-          let first = c.in_ok-out.ensures.text (items_of list) items ∙ ap (λ before. before ++ array_is) c.new.ensures.items in
-          let id = c.in_ok-out-2.ensures.text ∙ ap (λ iri. c.in_ok-out.out.items ++ member_text (codes "id") (string iri)) (c.as_str.ensures.value ∙ c.in_ok-iri.ensures.iri) in
+          let first =
+          c.in_ok-out.ensures.text (items_of list) items
+          ∙ ap (λ before. before ++ array_is) c.new.ensures.items in
+          let id =
+          c.in_ok-out-2.ensures.text
+          ∙ ap (λ iri. c.in_ok-out.out.items ++ member_text (codes "id") (string iri))
+          (c.as_str.ensures.value ∙ c.in_ok-iri.ensures.iri) in
           c.from_vec.ensures.value
-          ∙ c.in_ok-out-4.ensures.text [] (member (codes "anchors") (array (items_of list)) (member (codes "id") (string (page_iri whole paging.page)) (count_members paging)))
-          (piece_then [] _ _ _ _ first (piece_then c.in_ok-out.out.items _ _ _ _ id c.in_ok-out-3.ensures.text)) refl
+          ∙ c.in_ok-out-4.ensures.text []
+          (member (codes "anchors") (array (items_of list))
+          (member (codes "id") (string (page_iri whole paging.page)) (count_members paging)))
+          (piece_then [] _ _ _ _ first
+          (piece_then c.in_ok-out.out.items _ _ _ _ id c.in_ok-out-3.ensures.text)) refl
           ∙ ap compact_text (anchors-is whole paging list);
     }

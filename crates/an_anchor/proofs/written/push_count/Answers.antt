@@ -6,6 +6,10 @@ use Rattle.an_anchor.proofs.written.push_count.Goals as goal
 
 pub returns : goal.returns
 returns c = record {
-  text = piece_then c.args.out.items _ _ _ _ (c.in_ok-out.ensures.text ∙ ap (λ n. c.args.out.items ++ member_text (codes "pages") (number (unsigned n))) c.pages.ensures.count)
+  text =
+      piece_then c.args.out.items _ _ _ _
+      (c.in_ok-out.ensures.text
+      ∙ ap (λ n. c.args.out.items ++ member_text (codes "pages") (number (unsigned n)))
+      c.pages.ensures.count)
       (last_piece _ _ _ c.in_ok-out-2.ensures.text);
 }

@@ -7,4 +7,5 @@ use Rattle.an_anchor.proofs.written.push_place_items.Given as goal
 -- what was written, and what the places that are left are to add
 abbrev pub invariant-loop-place : goal.invariant-loop-place
 invariant-loop-place l =
-    l.out.items ++ item_commas (items_of (map place_tree (drop l.place-index l.places))) ≡ l.initial.out.items ++ item_commas (items_of (map place_tree l.places))
+    l.out.items ++ item_commas (items_of (map place_tree (drop l.place-index l.places)))
+    ≡ l.initial.out.items ++ item_commas (items_of (map place_tree l.places))

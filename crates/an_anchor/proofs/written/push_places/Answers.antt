@@ -9,4 +9,5 @@ pub returns-clause-text : goal.returns-clause-text
 returns-clause-text c =
     let places = items_of (map place_tree c.args.places.now) in
     member_joined (codes "places") (array places) c.args.out.items _ _ c.in_ok-out.ensures.text
-    (c.in_ok-out-3.ensures.text c.in_ok-out.out.items places c.in_ok-out-2.ensures.text (c.len-start.ensures ∙ c.in_ok-out.out.ok.0))
+    (c.in_ok-out-3.ensures.text c.in_ok-out.out.items places c.in_ok-out-2.ensures.text
+    (c.len-start.ensures ∙ c.in_ok-out.out.ok.0))

@@ -6,6 +6,9 @@ use Rattle.an_app.proofs.program.misunderstood.Goals as goal
 
 pub returns-clause-told : goal.returns-clause-told
 returns-clause-told g c =
-    let Failed = Rises (g.L.Link.write_faults c.args.link.now) (g.L.Link.write_faults c.tell_report.new.link) in
-    subst (λ text. TellsReport (record { status = Misunderstood; text = text }) Failed (g.L.Link.traffic c.args.link.now) (g.L.Link.traffic c.tell_report.new.link) c.tell_report.result)
+    let Failed =
+    Rises (g.L.Link.write_faults c.args.link.now) (g.L.Link.write_faults c.tell_report.new.link) in
+    subst (λ text. TellsReport (record { status = Misunderstood; text = text }) Failed
+    (g.L.Link.traffic c.args.link.now)
+    (g.L.Link.traffic c.tell_report.new.link) c.tell_report.result)
     c.as_bytes.ensures.value c.tell_report.ensures.tells

@@ -5,4 +5,7 @@ pub close-requires : goal.close-requires
 close-requires g c = record { seat = c.requires.seat.0 }
 
 pub returns : goal.returns
-returns g c = record { closes = λ first since. closes-before _ _ _ (c.requires.seat.1 first since) c.close.ensures.closes }
+returns g c = record {
+  closes =
+      λ first since. closes-before _ _ _ (c.requires.seat.1 first since) c.close.ensures.closes;
+}

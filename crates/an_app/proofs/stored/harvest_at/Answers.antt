@@ -21,10 +21,15 @@ pub returns-in-Err-clause-harvests : goal.returns-in-Err-clause-harvests
 unfolding HarvestsAt
 returns-in-Err-clause-harvests g c =
     let its = c.in-Err.ensures in
-    inr (unopened-at _ _ _ _ _ _ _ _ _ its.kept its.refused (λ is. λ sure. its.sure sure is) c.not_opened.ensures.keeper c.not_opened.ensures.told)
+    inr (unopened-at _ _ _ _ _ _ _ _ _ its.kept its.refused
+    (λ is. λ sure. its.sure sure is) c.not_opened.ensures.keeper c.not_opened.ensures.told)
 
 pub returns-in-Ok-clause-never : goal.returns-in-Ok-clause-never
-returns-in-Ok-clause-never g c = λ kind some. renews-tells _ _ _ (c.in-Ok.ensures.never kind) (subst IsSome c.into_keeper-keeper.ensures.told some)
+returns-in-Ok-clause-never g c =
+    λ kind some. renews-tells _ _ _ (c.in-Ok.ensures.never kind)
+    (subst IsSome c.into_keeper-keeper.ensures.told some)
 
 pub returns-in-Err-clause-never : goal.returns-in-Err-clause-never
-returns-in-Err-clause-never g c = λ kind some. stays-tells _ _ (c.in-Err.ensures.never_refused kind) (subst IsSome c.not_opened.ensures.keeper some)
+returns-in-Err-clause-never g c =
+    λ kind some. stays-tells _ _ (c.in-Err.ensures.never_refused kind)
+    (subst IsSome c.not_opened.ensures.keeper some)

@@ -18,10 +18,14 @@ returns-in-Ok-clause-imports g c =
 pub returns-in-Err-clause-imports : goal.returns-in-Err-clause-imports
 returns-in-Err-clause-imports g c =
     let its = c.in-Err.ensures in
-    inr (unopened-at _ _ _ _ _ _ _ _ _ its.kept its.refused (λ is. λ sure. its.sure sure is) c.not_opened.ensures.keeper c.not_opened.ensures.told)
+    inr (unopened-at _ _ _ _ _ _ _ _ _ its.kept its.refused
+    (λ is. λ sure. its.sure sure is) c.not_opened.ensures.keeper c.not_opened.ensures.told)
 
 pub returns-in-Ok-clause-never : goal.returns-in-Ok-clause-never
-returns-in-Ok-clause-never g c = λ kind some. renews-tells _ _ _ (c.in-Ok.ensures.never kind) (c.import_into.ensures.told some)
+returns-in-Ok-clause-never g c =
+    λ kind some. renews-tells _ _ _ (c.in-Ok.ensures.never kind) (c.import_into.ensures.told some)
 
 pub returns-in-Err-clause-never : goal.returns-in-Err-clause-never
-returns-in-Err-clause-never g c = λ kind some. stays-tells _ _ (c.in-Err.ensures.never_refused kind) (subst IsSome c.not_opened.ensures.keeper some)
+returns-in-Err-clause-never g c =
+    λ kind some. stays-tells _ _ (c.in-Err.ensures.never_refused kind)
+    (subst IsSome c.not_opened.ensures.keeper some)

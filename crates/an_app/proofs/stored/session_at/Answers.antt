@@ -23,13 +23,18 @@ returns-in-Ok-clause-session g c =
 pub returns-in-Err-clause-session : goal.returns-in-Err-clause-session
 returns-in-Err-clause-session g c =
     let its = c.in-Err.ensures in
-    inr (unopened-at _ _ _ _ _ _ _ _ _ its.kept its.refused (λ is. λ sure. its.sure sure is) c.not_opened.ensures.keeper c.not_opened.ensures.told)
+    inr (unopened-at _ _ _ _ _ _ _ _ _ its.kept its.refused
+    (λ is. λ sure. its.sure sure is) c.not_opened.ensures.keeper c.not_opened.ensures.told)
 
 pub returns-in-Err-clause-bounded : goal.returns-in-Err-clause-bounded
 returns-in-Err-clause-bounded g c = little_requests _ _ c.not_opened.ensures.bounded
 
 pub returns-in-Ok-clause-never : goal.returns-in-Ok-clause-never
-returns-in-Ok-clause-never g c = λ kind some. renews-tells _ _ _ (c.in-Ok.ensures.never kind) (c.session_into-ended.ensures.told some)
+returns-in-Ok-clause-never g c =
+    λ kind some.
+    renews-tells _ _ _ (c.in-Ok.ensures.never kind) (c.session_into-ended.ensures.told some)
 
 pub returns-in-Err-clause-never : goal.returns-in-Err-clause-never
-returns-in-Err-clause-never g c = λ kind some. stays-tells _ _ (c.in-Err.ensures.never_refused kind) (subst IsSome c.not_opened.ensures.keeper some)
+returns-in-Err-clause-never g c =
+    λ kind some. stays-tells _ _ (c.in-Err.ensures.never_refused kind)
+    (subst IsSome c.not_opened.ensures.keeper some)

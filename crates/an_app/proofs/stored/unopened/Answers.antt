@@ -5,7 +5,8 @@ use Rattle.an_app.proofs.stored.unopened.Goals as goal
 
 pub returns-in-Keeper-clause-told : goal.returns-in-Keeper-clause-told
 returns-in-Keeper-clause-told g c =
-    Unopened-keeper _ _ _ _ _ _ c.as_bytes.ensures.value (sym c.in-Keeper.is, λ is. absurd (cc)) c.tell.ensures.front c.tell.ensures.tells
+    Unopened-keeper _ _ _ _ _ _ c.as_bytes.ensures.value
+    (sym c.in-Keeper.is, λ is. absurd (cc)) c.tell.ensures.front c.tell.ensures.tells
 
 pub returns-in-Keeper-clause-bounded : goal.returns-in-Keeper-clause-bounded
 returns-in-Keeper-clause-bounded g c = reads_little-none _ _ _ c.tell.ensures.front
@@ -13,7 +14,8 @@ returns-in-Keeper-clause-bounded g c = reads_little-none _ _ _ c.tell.ensures.fr
 pub returns-in-Ok-clause-told : goal.returns-in-Ok-clause-told
 returns-in-Ok-clause-told g c =
     let text = c.as_bytes-in-Ok.ensures.value ∙ c.as_str.ensures.value ∙ c.in-Ok.ensures in
-    Unopened-damaged _ _ _ _ _ _ _ _ text (sym c.in-Damaged.is, λ is. absurd (cc)) c.tell-in-Ok.ensures.front c.tell-in-Ok.ensures.tells
+    Unopened-damaged _ _ _ _ _ _ _ _ text
+    (sym c.in-Damaged.is, λ is. absurd (cc)) c.tell-in-Ok.ensures.front c.tell-in-Ok.ensures.tells
 
 pub returns-in-Ok-clause-bounded : goal.returns-in-Ok-clause-bounded
 returns-in-Ok-clause-bounded g c = reads_little-none _ _ _ c.tell-in-Ok.ensures.front

@@ -9,6 +9,7 @@ returns-clause-count c = search (rules, chars_from_encodes)
 
 pub returns-clause-bound : goal.returns-clause-bound
 returns-clause-bound c =
-    let count : c.count.result ≡ length (chars c.args.text.now) = search (rules, chars_from_encodes) in
+    let count : c.count.result ≡ length (chars c.args.text.now) =
+    search (rules, chars_from_encodes) in
     let bound = length-chars c.args.text.now c.utf8.text in
     omega arith

@@ -5,4 +5,5 @@ use Rattle.an_base.proofs.member.has_item.Given as goal
 
 -- the items that are left answer for all
 abbrev pub invariant-loop-item : goal.invariant-loop-item
-invariant-loop-item l = has_item l.text (items_view l.items) ≡ has_item l.text (items_view (drop l.item-index l.items))
+invariant-loop-item l =
+    has_item l.text (items_view l.items) ≡ has_item l.text (items_view (drop l.item-index l.items))

@@ -10,7 +10,8 @@ use Rattle.an_base.proofs.moment.date_time_after.Goals as goal
 low : (c : goal.After-struct_told-1) → pos 0 ≤ℤ c.from_days_since_min-date.result.year
 low c =
     let date = c.from_days_since_min-date.result in
-    year_from_zero date.year date.month date.day (c.args.seconds / 86_400) (date.year_in, date.month_in, date.day_in) c.from_days_since_min-date.ensures
+    year_from_zero date.year date.month date.day (c.args.seconds / 86_400)
+    (date.year_in, date.month_in, date.day_in) c.from_days_since_min-date.ensures
 
 pub overflow_cast-result : goal.overflow_cast-result
 overflow_cast-result c =
@@ -30,10 +31,14 @@ parts c = record {
   second = c.args.seconds % 60;
 }
 
-same_year : (c : goal.After-struct_told-1) → c.from_days_since_min-date.result.year ≡ pos (unsigned_abs c.from_days_since_min-date.result.year)
+same_year : (c : goal.After-struct_told-1)
+    → c.from_days_since_min-date.result.year
+    ≡ pos (unsigned_abs c.from_days_since_min-date.result.year)
 same_year c = not_negative c.from_days_since_min-date.result.year (low c)
 
-same_bits : (c : goal.After-struct_told-1) → to_z w16 (of_z w16 c.from_days_since_min-date.result.year) ≡ c.from_days_since_min-date.result.year
+same_bits : (c : goal.After-struct_told-1)
+    → to_z w16 (of_z w16 c.from_days_since_min-date.result.year)
+    ≡ c.from_days_since_min-date.result.year
 same_bits c = let high = c.from_days_since_min-date.result.year_in in omega (arith, signed_casts)
 
 date_holds : (c : goal.After-struct_told-1) → DateHolds (parts c)
@@ -55,4 +60,5 @@ time_holds c = record { hour = omega arith; minute = omega arith; second = omega
 
 pub returns-clause-value : goal.returns-clause-value
 returns-clause-value c =
-    rw (same_bits c) (sym (date_time_after-civil (parts c) c.args.seconds (date_holds c) (time_holds c) (rw (← same_year c) c.from_days_since_min-date.ensures) refl refl refl))
+    rw (same_bits c) (sym (date_time_after-civil (parts c) c.args.seconds (date_holds c)
+    (time_holds c) (rw (← same_year c) c.from_days_since_min-date.ensures) refl refl refl))

@@ -18,11 +18,16 @@ same_day c = let v = c.in-Ok.ensures.value.2 in omega (arith, signed_casts)
 days : (c : goal.After-days_since_min) → c.days_since_min.result ≡ 3_652_059 + days_before c.args.t
 days c =
     let date = c.in-Ok.date in
-    days_since_min-days c.args.t.year c.args.t.month c.args.t.day c.days_since_min.result (omega (arith, same_day c, date.day_in)) (rw (← same_year c, ← same_month c, ← same_day c) c.days_since_min.ensures.value)
+    days_since_min-days c.args.t.year c.args.t.month c.args.t.day c.days_since_min.result
+    (omega (arith, same_day c, date.day_in))
+    (rw (← same_year c, ← same_month c, ← same_day c) c.days_since_min.ensures.value)
 
 -- the date's day is one of its month
-length : (c : goal.After-days_since_min) → c.in-Ok.date.day ≤ days_in_month c.args.t.year c.in-Ok.date.month
-length c = let P : ℤ → Type 0 = λ y. c.in-Ok.date.day ≤ civil.days_in_month y c.in-Ok.date.month in subst P (same_year c) c.in-Ok.date.day_in.1
+length : (c : goal.After-days_since_min)
+    → c.in-Ok.date.day ≤ days_in_month c.args.t.year c.in-Ok.date.month
+length c =
+    let P : ℤ → Type 0 = λ y. c.in-Ok.date.day ≤ civil.days_in_month y c.in-Ok.date.month in
+    subst P (same_year c) c.in-Ok.date.day_in.1
 
 holds : (c : goal.After-days_since_min) → is_date c.args.t ≡ true
 holds c =

@@ -7,6 +7,12 @@ use Rattle.an_base.proofs.moment.has_form.Goals as goal
 pub returns-then-bytes : goal.returns-then-bytes
 unfolding has_form
 returns-then-bytes c =
-    let all = all_from_yields_List {s = c.zip.result} (λ pair. fits pair.0 pair.1) c.all.new.self _ c.all.result c.all.ensures.ran (YieldsList-from_zip {s = c.zip.result} (YieldsList-from_slice c.args.bytes.now cc) (YieldsList-from_slice form cc)) (λ x b q k. search (rules, tests)) in
-    let long : (length c.args.bytes.now == 20) ≡ true = eq-eqb (length c.args.bytes.now) 20 c.if-bytes.true in
+    let all =
+    all_from_yields_List {s = c.zip.result} (λ pair. fits pair.0 pair.1) c.all.new.self _
+    c.all.result c.all.ensures.ran
+    (YieldsList-from_zip {s = c.zip.result} (YieldsList-from_slice c.args.bytes.now cc)
+    (YieldsList-from_slice form cc))
+    (λ x b q k. search (rules, tests)) in
+    let long : (length c.args.bytes.now == 20) ≡ true =
+    eq-eqb (length c.args.bytes.now) 20 c.if-bytes.true in
     rw long all

@@ -8,5 +8,6 @@ use Rattle.an_base.proofs.tree.+whole.Goals as goal
 
 pub is_whole-returns-in-String-clause-whole : goal.is_whole-returns-in-String-clause-whole
 is_whole-returns-in-String-clause-whole t c =
-    let seen : view c.args.value.now ≡ string (string_bytes c.in-String.field-0) = rw c.in-String.is (search (rules, the_lemmas)) in
+    let seen : view c.args.value.now ≡ string (string_bytes c.in-String.field-0) =
+    rw c.in-String.is (search (rules, the_lemmas)) in
     sym (ap is_whole seen ∙ is_utf8-string_bytes c.in-String.field-0)

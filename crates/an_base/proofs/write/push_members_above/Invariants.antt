@@ -9,5 +9,6 @@ use Rattle.an_base.proofs.write.push_members_above.Given as goal
 abbrev pub invariant-loop-name : goal.invariant-loop-name
 invariant-loop-name l = record {
   no_float : members_have_float (members_view l.name-iterator) ≡ false;
-  text : l.out.items ++ commas (above l.low (members_view l.name-iterator)) ≡ l.initial.out.items ++ commas (above l.low (members_view l.members.entries));
+  text : l.out.items ++ commas (above l.low (members_view l.name-iterator))
+      ≡ l.initial.out.items ++ commas (above l.low (members_view l.members.entries));
 }

@@ -17,6 +17,8 @@ returns-clause-terms g c =
     IfOk-weaker c.first_terms.result _ _ (λ terms are. are
     ∙ ap (λ min. first_terms min c.in_ok-totals.totals.items) c.min.ensures.value
     ∙ ap (first_terms ask.min) (c.in_ok-totals.ensures.totals
-    ∙ ap (λ prefix. totals_in prefix (asked_notes_on view names c.in_ok-filters.filters)) (c.as_str.ensures.value ∙ c.in_ok-prefix.ensures.term ∙ ap term_of c.q.ensures.value)
-    ∙ ap (λ filters. totals_in (term_of ask.q) (asked_notes_on view names filters)) c.in_ok-filters.ensures))
+    ∙ ap (λ prefix. totals_in prefix (asked_notes_on view names c.in_ok-filters.filters))
+    (c.as_str.ensures.value ∙ c.in_ok-prefix.ensures.term ∙ ap term_of c.q.ensures.value)
+    ∙ ap (λ filters. totals_in (term_of ask.q) (asked_notes_on view names filters))
+    c.in_ok-filters.ensures))
     c.first_terms.ensures.first

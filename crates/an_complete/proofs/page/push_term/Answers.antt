@@ -12,5 +12,8 @@ returns c =
     record {
       text = c.in_ok-out-3.ensures.text c.args.out.items (members_in (term_tree c.args.term.now))
           (piece_then c.args.out.items _ _ _ _ c.in_ok-out.ensures.text
-          (last_piece _ _ _ (c.in_ok-out-2.ensures.text ∙ ap (λ value. c.in_ok-out.out.items ++ member_text (codes "value") (string value)) term))) (c.len-start.ensures ∙ c.args.out.ok.0);
+          (last_piece _ _ _ (c.in_ok-out-2.ensures.text
+          ∙ ap
+          (λ value. c.in_ok-out.out.items ++ member_text (codes "value") (string value)) term)))
+          (c.len-start.ensures ∙ c.args.out.ok.0);
     }

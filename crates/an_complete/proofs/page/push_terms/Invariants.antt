@@ -7,4 +7,5 @@ use Rattle.an_complete.proofs.page.push_terms.Given as goal
 -- what was written, and what the terms that are left are to add
 abbrev pub invariant-loop-term : goal.invariant-loop-term
 invariant-loop-term l =
-    l.out.items ++ item_commas (items_of (map term_tree (drop l.term-index l.terms))) ≡ l.initial.out.items ++ item_commas (items_of (map term_tree l.terms))
+    l.out.items ++ item_commas (items_of (map term_tree (drop l.term-index l.terms)))
+    ≡ l.initial.out.items ++ item_commas (items_of (map term_tree l.terms))

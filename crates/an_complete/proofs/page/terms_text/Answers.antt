@@ -15,8 +15,12 @@ returns c =
     record {
       text = c.from_vec.ensures.value
           ∙ c.in_ok-out-4.ensures.text [] (written_members iri ignored terms)
-          (all_pieces iri ignored terms [] _ _ _ (c.in_ok-out.ensures.text ∙ ap (λ before. before ++ head_text iri ignored) c.new-2.ensures.items)
-          (c.in_ok-out-2.ensures.text items (c.as_slice.ensures.value ∙ c.in_ok-items.ensures.text ∙ ap (λ before. before ++ item_commas items) c.new.ensures.items))
+          (all_pieces iri ignored terms [] _ _ _
+          (c.in_ok-out.ensures.text
+          ∙ ap (λ before. before ++ head_text iri ignored) c.new-2.ensures.items)
+          (c.in_ok-out-2.ensures.text items
+          (c.as_slice.ensures.value ∙ c.in_ok-items.ensures.text
+          ∙ ap (λ before. before ++ item_commas items) c.new.ensures.items))
           c.in_ok-out-3.ensures.text) refl
           ∙ ap compact_text (written_page iri ignored terms);
     }

@@ -15,9 +15,22 @@ loop-place-preserved g c =
     let so_far = filter test found in
     elim c.match-note_at.branch [
       | in-Some+in_ok-try_row-in-Some w ↦
-          let more = ap (filter test) (place_with_row notes c.args.places.now c.loop-place.place-index c.loop-place-test.true w.in-Some.row.now w.in-Some.ensures.row) ∙ filter-append test found (w.in-Some.row.now ∷ []) in
-          rw (w.totals-is, w.last-is, more) (w.in_ok-try_row-in-Some.ensures.row so_far c.loop-place.invariant.0, w.in_ok-try_row-in-Some.ensures.known, omega (arith, c.note_at.ensures.step, c.loop-place.invariant.2))
+          let more =
+          ap (filter test) (place_with_row notes c.args.places.now c.loop-place.place-index
+          c.loop-place-test.true w.in-Some.row.now w.in-Some.ensures.row)
+          ∙ filter-append test found (w.in-Some.row.now ∷ []) in
+          rw (w.totals-is, w.last-is, more) (
+            w.in_ok-try_row-in-Some.ensures.row so_far c.loop-place.invariant.0,
+            w.in_ok-try_row-in-Some.ensures.known,
+            omega (arith, c.note_at.ensures.step, c.loop-place.invariant.2),
+          )
       | in-None w ↦
-          let more = ap (filter test) (place_without notes c.args.places.now c.loop-place.place-index c.loop-place-test.true w.in-None.ensures.row) in
-          rw (w.totals-is, w.last-is, more) (c.loop-place.invariant.0, c.loop-place.invariant.1, omega (arith, c.note_at.ensures.step, c.loop-place.invariant.2))
+          let more =
+          ap (filter test) (place_without notes c.args.places.now c.loop-place.place-index
+          c.loop-place-test.true w.in-None.ensures.row) in
+          rw (w.totals-is, w.last-is, more) (
+            c.loop-place.invariant.0,
+            c.loop-place.invariant.1,
+            omega (arith, c.note_at.ensures.step, c.loop-place.invariant.2),
+          )
     ]

@@ -15,6 +15,7 @@ invariant-loop-manifest g l =
     let view = view_of (g.T.Look.state l.look) (identity l.who) in
     let names = lent_names (take l.manifest-index l.manifests) in
     record {
-      totals : l.totals ≡ totals_of (flat_map (λ m. terms_in l.prefix (asked_notes view m l.filters)) names);
+      totals : l.totals
+          ≡ totals_of (flat_map (λ m. terms_in l.prefix (asked_notes view m l.filters)) names);
       steps : l.steps ≡ l.fn.steps + filter_cost_on view l.filters names;
     }

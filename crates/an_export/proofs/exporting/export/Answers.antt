@@ -12,6 +12,7 @@ returns g c =
     record {
       text = c.from_vec.ensures.value ∙ c.in_ok-out-2.ensures.text
           ∙ ap (λ front. front ++ flat_map note_line view.notes)
-          (c.in_ok-out.ensures.text ∙ ap (λ before. before ++ flat_map manifest_line view.manifests) c.new.ensures.items);
+          (c.in_ok-out.ensures.text
+          ∙ ap (λ before. before ++ flat_map manifest_line view.manifests) c.new.ensures.items);
       steps = c.in_ok-out-2.ensures.steps;
     }

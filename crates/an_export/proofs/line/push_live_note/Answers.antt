@@ -6,5 +6,6 @@ use Rattle.an_export.proofs.line.push_live_note.Goals as goal
 pub returns : goal.returns
 returns c = record {
   text = c.in_ok-out.ensures.text ∙ ap (λ line. c.args.out.items ++ line)
-      (written_note c.args.row.now (lent_note c.args.live.now) c.as_str.result.now c.text.result.now (c.as_str.ensures.value ∙ c.in_ok-head.ensures.text) c.text.ensures.text);
+      (written_note c.args.row.now (lent_note c.args.live.now) c.as_str.result.now c.text.result.now
+      (c.as_str.ensures.value ∙ c.in_ok-head.ensures.text) c.text.ensures.text);
 }

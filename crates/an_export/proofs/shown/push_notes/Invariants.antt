@@ -12,7 +12,8 @@ invariant-loop-place g l =
     let notes = (g.T.Look.state l.look).notes in
     let shown = shows_note (g.T.Look.state l.look) (identity l.who) in
     record {
-      text : l.out.items ++ flat_map note_line (filter shown (drop l.place notes)) ≡ l.initial.out.items ++ flat_map note_line (filter shown notes);
+      text : l.out.items ++ flat_map note_line (filter shown (drop l.place notes))
+          ≡ l.initial.out.items ++ flat_map note_line (filter shown notes);
       steps : l.steps ≡ l.fn.steps + l.place;
       within : l.place ≤ length notes;
     }

@@ -6,4 +6,5 @@ use Rattle.an_export.proofs.shown.push_rows.Given as goal
 -- what was written, and the lines of the manifests that are left
 abbrev pub invariant-loop-row : goal.invariant-loop-row
 invariant-loop-row l =
-    l.out.items ++ flat_map manifest_line (map (λ row. row.now) (drop l.row-index l.rows)) ≡ l.initial.out.items ++ flat_map manifest_line (map (λ row. row.now) l.rows)
+    l.out.items ++ flat_map manifest_line (map (λ row. row.now) (drop l.row-index l.rows))
+    ≡ l.initial.out.items ++ flat_map manifest_line (map (λ row. row.now) l.rows)

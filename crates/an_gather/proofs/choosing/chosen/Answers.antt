@@ -14,7 +14,12 @@ use Rattle.an_gather.proofs.choosing.chosen.Goals as goal
 
 pub shown_among-requires : goal.shown_among-requires
 shown_among-requires g c =
-    record { names = subst (λ (names : List (List ℕ)). AllPass is_name names) (sym (c.as_slice.ensures.value ∙ c.in_ok-pieces.ensures.pieces)) (pieces_named (option_copied c.args.manifests) c.requires.names) }
+    record {
+      names =
+          subst (λ (names : List (List ℕ)). AllPass is_name names)
+          (sym (c.as_slice.ensures.value ∙ c.in_ok-pieces.ensures.pieces))
+          (pieces_named (option_copied c.args.manifests) c.requires.names);
+    }
 
 pub returns-clause-chosen : goal.returns-clause-chosen
 returns-clause-chosen g c =
@@ -22,5 +27,8 @@ returns-clause-chosen g c =
     let found = c.in_ok-names.names.items in
     let pieces = c.as_slice-2.ensures.value ∙ c.in_ok-pieces.ensures.pieces in
     ap (λ scope. searched view scope found) c.scope_of.ensures
-    ∙ chosen-searched view c.as_slice-2.result.now found (c.in_ok-names.ensures.names ∙ ap (λ (names : List (List ℕ)). filter (is_shown view) (ascending names)) (c.as_slice.ensures.value ∙ sym c.as_slice-2.ensures.value))
+    ∙ chosen-searched view c.as_slice-2.result.now found
+    (c.in_ok-names.ensures.names
+    ∙ ap (λ (names : List (List ℕ)). filter (is_shown view) (ascending names))
+    (c.as_slice.ensures.value ∙ sym c.as_slice-2.ensures.value))
     ∙ ap (chosen view) pieces

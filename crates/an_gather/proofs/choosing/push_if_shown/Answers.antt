@@ -16,5 +16,6 @@ returns-in_ok-push-in-Some g c =
     let shown : is_shown view text ≡ true = ap is_some (sym at) in
     ap lent_names c.in_ok-push-in-Some.ensures.items
     ∙ lent-push c.args.found.now.items c.name.result
-    ∙ ap (λ (name : List ℕ). named ++ name ∷ []) (c.name.ensures.name ∙ found-name view text c.in-Some.row.now at)
+    ∙ ap (λ (name : List ℕ). named ++ name ∷ [])
+    (c.name.ensures.name ∙ found-name view text c.in-Some.row.now at)
     ∙ ap (λ b. named ++ cond b (text ∷ []) []) (sym shown)

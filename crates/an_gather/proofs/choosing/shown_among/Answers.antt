@@ -12,9 +12,14 @@ use Rattle.an_gather.proofs.choosing.shown_among.Goals as goal
 
 pub shown_in-requires : goal.shown_in-requires
 shown_in-requires g c =
-    record { names = subst (λ (names : List (List ℕ)). AllPass is_name names) (sym c.in_ok-names.ensures.value) (ascending_named c.args.names.now c.requires.names) }
+    record {
+      names =
+          subst (λ (names : List (List ℕ)). AllPass is_name names) (sym c.in_ok-names.ensures.value)
+          (ascending_named c.args.names.now c.requires.names);
+    }
 
 pub returns-clause-once : goal.returns-clause-once
 returns-clause-once g c =
     let shown = is_shown (view_of (g.T.Look.state c.args.look.now) (identity c.args.who.now)) in
-    ap each_once (c.in_ok-found.ensures ∙ ap (filter shown) c.in_ok-names.ensures.value) ∙ chosen_once shown c.args.names.now
+    ap each_once (c.in_ok-found.ensures ∙ ap (filter shown) c.in_ok-names.ensures.value)
+    ∙ chosen_once shown c.args.names.now

@@ -9,4 +9,5 @@ use Rattle.an_gather.proofs.choosing.shown_in.Given as goal
 -- those of the names so far
 abbrev pub invariant-loop-place : goal.invariant-loop-place
 invariant-loop-place g l =
-    lent_names l.found.items ≡ filter (is_shown (view_of (g.T.Look.state l.look) (identity l.who))) (take l.place l.names)
+    lent_names l.found.items
+    ≡ filter (is_shown (view_of (g.T.Look.state l.look) (identity l.who))) (take l.place l.names)

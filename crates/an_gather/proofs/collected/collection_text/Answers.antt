@@ -17,12 +17,27 @@ returns c =
     let base = c.args.base.now in
     record {
       text = λ manifests items.
-          let first = c.in_ok-out.ensures.text contexts (c.as_bytes.ensures.value ∙ contexts_text) ∙ ap (λ before. before ++ member_text (codes "@context") (array contexts)) c.in_ok-room.ensures.items in
-          let id = c.in_ok-out-2.ensures.text ∙ ap (λ iri. c.in_ok-out.out.items ++ member_text (codes "id") (string iri)) (c.as_str.ensures.value ∙ c.in_ok-iri.ensures.iri) in
+          let first =
+          c.in_ok-out.ensures.text contexts (c.as_bytes.ensures.value ∙ contexts_text)
+          ∙ ap (λ before. before ++ member_text (codes "@context") (array contexts))
+          c.in_ok-room.ensures.items in
+          let id =
+          c.in_ok-out-2.ensures.text
+          ∙ ap (λ iri. c.in_ok-out.out.items ++ member_text (codes "id") (string iri))
+          (c.as_str.ensures.value ∙ c.in_ok-iri.ensures.iri) in
           c.from_vec.ensures.value
           ∙ c.in_ok-out-7.ensures.text []
-          (member (codes "@context") (array contexts) (member (codes "id") (string (collection_iri base)) (member (codes "items") (array (items_of manifests)) (member (codes "label") collection_label
-          (member (codes "service") (array (item (search_service base) no_items)) (member (codes "type") (string (codes "Collection")) no_members))))))
-          (piece_then [] _ _ _ _ first (piece_then c.in_ok-out.out.items _ _ _ _ id (piece_then c.in_ok-out-2.out.items _ _ _ _ (c.in_ok-out-3.ensures.text (items_of manifests) items)
-          (piece_then c.in_ok-out-3.out.items _ _ _ _ c.in_ok-out-4.ensures.text (piece_then c.in_ok-out-4.out.items _ _ _ _ c.in_ok-out-5.ensures.text (last_piece _ _ _ c.in_ok-out-6.ensures.text)))))) refl;
+          (member (codes "@context") (array contexts)
+          (member (codes "id") (string (collection_iri base))
+          (member (codes "items") (array (items_of manifests))
+          (member (codes "label") collection_label
+          (member (codes "service") (array (item (search_service base) no_items))
+          (member (codes "type") (string (codes "Collection")) no_members))))))
+          (piece_then [] _ _ _ _ first
+          (piece_then c.in_ok-out.out.items _ _ _ _ id
+          (piece_then c.in_ok-out-2.out.items _ _ _ _
+          (c.in_ok-out-3.ensures.text (items_of manifests) items)
+          (piece_then c.in_ok-out-3.out.items _ _ _ _ c.in_ok-out-4.ensures.text
+          (piece_then c.in_ok-out-4.out.items _ _ _ _ c.in_ok-out-5.ensures.text
+          (last_piece _ _ _ c.in_ok-out-6.ensures.text)))))) refl;
     }

@@ -17,8 +17,20 @@ close_members-requires c =
     let id = member_text (codes "id") (string c.as_str-2.result.now) in
     let kind = member_text (codes "type") (string (codes "Manifest")) in
     let own = member_text (codes "label") label in
-    let all = piece_then c.args.out.items _ _ id (own ++ kind) c.in_ok-out.ensures.text (piece_then c.in_ok-out.out.items _ _ own kind (c.in_ok-out-2.ensures.text label there) c.in_ok-out-3.ensures.text) in
-    record { start = omega (arith, ap length all, length-append c.args.out.items (id ++ (own ++ kind)), c.len-start.ensures, c.args.out.ok.0, c.in_ok-out-3.out.ok.0) }
+    let all =
+    piece_then c.args.out.items _ _ id (own ++ kind) c.in_ok-out.ensures.text
+    (piece_then c.in_ok-out.out.items _ _ own kind
+    (c.in_ok-out-2.ensures.text label there) c.in_ok-out-3.ensures.text) in
+    record {
+      start = omega (
+        arith,
+        ap length all,
+        length-append c.args.out.items (id ++ (own ++ kind)),
+        c.len-start.ensures,
+        c.args.out.ok.0,
+        c.in_ok-out-3.out.ok.0,
+      );
+    }
 
 pub returns : goal.returns
 returns c =
@@ -27,10 +39,21 @@ returns c =
     let there = some-found found c.push_label.ensures.label in
     let iri = string (manifest_iri c.args.base.now c.args.name.now) in
     let kind = member (codes "type") (string (codes "Manifest")) no_members in
-    let id = c.in_ok-out.ensures.text ∙ ap (λ iri. c.args.out.items ++ member_text (codes "id") (string iri)) (c.as_str-2.ensures.value ∙ c.in_ok-iri.ensures.iri ∙ ap (λ name. manifest_iri c.args.base.now name) c.as_str.ensures.value) in
+    let id =
+    c.in_ok-out.ensures.text
+    ∙ ap (λ iri. c.args.out.items ++ member_text (codes "id") (string iri))
+    (c.as_str-2.ensures.value ∙ c.in_ok-iri.ensures.iri
+    ∙ ap (λ name. manifest_iri c.args.base.now name) c.as_str.ensures.value) in
     record {
-      text = c.in_ok-out-4.ensures.text c.args.out.items (member (codes "id") iri (member (codes "label") label kind))
-          (piece_then c.args.out.items _ _ _ _ id (piece_then c.in_ok-out.out.items _ _ _ _ (c.in_ok-out-2.ensures.text label there) (last_piece _ _ _ c.in_ok-out-3.ensures.text)))
+      text =
+          c.in_ok-out-4.ensures.text c.args.out.items
+          (member (codes "id") iri (member (codes "label") label kind))
+          (piece_then c.args.out.items _ _ _ _ id
+          (piece_then c.in_ok-out.out.items _ _ _ _ (c.in_ok-out-2.ensures.text label there)
+          (last_piece _ _ _ c.in_ok-out-3.ensures.text)))
           (c.len-start.ensures ∙ c.args.out.ok.0)
-          ∙ ap (λ found. c.args.out.items ++ compact_text (with_member_if (codes "label") found (object (member (codes "id") iri kind)))) (sym there);
+          ∙ ap (λ found. c.args.out.items
+          ++ compact_text
+          (with_member_if (codes "label") found (object (member (codes "id") iri kind))))
+          (sym there);
     }

@@ -8,4 +8,5 @@ pub returns-clause-text : goal.returns-clause-text
 returns-clause-text c =
     let all = item (string (codes "All")) no_items in
     member_joined (codes "none") (array all) c.args.out.items _ _ c.in_ok-out.ensures.text
-    (c.in_ok-out-3.ensures.text c.in_ok-out.out.items all (last_piece _ _ _ c.in_ok-out-2.ensures.text) (c.len-start.ensures ∙ c.in_ok-out.out.ok.0))
+    (c.in_ok-out-3.ensures.text c.in_ok-out.out.items all
+    (last_piece _ _ _ c.in_ok-out-2.ensures.text) (c.len-start.ensures ∙ c.in_ok-out.out.ok.0))

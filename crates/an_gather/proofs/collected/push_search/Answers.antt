@@ -8,6 +8,12 @@ use Rattle.an_gather.proofs.collected.push_search.Goals as goal
 
 pub returns-clause-text : goal.returns-clause-text
 returns-clause-text c =
-    let id = c.in_ok-out.ensures.text ∙ ap (λ iri. c.args.out.items ++ member_text (codes "id") (string iri)) (c.as_str.ensures.value ∙ c.in_ok-iri.ensures.iri) in
+    let id =
+    c.in_ok-out.ensures.text
+    ∙ ap (λ iri. c.args.out.items ++ member_text (codes "id") (string iri))
+    (c.as_str.ensures.value ∙ c.in_ok-iri.ensures.iri) in
     c.in_ok-out-4.ensures.text c.args.out.items (members_in (search_service c.args.base.now))
-    (piece_then c.args.out.items _ _ _ _ id (piece_then c.in_ok-out.out.items _ _ _ _ c.in_ok-out-2.ensures.text (last_piece _ _ _ c.in_ok-out-3.ensures.text))) (c.len-start.ensures ∙ c.args.out.ok.0)
+    (piece_then c.args.out.items _ _ _ _ id
+    (piece_then c.in_ok-out.out.items _ _ _ _ c.in_ok-out-2.ensures.text
+    (last_piece _ _ _ c.in_ok-out-3.ensures.text)))
+    (c.len-start.ensures ∙ c.args.out.ok.0)

@@ -12,8 +12,10 @@ invariant-pages g l =
       above : l.known ≤ l.end;
       noted : (later : List Change) × Tells later l.latest × ((outcome : Walk)
           → ComesTo answers (pages l.base l.known l.total l.end l.target) outcome
-          → ComesTo answers (pages l.base l.known l.total l.total l.fn.last) (followed_by later outcome));
-      same : (other : List ℕ) (got : Got) → g.F.Fetch.answers l.fetch other got ↔ g.F.Fetch.answers l.fn.fetch other got;
+          → ComesTo answers (pages l.base l.known l.total l.total l.fn.last)
+          (followed_by later outcome));
+      same : (other : List ℕ) (got : Got)
+          → g.F.Fetch.answers l.fetch other got ↔ g.F.Fetch.answers l.fn.fetch other got;
       kept : g.F.Fetch.faults l.fn.fetch ≤ g.F.Fetch.faults l.fetch;
     }
 

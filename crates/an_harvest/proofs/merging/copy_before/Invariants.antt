@@ -5,7 +5,8 @@ use Rattle.an_harvest.proofs.merging.copy_before.Given as goal
 abbrev pub invariant-loop-object : goal.invariant-loop-object
 invariant-loop-object l = record {
   order : Ascend l.rest;
-  copied : l.objects.items ++ before l.fn.id l.rest ≡ l.fn.objects.items ++ before l.fn.id l.fn.known;
+  copied : l.objects.items ++ before l.fn.id l.rest
+      ≡ l.fn.objects.items ++ before l.fn.id l.fn.known;
   left : after l.fn.id l.rest ≡ after l.fn.id l.fn.known;
 }
 

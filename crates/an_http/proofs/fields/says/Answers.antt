@@ -4,4 +4,5 @@ use Rattle.an_http.proofs.fields.says.Goals as goal
 
 pub loop-at-preserved : goal.loop-at-preserved
 loop-at-preserved c =
-    says-next c.args.case c.args.word.now c.args.bytes.now c.loop-at.at (omega arith) (sym c.begins.ensures ∙ c.if-begins.false) c.loop-at.invariant
+    says-next c.args.case c.args.word.now c.args.bytes.now c.loop-at.at (omega arith)
+    (sym c.begins.ensures ∙ c.if-begins.false) c.loop-at.invariant

@@ -4,6 +4,8 @@ use Rattle.an_http.proofs.reply.push_first_lines.Goals as goal
 
 pub returns : goal.returns
 returns c = record {
-  lines = pushed_four _ _ _ _ _ _ _ _ _ c.in_ok-out.ensures.line c.in_ok-out-2.ensures.lines c.in_ok-out-3.ensures
+  lines =
+      pushed_four _ _ _ _ _ _ _ _ _ c.in_ok-out.ensures.line c.in_ok-out-2.ensures.lines
+      c.in_ok-out-3.ensures
       (c.in_ok-out-4.ensures ∙ ap (λ line. c.in_ok-out-3.out.items ++ line) c.allow_line.ensures);
 }

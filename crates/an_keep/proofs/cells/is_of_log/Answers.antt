@@ -8,4 +8,5 @@ use Rattle.an_keep.proofs.cells.is_of_log.Goals as goal
 pub returns-then-tab-ge4 : goal.returns-then-tab-ge4
 returns-then-tab-ge4 c =
     let late : nat_lt c.args.tab 4 ≡ false = grind (arith, nat_tests, c.if-tab-ge4.true) in
-    rw (late, c.place_of.ensures.place) (all_before (is_before c.args.tab c.args.key) c.args.rows.now)
+    rw (late, c.place_of.ensures.place)
+    (all_before (is_before c.args.tab c.args.key) c.args.rows.now)

@@ -9,4 +9,5 @@ pub returns-clause-place : goal.returns-clause-place
 returns-clause-place c =
     let before = is_before c.args.tab c.args.key in
     prefix-is_place before _ _ c.partition_point.ensures.bound
-    (IsPartitionPoint-from_clause before _ _ c.partition_point.ensures.partitioned (parted _ _ _ c.requires) (λ a r q k. search rules))
+    (IsPartitionPoint-from_clause before _ _ c.partition_point.ensures.partitioned
+    (parted _ _ _ c.requires) (λ a r q k. search rules))

@@ -9,7 +9,8 @@ use Rattle.an_keyed.proofs.log.last_in.Given as goal
 abbrev pub invariant-loop-next : goal.invariant-loop-next
 invariant-loop-next g l =
     let wanted : Key = record { owner = option_copied l.owner; name = l.name } in
-    IsWalk (take l.end l.index.hashes) (key_hash wanted) (IsOther same_key (map g.R.Keyed.key l.items) wanted) l.next
+    IsWalk (take l.end l.index.hashes) (key_hash wanted)
+    (IsOther same_key (map g.R.Keyed.key l.items) wanted) l.next
 
 abbrev pub decreases-loop-next : goal.decreases-loop-next
 decreases-loop-next g l = places_left l.next

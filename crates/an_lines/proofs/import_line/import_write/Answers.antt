@@ -13,6 +13,10 @@ returns-clause-lost g c =
     let command = c.args.command in
     let version = version_of command in
     let lost = on_err c.unwritten.result _
-    (write-lost c.args.counts version _ _ _ c.in-Err.error c.in-Err.ensures.leaves (λ is. c.write.ensures.memory (c.in-Err.is ∙ ap Err is))) in
-    subst (λ caller. OnErr c.unwritten.result (StaysOrLeads (import_written c.args.counts s (written_by s version (step s c.args.stamp.0 caller command))) s c.write.new.self.state))
+    (write-lost c.args.counts version _ _ _ c.in-Err.error c.in-Err.ensures.leaves
+    (λ is. c.write.ensures.memory (c.in-Err.is ∙ ap Err is))) in
+    subst (λ caller. OnErr c.unwritten.result
+    (StaysOrLeads
+    (import_written c.args.counts s (written_by s version (step s c.args.stamp.0 caller command))) s
+    c.write.new.self.state))
     c.writer-caller.ensures lost

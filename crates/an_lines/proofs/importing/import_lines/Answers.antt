@@ -10,7 +10,9 @@ pub returns-in_err-more-clause-front : goal.returns-in_err-more-clause-front
 returns-in_err-more-clause-front g c =
     let p : Progress = record { state = c.lines.desk.state; counts = c.lines.counts } in
     let first = rw c.as_slice.ensures.value at c.in-Some.ensures.first in
-    let front = lost_front c.in-Some.line.now (lines_of (drop c.in-Some.taken c.lines.left)) (lines_of c.lines.left) c.lines.number p first _ c.in_err-more.ensures.lost in
+    let front =
+    lost_front c.in-Some.line.now (lines_of (drop c.in-Some.taken c.lines.left))
+    (lines_of c.lines.left) c.lines.number p first _ c.in_err-more.ensures.lost in
     on_err _ _ (front_leaves _ _ _ (c.lines.invariant.fronts _ front))
 
 pub lines-preserved : goal.lines-preserved
@@ -21,13 +23,21 @@ lines-preserved g c =
     let behind = lines_of (drop c.in-Some.taken c.lines.left) in
     let first = rw c.as_slice.ensures.value at c.in-Some.ensures.first in
     let within = rw c.as_slice.ensures.value at c.in-Some.ensures.within in
-    let rest : length c.pass.new.self ≡ length c.lines.left - c.in-Some.taken = ap length c.pass.ensures.rest ∙ length-drop c.in-Some.taken c.lines.left in
+    let rest : length c.pass.new.self ≡ length c.lines.left - c.in-Some.taken =
+    ap length c.pass.ensures.rest ∙ length-drop c.in-Some.taken c.lines.left in
     let is : import_line p line ≡ Ok q =
-    leads-ok (import_line p line) p.state q.state q.counts (subst (λ r. Leads (import_line p line) p.state q.state r) c.in-Ok.is c.in_ok-more.ensures.leads) in
+    leads-ok (import_line p line) p.state q.state q.counts
+    (subst (λ r. Leads (import_line p line) p.state q.state r) c.in-Ok.is
+    c.in_ok-more.ensures.leads) in
     let most = counted_most p q line is in
     record {
-      all = rw c.pass.ensures.rest (line_done line behind _ c.lines.number p first q is ∙ c.lines.invariant.all);
-      fronts = λ t front. c.lines.invariant.fronts t (line_done-front line behind _ c.lines.number p first q t is (rw c.pass.ensures.rest at front));
+      all =
+          rw c.pass.ensures.rest
+          (line_done line behind _ c.lines.number p first q is ∙ c.lines.invariant.all);
+      fronts =
+          λ t front. c.lines.invariant.fronts t
+          (line_done-front line behind _ c.lines.number p first q t is
+          (rw c.pass.ensures.rest at front));
       kept = omega (arith, c.lines.invariant.kept, c.in_ok-more.ensures.faults_kept);
       told = λ some. c.lines.invariant.told (c.in_ok-more.ensures.told some);
       counted = omega (arith, most, c.lines.invariant.counted);

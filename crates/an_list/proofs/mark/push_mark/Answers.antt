@@ -9,6 +9,8 @@ returns c =
     let iri : c.as_str.result.now ≡ mark_iri c.args.page.now c.args.number = search rules in
     record {
       text = c.in_ok-out-2.ensures.text
-          ∙ ap₂ (λ iri quote. c.in_ok-out.out.items ++ compact_text (mark_of iri c.args.source.now quote)) iri c.in_ok-quote.ensures.quote
+          ∙ ap₂
+          (λ iri quote. c.in_ok-out.out.items ++ compact_text (mark_of iri c.args.source.now quote))
+          iri c.in_ok-quote.ensures.quote
           ∙ c.in_ok-out.ensures.text _;
     }

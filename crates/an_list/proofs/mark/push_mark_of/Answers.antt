@@ -6,7 +6,12 @@ use Rattle.an_list.proofs.mark.push_mark_of.Goals as goal
 
 pub returns : goal.returns
 returns c = record {
-  text = c.in_ok-out-5.ensures.text c.args.out.items (members_in (mark_of c.args.iri.now c.args.source.now c.args.quote.now))
-      (piece_then c.args.out.items _ _ _ _ c.in_ok-out.ensures.text (piece_then c.in_ok-out.out.items _ _ _ _ c.in_ok-out-2.ensures.text
-      (piece_then c.in_ok-out-2.out.items _ _ _ _ c.in_ok-out-3.ensures.text (last_piece _ _ _ c.in_ok-out-4.ensures.text)))) (c.len-start.ensures ∙ c.args.out.ok.0);
+  text =
+      c.in_ok-out-5.ensures.text c.args.out.items
+      (members_in (mark_of c.args.iri.now c.args.source.now c.args.quote.now))
+      (piece_then c.args.out.items _ _ _ _ c.in_ok-out.ensures.text
+      (piece_then c.in_ok-out.out.items _ _ _ _ c.in_ok-out-2.ensures.text
+      (piece_then c.in_ok-out-2.out.items _ _ _ _ c.in_ok-out-3.ensures.text
+      (last_piece _ _ _ c.in_ok-out-4.ensures.text))))
+      (c.len-start.ensures ∙ c.args.out.ok.0);
 }

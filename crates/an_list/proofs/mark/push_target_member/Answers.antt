@@ -11,6 +11,8 @@ returns c =
     record {
       text = member_joined (codes "target") target c.args.out.items _ _ c.in_ok-out.ensures.text
           (c.in_ok-out-5.ensures.text c.in_ok-out.out.items (members_in target)
-          (piece_then c.in_ok-out.out.items _ _ _ _ c.in_ok-out-2.ensures.text (piece_then c.in_ok-out-2.out.items _ _ _ _ c.in_ok-out-3.ensures.text
-          (last_piece _ _ _ c.in_ok-out-4.ensures.text))) (c.len-start.ensures ∙ c.in_ok-out.out.ok.0));
+          (piece_then c.in_ok-out.out.items _ _ _ _ c.in_ok-out-2.ensures.text
+          (piece_then c.in_ok-out-2.out.items _ _ _ _ c.in_ok-out-3.ensures.text
+          (last_piece _ _ _ c.in_ok-out-4.ensures.text)))
+          (c.len-start.ensures ∙ c.in_ok-out.out.ok.0));
     }

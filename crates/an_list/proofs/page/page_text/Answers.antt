@@ -12,9 +12,14 @@ returns c =
     let ignored = c.args.ignored.now in
     record {
       text = λ list marked items marks. c.from_vec.ensures.value
-          ∙ c.in_ok-out-5.ensures.text [] (written_members context whole paging.page paging.size paging.total list marked ignored)
-          (all_pieces context whole paging.page paging.size paging.total list marked ignored [] _ _ _
-          (c.in_ok-out-2.ensures.text marked marks ∙ ap (λ before. before ++ head_text context whole paging.page marked) c.in_ok-out.ensures.items)
+          ∙ c.in_ok-out-5.ensures.text []
+          (written_members context whole paging.page paging.size paging.total list marked ignored)
+          (all_pieces context whole paging.page paging.size paging.total list marked
+          ignored [] _ _ _
+          (c.in_ok-out-2.ensures.text marked marks
+          ∙ ap (λ before. before ++ head_text context whole paging.page marked)
+          c.in_ok-out.ensures.items)
           (c.in_ok-out-3.ensures.text list items) c.in_ok-out-4.ensures.text) refl
-          ∙ ap compact_text (written_page context whole paging.page paging.size paging.total list marked ignored);
+          ∙ ap compact_text
+          (written_page context whole paging.page paging.size paging.total list marked ignored);
     }

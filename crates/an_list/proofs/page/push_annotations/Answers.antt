@@ -7,14 +7,26 @@ use Rattle.an_list.proofs.page.push_annotations.Goals as goal
 
 pub close_items-requires : goal.close_items-requires
 close_items-requires c =
-    let comma = comma_grows c.in_ok-out.out.items c.in_ok-out-2.out.items c.in_ok-out-2.ensures.text in
-    record { start = omega (arith, comma, c.len-start.ensures, c.in_ok-out-3.ensures.grows, c.in_ok-out.out.ok.0, c.in_ok-out-2.out.ok.0) }
+    let comma =
+    comma_grows c.in_ok-out.out.items c.in_ok-out-2.out.items c.in_ok-out-2.ensures.text in
+    record {
+      start = omega (
+        arith,
+        comma,
+        c.len-start.ensures,
+        c.in_ok-out-3.ensures.grows,
+        c.in_ok-out.out.ok.0,
+        c.in_ok-out-2.out.ok.0,
+      );
+    }
 
 pub returns : goal.returns
 returns c = record {
   text = λ marked marks.
       let page = marks_page c.args.page.now marked in
-      member_joined (codes "annotations") (array (item page no_items)) c.args.out.items _ _ c.in_ok-out.ensures.text
+      member_joined (codes "annotations")
+      (array (item page no_items)) c.args.out.items _ _ c.in_ok-out.ensures.text
       (c.in_ok-out-4.ensures.text c.in_ok-out.out.items (item page no_items)
-      (last_piece _ _ _ (c.in_ok-out-3.ensures.text marked marks ∙ c.in_ok-out-2.ensures.text page)) (c.len-start.ensures ∙ c.in_ok-out.out.ok.0));
+      (last_piece _ _ _ (c.in_ok-out-3.ensures.text marked marks ∙ c.in_ok-out-2.ensures.text page))
+      (c.len-start.ensures ∙ c.in_ok-out.out.ok.0));
 }

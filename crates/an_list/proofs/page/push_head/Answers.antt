@@ -14,6 +14,10 @@ returns c =
     record {
       text = λ marked marks. piece_then c.args.out.items _ _ _ _ c.in_ok-out.ensures.text
           (piece_then c.in_ok-out.out.items _ _ _ _
-          (c.in_ok-out-2.ensures.text marked marks ∙ ap (λ id. c.in_ok-out.out.items ++ text_if (codes "annotations") (marks_beside id marked)) first)
-          (c.in_ok-out-3.ensures.text ∙ ap (λ id. c.in_ok-out-2.out.items ++ member_text (codes "id") (string id)) again));
+          (c.in_ok-out-2.ensures.text marked marks
+          ∙ ap
+          (λ id. c.in_ok-out.out.items ++ text_if (codes "annotations") (marks_beside id marked))
+          first)
+          (c.in_ok-out-3.ensures.text
+          ∙ ap (λ id. c.in_ok-out-2.out.items ++ member_text (codes "id") (string id)) again));
     }

@@ -6,4 +6,9 @@ use Rattle.an_list.proofs.page.push_link_member.Goals as goal
 pub returns : goal.returns
 returns c =
     let iri : c.as_str.result.now ≡ page_iri c.args.whole.now c.args.number = search rules in
-    record { text = c.in_ok-out.ensures.text ∙ ap (λ iri. c.args.out.items ++ member_text c.args.name.now (page_named c.args.form iri)) iri }
+    record {
+      text =
+          c.in_ok-out.ensures.text
+          ∙ ap
+          (λ iri. c.args.out.items ++ member_text c.args.name.now (page_named c.args.form iri)) iri;
+    }

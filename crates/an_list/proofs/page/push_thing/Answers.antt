@@ -6,6 +6,10 @@ use Rattle.an_list.proofs.page.push_thing.Goals as goal
 
 pub returns : goal.returns
 returns c = record {
-  text = c.in_ok-out-3.ensures.text c.args.out.items (members_in (thing c.args.iri.now c.args.kind.now))
-      (piece_then c.args.out.items _ _ _ _ c.in_ok-out.ensures.text (last_piece _ _ _ c.in_ok-out-2.ensures.text)) (c.len-start.ensures ∙ c.args.out.ok.0);
+  text =
+      c.in_ok-out-3.ensures.text c.args.out.items
+      (members_in (thing c.args.iri.now c.args.kind.now))
+      (piece_then c.args.out.items _ _ _ _ c.in_ok-out.ensures.text
+      (last_piece _ _ _ c.in_ok-out-2.ensures.text))
+      (c.len-start.ensures ∙ c.args.out.ok.0);
 }

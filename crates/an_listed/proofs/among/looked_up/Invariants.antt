@@ -10,5 +10,11 @@ use Rattle.an_listed.proofs.among.looked_up.Given as goal
 -- those so far and those of what is left are those of all
 abbrev pub invariant-loop-place : goal.invariant-loop-place
 invariant-loop-place l =
-    l.having.items ++ filter (λ place. passes (λ row. has place (places_at l.lists row.class) && reads (identity l.who) l.classes row.class) (slice_get l.rows place)) (drop l.place-index l.places)
-    ≡ filter (λ place. passes (λ row. has place (places_at l.lists row.class) && reads (identity l.who) l.classes row.class) (slice_get l.rows place)) l.places
+    l.having.items
+    ++ filter (λ place. passes
+    (λ row. has place (places_at l.lists row.class) && reads (identity l.who) l.classes row.class)
+    (slice_get l.rows place))
+    (drop l.place-index l.places)
+    ≡ filter (λ place. passes
+    (λ row. has place (places_at l.lists row.class) && reads (identity l.who) l.classes row.class)
+    (slice_get l.rows place)) l.places

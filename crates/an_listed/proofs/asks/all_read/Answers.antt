@@ -13,7 +13,10 @@ returns-clause-rises c =
     let read = c.loop-class.read.items in
     let long = ap length c.as_slice-audience-items.ensures.audiences in
     let none = drop_all c.loop-class.class classes (omega (arith, long, c.loop-class-test.false)) in
-    let all = sym (append-nil read) ∙ ap (λ left. read ++ places_from (may who) c.loop-class.class left) (sym none) ∙ c.loop-class.invariant in
+    let all =
+    sym (append-nil read)
+    ∙ ap (λ left. read ++ places_from (may who) c.loop-class.class left) (sym none)
+    ∙ c.loop-class.invariant in
     subst (Rises 0) (sym all) (Rises-places_from (may who) 0 classes)
 
 pub returns-clause-read : goal.returns-clause-read
@@ -23,5 +26,8 @@ returns-clause-read c = λ class.
     let read = c.loop-class.read.items in
     let long = ap length c.as_slice-audience-items.ensures.audiences in
     let none = drop_all c.loop-class.class classes (omega (arith, long, c.loop-class-test.false)) in
-    let all = sym (append-nil read) ∙ ap (λ left. read ++ places_from (may who) c.loop-class.class left) (sym none) ∙ c.loop-class.invariant in
+    let all =
+    sym (append-nil read)
+    ∙ ap (λ left. read ++ places_from (may who) c.loop-class.class left) (sym none)
+    ∙ c.loop-class.invariant in
     ap (has class) all ∙ has-places_from (may who) class classes

@@ -13,7 +13,15 @@ returns c =
     let own = c.in_ok-own.own.items in
     let same = ap (filter passes) c.as_slice.ensures.value in
     let found = c.those_read.ensures.read in record {
-      rises = IfOk-weaker c.those_read.result _ _ (λ read is. rises-read passes own read.items (is ∙ same) c.in_ok-own.ensures.rises) found;
-      read = IfOk-weaker c.those_read.result _ _ (λ read is. read-passes passes own read.items (is ∙ same)) found;
-      others = IfOk-weaker c.those_read.result _ _ (λ read is. read-others passes own read.items (is ∙ same) (λ class. places_in c.args.lists.now (slot_of c.args.text.now c.args.term.now class)) c.in_ok-own.ensures.others) found;
+      rises =
+          IfOk-weaker c.those_read.result _ _
+          (λ read is. rises-read passes own read.items (is ∙ same) c.in_ok-own.ensures.rises) found;
+      read =
+          IfOk-weaker c.those_read.result _ _
+          (λ read is. read-passes passes own read.items (is ∙ same)) found;
+      others =
+          IfOk-weaker c.those_read.result _ _
+          (λ read is. read-others passes own read.items (is ∙ same)
+          (λ class. places_in c.args.lists.now (slot_of c.args.text.now c.args.term.now class))
+          c.in_ok-own.ensures.others) found;
     }

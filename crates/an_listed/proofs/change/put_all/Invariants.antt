@@ -10,7 +10,10 @@ abbrev pub invariant-loop-at : goal.invariant-loop-at
 invariant-loop-at l = record {
   room : IsEnough (parts_from l.keys l.at) l.lists;
   small : (slot : Slot) → count_in l.lists slot + parts_at (parts_from l.keys l.at) slot < 2 ^ 128;
-  places : posted l.place (places_in l.lists) (parts_from l.keys l.at) ≡ posted l.place (places_in l.fn.lists) (parts_of l.keys);
-  counts : added (count_in l.lists) (parts_from l.keys l.at) ≡ added (count_in l.fn.lists) (parts_of l.keys);
-  rest : (rest : List (Slot × ℕ)) → IsEnough (parts_of l.keys ++ rest) l.fn.lists → IsEnough (parts_from l.keys l.at ++ rest) l.lists;
+  places : posted l.place (places_in l.lists) (parts_from l.keys l.at)
+      ≡ posted l.place (places_in l.fn.lists) (parts_of l.keys);
+  counts : added (count_in l.lists) (parts_from l.keys l.at)
+      ≡ added (count_in l.fn.lists) (parts_of l.keys);
+  rest : (rest : List (Slot × ℕ)) → IsEnough (parts_of l.keys ++ rest) l.fn.lists
+      → IsEnough (parts_from l.keys l.at ++ rest) l.lists;
 }

@@ -11,7 +11,9 @@ abbrev pub invariant-loop-at : goal.invariant-loop-at
 invariant-loop-at l =
     let new = parts_in l.new in record {
       there : IsThere (count_in l.lists) (parts_from l.keys l.at);
-      places : unposted l.place (places_in l.lists) (left_parts new (parts_from l.keys l.at)) ≡ unposted l.place (places_in l.fn.lists) (left_parts new (parts_of l.keys));
-      counts : taken (count_in l.lists) (parts_from l.keys l.at) ≡ taken (count_in l.fn.lists) (parts_of l.keys);
+      places : unposted l.place (places_in l.lists) (left_parts new (parts_from l.keys l.at))
+          ≡ unposted l.place (places_in l.fn.lists) (left_parts new (parts_of l.keys));
+      counts : taken (count_in l.lists) (parts_from l.keys l.at)
+          ≡ taken (count_in l.fn.lists) (parts_of l.keys);
       kept : IsKeptBut l.more (left_parts new (parts_of l.keys)) l.fn.lists l.lists;
     }

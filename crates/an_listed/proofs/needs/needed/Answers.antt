@@ -8,7 +8,8 @@ use Rattle.an_listed.proofs.needs.needed.Goals as goal
 pub loop-row-init : goal.loop-row-init
 loop-row-init c = record {
   count = λ slot. ap (λ (f : Slot → ℕ). f slot) c.new-needed.ensures.count;
-  few = λ slot. let e = ap (λ (f : Slot → ℕ). f slot) c.new-needed.ensures.count in omega (arith, e);
+  few =
+      λ slot. let e = ap (λ (f : Slot → ℕ). f slot) c.new-needed.ensures.count in omega (arith, e);
 }
 
 pub count_row-requires : goal.count_row-requires
@@ -23,7 +24,9 @@ pub loop-row-preserved : goal.loop-row-preserved
 loop-row-preserved c = record {
   count = λ slot.
       let e = c.in_ok-count_row.ensures.count slot in
-      let n = rows-next (parts_by c.args.kind) c.args.rows.now c.loop-row.row-index c.row-item.result c.loop-row-test.true c.row-item.is slot in
+      let n =
+      rows-next (parts_by c.args.kind) c.args.rows.now c.loop-row.row-index c.row-item.result
+      c.loop-row-test.true c.row-item.is slot in
       let k = c.loop-row.invariant.count slot in
       omega (arith, e, n, k);
   few = λ slot.

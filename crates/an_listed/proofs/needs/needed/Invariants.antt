@@ -9,6 +9,7 @@ use Rattle.an_listed.proofs.needs.needed.Given as goal
 -- so far each row counted at most once
 abbrev pub invariant-loop-row : goal.invariant-loop-row
 invariant-loop-row l = record {
-  count : (slot : Slot) → count_in l.needed slot ≡ times slot (flat_map (parts_by l.kind) (take l.row-index l.rows));
+  count : (slot : Slot)
+      → count_in l.needed slot ≡ times slot (flat_map (parts_by l.kind) (take l.row-index l.rows));
   few : (slot : Slot) → count_in l.needed slot ≤ l.row-index;
 }

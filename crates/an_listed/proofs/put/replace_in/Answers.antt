@@ -14,8 +14,11 @@ use Rattle.an_listed.proofs.put.replace_in.Goals as goal
 
 pub take-requires-clause-there : goal.take-requires-clause-there
 take-requires-clause-there c =
-    let there = of-there c.args.kind c.args.lists.now c.args.rows.now c.requires.of c.args.place c.index-rows-place.result c.requires.place c.index-rows-place.is in
-    subst (λ (k : Option Row). IsThere (count_in c.args.lists.now) (parts_in k)) (sym c.keys_by-old.ensures.keys) there
+    let there =
+    of-there c.args.kind c.args.lists.now c.args.rows.now c.requires.of c.args.place
+    c.index-rows-place.result c.requires.place c.index-rows-place.is in
+    subst (λ (k : Option Row). IsThere (count_in c.args.lists.now) (parts_in k))
+    (sym c.keys_by-old.ensures.keys) there
 
 pub put-requires-clause-room : goal.put-requires-clause-room
 put-requires-clause-room c =
@@ -23,13 +26,20 @@ put-requires-clause-room c =
     let old = parts_in c.keys_by-old.result in
     let new = parts_in c.keys_by-new.result in
     let own = own-parts kind c.args.row.now [] c.args.lists.now c.requires.space in
-    enough-but new (left_parts new old) c.args.lists.now c.take.new.lists c.args.more c.take.ensures.kept (λ slot posted. left-none slot old new posted)
-    (subst (λ (k : Option Row). IsEnough (parts_in k) c.args.lists.now) (sym c.keys_by-new.ensures.keys) own)
+    enough-but new (left_parts new old) c.args.lists.now c.take.new.lists c.args.more
+    c.take.ensures.kept (λ slot posted. left-none slot old new posted)
+    (subst (λ (k : Option Row). IsEnough (parts_in k) c.args.lists.now)
+    (sym c.keys_by-new.ensures.keys) own)
 
 pub put-requires-clause-small : goal.put-requires-clause-small
 put-requires-clause-small c =
-    let counts = c.take.ensures.counts ∙ ap (λ (k : Option Row). taken (count_in c.args.lists.now) (parts_in k)) c.keys_by-old.ensures.keys in
-    let small = small-taken c.args.kind c.args.lists.now c.args.rows.now c.requires.of c.requires.few c.index-rows-place.result c.args.row.now (count_in c.take.new.lists) counts in
+    let counts =
+    c.take.ensures.counts
+    ∙ ap (λ (k : Option Row). taken (count_in c.args.lists.now) (parts_in k))
+    c.keys_by-old.ensures.keys in
+    let small =
+    small-taken c.args.kind c.args.lists.now c.args.rows.now c.requires.of c.requires.few
+    c.index-rows-place.result c.args.row.now (count_in c.take.new.lists) counts in
     rw c.keys_by-new.ensures.keys small
 
 pub returns-clause-of : goal.returns-clause-of
@@ -39,14 +49,22 @@ returns-clause-of c =
     let now = c.args.lists.now in
     let old = c.index-rows-place.result in
     let row = c.args.row.now in
-    let same : ◌≡◌ {A = Option Row × Option Row} (c.keys_by-old.result, c.keys_by-new.result) (keys_by kind old, keys_by kind row) = λ i. (c.keys_by-old.ensures.keys i, c.keys_by-new.ensures.keys i) in
+    let same : ◌≡◌ {A = Option Row × Option Row} (c.keys_by-old.result, c.keys_by-new.result)
+    (keys_by kind old, keys_by kind row) =
+    λ i. (c.keys_by-old.ensures.keys i, c.keys_by-new.ensures.keys i) in
     let places = c.put.ensures.places
-    ∙ ap (λ (ls : Slot → List ℕ). posted place ls (parts_in c.keys_by-new.result)) c.take.ensures.places
-    ∙ ap (λ (k : Option Row × Option Row). posted place (unposted place (places_in now) (left_parts (parts_in k.1) (parts_in k.0))) (parts_in k.1)) same in
+    ∙ ap (λ (ls : Slot → List ℕ). posted place ls (parts_in c.keys_by-new.result))
+    c.take.ensures.places
+    ∙ ap (λ (k : Option Row × Option Row). posted place
+    (unposted place (places_in now) (left_parts (parts_in k.1) (parts_in k.0))) (parts_in k.1))
+    same in
     let counts = c.put.ensures.counts
     ∙ ap (λ (f : Slot → ℕ). added f (parts_in c.keys_by-new.result)) c.take.ensures.counts
-    ∙ ap (λ (k : Option Row × Option Row). added (taken (count_in now) (parts_in k.0)) (parts_in k.1)) same in
-    of-set kind now c.args.rows.now c.requires.of c.put.new.lists place old row c.requires.place c.index-rows-place.is places counts
+    ∙ ap
+    (λ (k : Option Row × Option Row). added (taken (count_in now) (parts_in k.0)) (parts_in k.1))
+    same in
+    of-set kind now c.args.rows.now c.requires.of c.put.new.lists place old row c.requires.place
+    c.index-rows-place.is places counts
 
 pub returns-clause-rest : goal.returns-clause-rest
 returns-clause-rest c = λ more rest space.
@@ -54,5 +72,9 @@ returns-clause-rest c = λ more rest space.
     let coming = flat_map (parts_by kind) rest in
     let before = row-parts kind c.args.row.now rest c.args.lists.now space in
     let kept = kept-all _ c.args.lists.now c.take.new.lists c.args.more more c.take.ensures.kept in
-    let between = enough-more (parts_by kind c.args.row.now ++ coming) c.args.lists.now c.take.new.lists kept before in
-    c.put.ensures.rest coming (subst (λ (k : Option Row). IsEnough (parts_in k ++ coming) c.take.new.lists) (sym c.keys_by-new.ensures.keys) between)
+    let between =
+    enough-more (parts_by kind c.args.row.now ++ coming) c.args.lists.now c.take.new.lists
+    kept before in
+    c.put.ensures.rest coming
+    (subst (λ (k : Option Row). IsEnough (parts_in k ++ coming) c.take.new.lists)
+    (sym c.keys_by-new.ensures.keys) between)

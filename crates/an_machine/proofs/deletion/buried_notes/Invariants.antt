@@ -8,5 +8,7 @@ use Rattle.an_machine.proofs.deletion.buried_notes.Given as goal
 -- the tombstones so far and those of the rest are those of all
 abbrev pub invariant-loop-row : goal.invariant-loop-row
 invariant-loop-row l =
-    l.rows.items ++ map (λ row. kept.Note (buried row)) (filter (is_on l.manifest) (drop l.row-index l.row-items))
+    l.rows.items
+    ++ map (λ row. kept.Note (buried row))
+    (filter (is_on l.manifest) (drop l.row-index l.row-items))
     ≡ map (λ row. kept.Note (buried row)) (notes_on l.book.state l.manifest)

@@ -10,5 +10,6 @@ use Rattle.an_machine.proofs.deletion.delete.Goals as goal
 pub returns-in-Note : goal.returns-in-Note
 returns-in-Note c =
     subst (λ object. Gives (λ e. e) Memory c.delete_note.result
-    (judged c.args.book.now.state (Deletion object c.args.version) (deletion c.args.book.now.state (identity c.args.who.now) c.args.at c.args.version object)))
+    (judged c.args.book.now.state (Deletion object c.args.version)
+    (deletion c.args.book.now.state (identity c.args.who.now) c.args.at c.args.version object)))
     (sym c.in-Note.is) c.delete_note.ensures

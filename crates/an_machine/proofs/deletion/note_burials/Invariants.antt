@@ -8,5 +8,7 @@ use Rattle.an_machine.proofs.deletion.note_burials.Given as goal
 -- the deletions so far and those of the rest are those of all
 abbrev pub invariant-loop-row : goal.invariant-loop-row
 invariant-loop-row l =
-    l.activities.items ++ map (burial l.book.state (identity l.who) l.at) (filter (is_on l.manifest) (drop l.row-index l.row-items))
+    l.activities.items
+    ++ map (burial l.book.state (identity l.who) l.at)
+    (filter (is_on l.manifest) (drop l.row-index l.row-items))
     ≡ map (burial l.book.state (identity l.who) l.at) (notes_on l.book.state l.manifest)

@@ -11,8 +11,12 @@ returns-else-is_behind c =
     let put = c.args.put in
     let row = c.note_row-before.ensures.row in
     let standing = c.note_standing-standing.ensures ∙ ap note_standing row in
-    let next = sym (ap (λ stands. put.version == current stands + 1) standing) ∙ sym c.is_behind.ensures ∙ c.if-is_behind.false in
+    let next =
+    sym (ap (λ stands. put.version == current stands + 1) standing) ∙ sym c.is_behind.ensures
+    ∙ c.if-is_behind.false in
     let done = c.is_held.ensures ∙ ap (passes (holds_note put)) row in
     judged-rest c.args.book.now.state (asked.Note put) _ c.unless_done.result
     refl refl next
-    (c.unless_done.ensures ∙ ap₂ (λ stands again. repeat_or ((put.version == current stands) && again) (current stands)) standing done)
+    (c.unless_done.ensures
+    ∙ ap₂ (λ stands again. repeat_or ((put.version == current stands) && again) (current stands))
+    standing done)

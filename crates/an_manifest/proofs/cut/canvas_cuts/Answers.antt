@@ -8,9 +8,15 @@ use Rattle.an_manifest.proofs.cut.canvas_cuts.Goals as goal
 
 pub loop-canvas-preserved : goal.loop-canvas-preserved
 loop-canvas-preserved c =
-    let step = at_drop_more items_view c.args.canvases.now c.loop-canvas.canvas-index c.canvas-item.result c.loop-canvas-test.true in
+    let step =
+    at_drop_more items_view c.args.canvases.now c.loop-canvas.canvas-index c.canvas-item.result
+    c.loop-canvas-test.true in
     record {
-      all = cut_more c.loop-canvas.cuts.items c.push.new.self.items c.in_ok-cuts_at.field-0 c.args.canvases.now c.loop-canvas.canvas-index c.canvas-item.result
-          c.loop-canvas-test.true c.canvas-item.is c.in_ok-push.ensures.items c.in_ok-cuts_at.ensures.cuts ∙ c.loop-canvas.invariant.all;
+      all =
+          cut_more c.loop-canvas.cuts.items c.push.new.self.items c.in_ok-cuts_at.field-0
+          c.args.canvases.now c.loop-canvas.canvas-index c.canvas-item.result
+          c.loop-canvas-test.true c.canvas-item.is c.in_ok-push.ensures.items
+          c.in_ok-cuts_at.ensures.cuts
+          ∙ c.loop-canvas.invariant.all;
       whole = (or_parts _ _ (sym (ap items_have_float step) ∙ c.loop-canvas.invariant.whole)).1;
     }

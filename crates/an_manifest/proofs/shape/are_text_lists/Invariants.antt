@@ -5,4 +5,5 @@ use Rattle.an_manifest.proofs.shape.are_text_lists.Given as goal
 
 -- the answer for what is left is the answer for all
 abbrev pub invariant-loop-tree : goal.invariant-loop-tree
-invariant-loop-tree l = are_text_lists (members_view l.tree-iterator) ≡ are_text_lists (members_view l.members.entries)
+invariant-loop-tree l =
+    are_text_lists (members_view l.tree-iterator) ≡ are_text_lists (members_view l.members.entries)

@@ -5,4 +5,5 @@ use Rattle.an_manifest.proofs.shape.are_texts.Given as goal
 
 -- the answer for what is left is the answer for all
 abbrev pub invariant-loop-item : goal.invariant-loop-item
-invariant-loop-item l = are_texts (items_view (drop l.item-index l.items)) ≡ are_texts (items_view l.items)
+invariant-loop-item l =
+    are_texts (items_view (drop l.item-index l.items)) ≡ are_texts (items_view l.items)

@@ -5,4 +5,6 @@ use Rattle.an_manifest.proofs.sheet.canvas_ids.Given as goal
 
 -- the ids so far, and those that are left, are all
 abbrev pub invariant-loop-canvas : goal.invariant-loop-canvas
-invariant-loop-canvas l = l.ids.items ++ canvas_ids (items_view (drop l.canvas-index l.canvases)) ≡ canvas_ids (items_view l.canvases)
+invariant-loop-canvas l =
+    l.ids.items ++ canvas_ids (items_view (drop l.canvas-index l.canvases))
+    ≡ canvas_ids (items_view l.canvases)

@@ -6,8 +6,10 @@ use Rattle.an_message.proofs.fill.fill_head.Given as goal
 abbrev pub invariant-pieces : goal.invariant-pieces
 invariant-pieces g l = record {
   within : l.from ≤ length l.held.items;
-  skips : head_length l.held.items ≡ option_map (λ n. l.from + n) (head_length (drop l.from l.held.items));
-  reads : ReadsOn (g.L.Link.traffic l.initial.link) (g.L.Link.traffic l.link) l.initial.held.items l.held.items;
+  skips : head_length l.held.items
+      ≡ option_map (λ n. l.from + n) (head_length (drop l.from l.held.items));
+  reads : ReadsOn (g.L.Link.traffic l.initial.link)
+      (g.L.Link.traffic l.link) l.initial.held.items l.held.items;
   most : length l.held.items ≤ max (length l.initial.held.items) l.limit;
   read_kept : g.L.Link.read_faults l.initial.link ≤ g.L.Link.read_faults l.link;
   write_kept : g.L.Link.write_faults l.initial.link ≤ g.L.Link.write_faults l.link;

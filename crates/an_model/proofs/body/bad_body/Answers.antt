@@ -11,5 +11,6 @@ unfolding bad_body
 returns-in-None c =
     let none : get (codes "bodyValue") (view c.args.tree.now) ≡ None = sym c.in-None.ensures in
     let first : c.first_bad_body.result ≡ first_bad is_body (body_trees (view c.args.tree.now)) =
-    c.first_bad_body.ensures ∙ sym (first_bad-items_view is_body _) ∙ ap (first_bad is_body) c.trees_in.ensures.trees in
+    c.first_bad_body.ensures ∙ sym (first_bad-items_view is_body _)
+    ∙ ap (first_bad is_body) c.trees_in.ensures.trees in
     first ∙ ap (λ value. bad_body_from value (view c.args.tree.now)) (sym none)

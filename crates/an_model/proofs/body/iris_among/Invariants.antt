@@ -6,4 +6,6 @@ use Rattle.an_model.proofs.body.iris_among.Given as goal
 
 -- the IRIs so far stand before those that are left
 abbrev pub invariant-loop-body : goal.invariant-loop-body
-invariant-loop-body l = l.iris.items ++ left (λ tree. option_and_then iri_of_body (body_of tree)) l.bodies l.body-index ≡ left (λ tree. option_and_then iri_of_body (body_of tree)) l.bodies 0
+invariant-loop-body l =
+    l.iris.items ++ left (λ tree. option_and_then iri_of_body (body_of tree)) l.bodies l.body-index
+    ≡ left (λ tree. option_and_then iri_of_body (body_of tree)) l.bodies 0

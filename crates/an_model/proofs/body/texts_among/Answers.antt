@@ -9,5 +9,7 @@ use Rattle.an_model.proofs.body.texts_among.Goals as goal
 
 pub returns : goal.returns
 returns c =
-    let walked : c.from_vec.result ≡ left (λ tree. option_and_then text_of_body (body_of tree)) c.args.bodies.now 0 = grind (arith, common_steps) in
+    let walked : c.from_vec.result
+    ≡ left (λ tree. option_and_then text_of_body (body_of tree)) c.args.bodies.now 0 =
+    grind (arith, common_steps) in
     walked ∙ sym (filter_map-twice body_of text_of_body (items_list (items_view c.args.bodies.now)))

@@ -6,4 +6,7 @@ use Rattle.an_model.proofs.body.texts_among.Given as goal
 
 -- the texts so far stand before those that are left
 abbrev pub invariant-loop-body : goal.invariant-loop-body
-invariant-loop-body l = l.texts.items ++ left (λ tree. option_and_then text_of_body (body_of tree)) l.bodies l.body-index ≡ left (λ tree. option_and_then text_of_body (body_of tree)) l.bodies 0
+invariant-loop-body l =
+    l.texts.items
+    ++ left (λ tree. option_and_then text_of_body (body_of tree)) l.bodies l.body-index
+    ≡ left (λ tree. option_and_then text_of_body (body_of tree)) l.bodies 0

@@ -11,12 +11,20 @@ returns c =
     let context : c.in_ok-text.text.items ≡ commas (below (codes "@context") ms) =
     up_to_first (codes "@context") ms _ _ c.new.ensures.items c.in_ok-text.ensures.text in
     let created : c.in_ok-text-2.text.items ≡ commas (below (codes "created") ms) =
-    up_to_next (codes "@context") (codes "created") ms _ _ c.requires.order refl context c.in_ok-text-2.ensures.text in
+    up_to_next (codes "@context") (codes "created") ms _ _ c.requires.order refl context
+    c.in_ok-text-2.ensures.text in
     let creator : c.in_ok-text-3.text.items ≡ commas (below (codes "creator") ms) =
-    up_to_next (codes "created") (codes "creator") ms _ _ c.requires.order refl created c.in_ok-text-3.ensures.text in
+    up_to_next (codes "created") (codes "creator") ms _ _ c.requires.order refl created
+    c.in_ok-text-3.ensures.text in
     record {
       text = creator;
-      context = c.in_ok-context.ensures.value ∙ c.len.ensures ∙ c.in_ok-text.text.ok.0 ∙ ap length context;
-      created = c.in_ok-created.ensures.value ∙ c.len-2.ensures ∙ c.in_ok-text-2.text.ok.0 ∙ ap length created;
-      creator = c.in_ok-creator.ensures.value ∙ c.len-3.ensures ∙ c.in_ok-text-3.text.ok.0 ∙ ap length creator;
+      context =
+          c.in_ok-context.ensures.value ∙ c.len.ensures ∙ c.in_ok-text.text.ok.0
+          ∙ ap length context;
+      created =
+          c.in_ok-created.ensures.value ∙ c.len-2.ensures ∙ c.in_ok-text-2.text.ok.0
+          ∙ ap length created;
+      creator =
+          c.in_ok-creator.ensures.value ∙ c.len-3.ensures ∙ c.in_ok-text-3.text.ok.0
+          ∙ ap length creator;
     }

@@ -6,4 +6,6 @@ use Rattle.an_model.proofs.motivation.bad_motivation.Goals as goal
 
 pub returns : goal.returns
 unfolding bad_motivation
-returns c = c.first_bad_motivation.ensures ∙ sym (first_bad-items_view is_motivation _) ∙ ap (first_bad is_motivation) c.trees_in.ensures.trees
+returns c =
+    c.first_bad_motivation.ensures ∙ sym (first_bad-items_view is_motivation _)
+    ∙ ap (first_bad is_motivation) c.trees_in.ensures.trees

@@ -17,5 +17,6 @@ invariant_of-result c =
       texts = texts;
       iris = c.in_ok-iris.ensures ∙ ap iris_of seen;
       targets = c.in_ok-targets.ensures ∙ ap targets_of seen;
-      occurrences = c.in_ok-occurrences.ensures ∙ ap (occurrences_from 0) (c.as_slice.ensures.value ∙ texts);
+      occurrences =
+          c.in_ok-occurrences.ensures ∙ ap (occurrences_from 0) (c.as_slice.ensures.value ∙ texts);
     }

@@ -6,4 +6,6 @@ use Rattle.an_model.proofs.target.bad_selector.Goals as goal
 
 pub returns : goal.returns
 unfolding bad_selector
-returns c = c.first_bad_selector.ensures ∙ sym (first_bad-items_view has_good_selectors _) ∙ ap (first_bad has_good_selectors) c.trees_in.ensures.trees
+returns c =
+    c.first_bad_selector.ensures ∙ sym (first_bad-items_view has_good_selectors _)
+    ∙ ap (first_bad has_good_selectors) c.trees_in.ensures.trees

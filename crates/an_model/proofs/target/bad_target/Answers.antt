@@ -11,7 +11,10 @@ pub returns : goal.returns
 unfolding bad_target
 returns c =
     let empty : is_empty (target_trees (view c.args.tree.now)) ≡ false =
-    ap is_empty (sym c.trees_in-targets.ensures.trees) ∙ is_empty-items_view _ ∙ sym c.if-is_empty.ensures in
-    let first : c.first_bad_target.result ≡ first_bad is_target (target_trees (view c.args.tree.now)) =
-    c.first_bad_target.ensures ∙ sym (first_bad-items_view is_target _) ∙ ap (first_bad is_target) c.trees_in-targets.ensures.trees in
+    ap is_empty (sym c.trees_in-targets.ensures.trees) ∙ is_empty-items_view _
+    ∙ sym c.if-is_empty.ensures in
+    let first : c.first_bad_target.result
+    ≡ first_bad is_target (target_trees (view c.args.tree.now)) =
+    c.first_bad_target.ensures ∙ sym (first_bad-items_view is_target _)
+    ∙ ap (first_bad is_target) c.trees_in-targets.ensures.trees in
     first ∙ sym (cond-false _ _ _ empty)

@@ -6,4 +6,6 @@ use Rattle.an_model.proofs.target.read_selectors.Given as goal
 
 -- the selectors so far stand before those that are left
 abbrev pub invariant-loop-item : goal.invariant-loop-item
-invariant-loop-item l = l.selectors.items ++ left (λ tree. result_ok (selector_of tree)) l.item-items l.item-index ≡ left (λ tree. result_ok (selector_of tree)) l.item-items 0
+invariant-loop-item l =
+    l.selectors.items ++ left (λ tree. result_ok (selector_of tree)) l.item-items l.item-index
+    ≡ left (λ tree. result_ok (selector_of tree)) l.item-items 0

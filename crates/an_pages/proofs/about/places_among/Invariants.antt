@@ -7,4 +7,5 @@ use Rattle.an_pages.proofs.about.places_among.Given as goal
 abbrev pub invariant-loop-place : goal.invariant-loop-place
 invariant-loop-place g l =
     let test = passes_at (is_row_about l.canvas l.region) (g.T.Look.state l.look).notes in
-    (l.found.items ++ filter test (drop l.place-index l.places) ≡ filter test l.places) × (l.steps ≡ l.fn.steps + l.place-index)
+    (l.found.items ++ filter test (drop l.place-index l.places) ≡ filter test l.places)
+    × (l.steps ≡ l.fn.steps + l.place-index)

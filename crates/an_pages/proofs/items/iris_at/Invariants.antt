@@ -10,6 +10,8 @@ use Rattle.an_pages.proofs.items.iris_at.Given as goal
 abbrev pub invariant-loop-place : goal.invariant-loop-place
 invariant-loop-place g l =
     let notes = (g.T.Look.state l.look).notes in
-    (l.items.items ++ item_commas (items_of (map (iri_item l.base) (filter_map (slice_get notes) (drop l.place-index l.places))))
+    (l.items.items
+    ++ item_commas
+    (items_of (map (iri_item l.base) (filter_map (slice_get notes) (drop l.place-index l.places))))
     ≡ item_commas (items_of (map (iri_item l.base) (filter_map (slice_get notes) l.places))))
     × (l.steps ≡ l.fn.steps + l.place-index)

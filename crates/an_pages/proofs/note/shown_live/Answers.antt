@@ -15,6 +15,13 @@ returns c =
     let creator : c.as_str-creator.result.now ≡ live.creator.now = search rules in
     c.from_vec.ensures.value
     ∙ c.in_ok-text.ensures.text
-    ∙ ap (λ before. before ++ compact_text (with_member (codes "@context") (string note_context) (dressed c.as_str.result.now c.as_str-creator.result.now live.created live.modified live.tree.now))) c.new.ensures.items
-    ∙ ap (λ iri. compact_text (with_member (codes "@context") (string note_context) (dressed iri c.as_str-creator.result.now live.created live.modified live.tree.now))) iri
-    ∙ ap (λ creator. compact_text (with_member (codes "@context") (string note_context) (dressed own creator live.created live.modified live.tree.now))) creator
+    ∙ ap (λ before. before
+    ++ compact_text (with_member (codes "@context") (string note_context)
+    (dressed c.as_str.result.now c.as_str-creator.result.now live.created live.modified
+    live.tree.now))) c.new.ensures.items
+    ∙ ap (λ iri. compact_text
+    (with_member (codes "@context") (string note_context)
+    (dressed iri c.as_str-creator.result.now live.created live.modified live.tree.now))) iri
+    ∙ ap (λ creator. compact_text
+    (with_member (codes "@context") (string note_context)
+    (dressed own creator live.created live.modified live.tree.now))) creator

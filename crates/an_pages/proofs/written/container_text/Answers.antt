@@ -13,8 +13,11 @@ returns c =
     record {
       text = λ tree first. c.from_vec.ensures.value
           ∙ c.in_ok-out-4.ensures.text [] (container_members whole tree paging.size paging.total)
-          (piece_then [] _ _ _ _ (c.in_ok-out.ensures.text ∙ ap (λ before. before ++ member_text (codes "@context") container_contexts) c.in_ok-room.ensures.items)
-          (piece_then c.in_ok-out.out.items _ _ _ _ (c.in_ok-out-2.ensures.text tree first) c.in_ok-out-3.ensures.text)
+          (piece_then [] _ _ _ _ (c.in_ok-out.ensures.text
+          ∙ ap (λ before. before ++ member_text (codes "@context") container_contexts)
+          c.in_ok-room.ensures.items)
+          (piece_then c.in_ok-out.out.items _ _ _ _
+          (c.in_ok-out-2.ensures.text tree first) c.in_ok-out-3.ensures.text)
           ∙ container_pieces whole tree paging.size paging.total) refl
           ∙ ap compact_text (container_is whole tree paging.size paging.total);
     }

@@ -10,8 +10,12 @@ returns c =
     let whole = c.args.whole.now in
     let paging = c.args.paging in
     record {
-      text = λ list items. c.in_ok-out-3.ensures.text [] (held_members whole paging.page paging.size paging.total list)
-          (piece_then [] _ _ _ _ (c.in_ok-out.ensures.text list items ∙ ap (λ before. before ++ content_text whole paging.page paging.size paging.total list) c.in_ok-room.ensures.items) c.in_ok-out-2.ensures.text
+      text =
+          λ list items. c.in_ok-out-3.ensures.text []
+          (held_members whole paging.page paging.size paging.total list)
+          (piece_then [] _ _ _ _ (c.in_ok-out.ensures.text list items
+          ∙ ap (λ before. before ++ content_text whole paging.page paging.size paging.total list)
+          c.in_ok-room.ensures.items) c.in_ok-out-2.ensures.text
           ∙ held_pieces whole paging.page paging.size paging.total list) refl
           ∙ ap compact_text (held_is whole paging.page paging.size paging.total list);
     }

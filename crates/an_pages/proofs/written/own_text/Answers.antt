@@ -13,9 +13,14 @@ returns c =
     let paging = c.args.paging in
     record {
       text = λ list items. c.from_vec.ensures.value
-          ∙ c.in_ok-out-5.ensures.text [] (own_members whole paging.page paging.size paging.total list)
-          (piece_then [] _ _ _ _ (c.in_ok-out.ensures.text ∙ ap (λ before. before ++ member_text (codes "@context") (string note_context)) c.in_ok-room.ensures.items)
-          (piece_then c.in_ok-out.out.items _ _ _ _ (c.in_ok-out-2.ensures.text list items) (piece_then c.in_ok-out-2.out.items _ _ _ _ c.in_ok-out-3.ensures.text c.in_ok-out-4.ensures.text))
+          ∙ c.in_ok-out-5.ensures.text []
+          (own_members whole paging.page paging.size paging.total list)
+          (piece_then [] _ _ _ _ (c.in_ok-out.ensures.text
+          ∙ ap (λ before. before ++ member_text (codes "@context") (string note_context))
+          c.in_ok-room.ensures.items)
+          (piece_then c.in_ok-out.out.items _ _ _ _ (c.in_ok-out-2.ensures.text list items)
+          (piece_then c.in_ok-out-2.out.items _ _ _ _ c.in_ok-out-3.ensures.text
+          c.in_ok-out-4.ensures.text))
           ∙ own_pieces whole paging.page paging.size paging.total list) refl
           ∙ ap compact_text (own_is whole paging.page paging.size paging.total list);
     }

@@ -6,6 +6,10 @@ use Rattle.an_pages.proofs.written.push_end.Goals as goal
 
 pub returns : goal.returns
 returns c = record {
-  text = piece_then c.args.out.items _ _ _ _ (c.in_ok-out.ensures.text ∙ ap (λ n. c.args.out.items ++ member_text (codes "startIndex") (number (unsigned n))) c.start.ensures)
+  text =
+      piece_then c.args.out.items _ _ _ _
+      (c.in_ok-out.ensures.text
+      ∙ ap (λ n. c.args.out.items ++ member_text (codes "startIndex") (number (unsigned n)))
+      c.start.ensures)
       c.in_ok-out-2.ensures.text;
 }

@@ -4,6 +4,7 @@ use Rattle.an_pages.proofs.written.push_first.Goals as goal
 
 pub returns : goal.returns
 returns c = record {
-  text = λ tree first. member_joined (codes "first") tree c.args.out.items _ _ c.in_ok-out.ensures.text
+  text =
+      λ tree first. member_joined (codes "first") tree c.args.out.items _ _ c.in_ok-out.ensures.text
       (c.in_ok-extend_from_slice.ensures.items ∙ ap (λ last. c.in_ok-out.out.items ++ last) first);
 }

@@ -10,8 +10,13 @@ pub returns : goal.returns
 returns c =
     let path : c.as_str.result.now ≡ c.args.whole.now.path = search rules in
     record {
-      text = c.in_ok-out-4.ensures.text c.args.out.items (members_in (container_link c.args.whole.now c.args.total))
-          (piece_then c.args.out.items _ _ _ _ (c.in_ok-out.ensures.text ∙ ap (λ id. c.args.out.items ++ member_text (codes "id") (string id)) path)
-          (piece_then c.in_ok-out.out.items _ _ _ _ c.in_ok-out-2.ensures.text (last_piece _ _ _ c.in_ok-out-3.ensures.text)))
+      text =
+          c.in_ok-out-4.ensures.text c.args.out.items
+          (members_in (container_link c.args.whole.now c.args.total))
+          (piece_then c.args.out.items _ _ _ _
+          (c.in_ok-out.ensures.text
+          ∙ ap (λ id. c.args.out.items ++ member_text (codes "id") (string id)) path)
+          (piece_then c.in_ok-out.out.items _ _ _ _ c.in_ok-out-2.ensures.text
+          (last_piece _ _ _ c.in_ok-out-3.ensures.text)))
           (c.len-start.ensures ∙ c.args.out.ok.0);
     }

@@ -8,5 +8,7 @@ take_out_at-requires-clause-here c = rw c.as_slice.ensures.value at c.in-Ok.ensu
 
 pub returns-in-Err-clause-out : goal.returns-in-Err-clause-out
 returns-in-Err-clause-out c =
-    let gap : IsGap class_of c.args.class c.args.lists.now.items c.in-Err.field-0 = rw c.as_slice.ensures.value at c.in-Err.ensures.place in
-    out-none c.args.class c.args.lists.now.items c.in-Err.field-0 gap c.requires.ordered c.args.stays c.args.place c.args.times c.requires.enough
+    let gap : IsGap class_of c.args.class c.args.lists.now.items c.in-Err.field-0 =
+    rw c.as_slice.ensures.value at c.in-Err.ensures.place in
+    out-none c.args.class c.args.lists.now.items c.in-Err.field-0 gap c.requires.ordered
+    c.args.stays c.args.place c.args.times c.requires.enough

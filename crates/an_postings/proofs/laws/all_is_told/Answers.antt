@@ -3,7 +3,9 @@ use Rattle.an_postings.proofs.ListedLemmas.{listed-Tells, listed-number}
 use Rattle.an_postings.proofs.laws.all_is_told.Goals as goal
 
 pub returns-clause-told : goal.returns-clause-told
-returns-clause-told c = λ counts rows sums manifest prefix classes rises climbs. told-Tells counts rows sums manifest prefix classes rises climbs
+returns-clause-told c =
+    λ counts rows sums manifest prefix classes rises climbs.
+    told-Tells counts rows sums manifest prefix classes rises climbs
 
 pub returns-clause-one : goal.returns-clause-one
 returns-clause-one c = λ prefix number told other a b. Tells-one prefix number told other a b

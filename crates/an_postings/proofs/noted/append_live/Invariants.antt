@@ -7,5 +7,6 @@ use Rattle.an_postings.proofs.noted.append_live.Given as goal
 abbrev pub invariant-loop-at : goal.invariant-loop-at
 invariant-loop-at l = record {
   rises : Rises 0 l.left;
-  live : l.places.items ++ live l.left (drop l.at l.gone.items) ≡ l.fn.places.items ++ live l.all l.gone.items;
+  live : l.places.items ++ live l.left (drop l.at l.gone.items)
+      ≡ l.fn.places.items ++ live l.all l.gone.items;
 }

@@ -11,7 +11,8 @@ returns-then-is_in c = λ rises.
     let r = subst (Rises 0) (sym c.as_slices.ensures.items) rises in
     let there = c.is_in.ensures (Rises-front 0 front back r) in
     c.if-is_in.true
-    ∙ sym (ap (has c.args.place) (sym c.as_slices.ensures.items) ∙ has-append c.args.place front back
+    ∙ sym
+    (ap (has c.args.place) (sym c.as_slices.ensures.items) ∙ has-append c.args.place front back
     ∙ ap (λ (b : Bool). b || has c.args.place back) (sym there ∙ c.if-is_in.true))
 
 pub returns-else-is_in : goal.returns-else-is_in
@@ -21,5 +22,6 @@ returns-else-is_in c = λ rises.
     let r = subst (Rises 0) (sym c.as_slices.ensures.items) rises in
     let there = c.is_in.ensures (Rises-front 0 front back r) in
     c.is_in-else-is_in.ensures (Rises-back 0 front back r)
-    ∙ sym (ap (has c.args.place) (sym c.as_slices.ensures.items) ∙ has-append c.args.place front back
+    ∙ sym
+    (ap (has c.args.place) (sym c.as_slices.ensures.items) ∙ has-append c.args.place front back
     ∙ ap (λ (b : Bool). b || has c.args.place back) (sym there ∙ c.if-is_in.false))

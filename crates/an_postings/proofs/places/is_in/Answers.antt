@@ -5,5 +5,8 @@ use Rattle.an_postings.proofs.places.is_in.Goals as goal
 
 pub returns : goal.returns
 returns c = λ rises.
-    let found = c.binary_search_by_key.ensures.position (λ own. own) (answers_always _ _ _ (λ f a r g called. search rules)) in
-    c.is_ok.ensures.value ∙ among c.args.places.now c.args.place c.binary_search_by_key.result rises found
+    let found =
+    c.binary_search_by_key.ensures.position (λ own. own)
+    (answers_always _ _ _ (λ f a r g called. search rules)) in
+    c.is_ok.ensures.value
+    ∙ among c.args.places.now c.args.place c.binary_search_by_key.result rises found

@@ -6,6 +6,7 @@ use Rattle.an_postings.proofs.prefix.told_in.Given as goal
 
 abbrev pub invariant-loop-term : goal.invariant-loop-term
 invariant-loop-term l = record {
-  told : l.told.items ++ told_from l.prefix l.classes (texts l.term-iterator) ≡ told_from l.prefix l.classes (texts l.terms.entries);
+  told : l.told.items ++ told_from l.prefix l.classes (texts l.term-iterator)
+      ≡ told_from l.prefix l.classes (texts l.terms.entries);
   fades : Fades l.prefix l.classes (texts l.term-iterator);
 }

@@ -16,6 +16,7 @@ returns c =
       total =
           c.loop-own.invariant
           ∙ ap (λ (i : ℕ). capped (sum_by (counted ks) (take i xs))) end
-          ∙ ap (λ (l : List ClassPostings). capped (sum_by (counted ks) l)) (take_all (length xs) xs (omega arith))
+          ∙ ap (λ (l : List ClassPostings). capped (sum_by (counted ks) l))
+          (take_all (length xs) xs (omega arith))
           ∙ ap (λ (s : ℕ). capped s) (sum-swap 0 xs ks c.requires.ascends c.requires.rises);
     }

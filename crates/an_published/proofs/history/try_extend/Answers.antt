@@ -10,12 +10,17 @@ compare_exchange-found-requires g c =
     let pen = c.no_pen-pen.ensures in
     let again = c.again-seen.ensures in
     let log : c.again-seen.result.log ≡ c.mark.inside.seen.log = ap (λ s. s.log) again in
-    let size : length c.again-seen.result.log ≡ c.mark.inside.count + 1 = ap (λ (l : List Event). length l) log ∙ c.mark.invariant in
-    let here : c.again-seen.result.book ≡ c.args.head.now.book = ap (λ s. s.book) again ∙ (ap (λ r. r.book) c.mark.view_is ∙ sym (ap (λ w. w.book) h)) in
-    let next : c.args.next ≡ c.mark.inside.count + 1 = c.requires.next ∙ (sym (ap (λ r. length r.list) c.mark.view_is) ∙ c.mark.invariant) in (
+    let size : length c.again-seen.result.log ≡ c.mark.inside.count + 1 =
+    ap (λ (l : List Event). length l) log ∙ c.mark.invariant in
+    let here : c.again-seen.result.book ≡ c.args.head.now.book =
+    ap (λ s. s.book) again ∙ (ap (λ r. r.book) c.mark.view_is ∙ sym (ap (λ w. w.book) h)) in
+    let next : c.args.next ≡ c.mark.inside.count + 1 =
+    c.requires.next ∙ (sym (ap (λ r. length r.list) c.mark.view_is) ∙ c.mark.invariant) in (
       ap (λ w. w.tracked) h,
       here,
       pen.0 ∙ here,
       offer.0,
-      rw (ap (λ w. w.key) h, pen.1, offer.1, offer.3) (adds_moves c.again-seen.result.log c.args.kept.now c.mark.inside.count c.args.next size next),
+      rw (ap (λ w. w.key) h, pen.1, offer.1, offer.3)
+          (adds_moves c.again-seen.result.log c.args.kept.now c.mark.inside.count
+          c.args.next size next),
     )

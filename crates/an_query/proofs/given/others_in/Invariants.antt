@@ -9,7 +9,8 @@ use Rattle.an_query.proofs.given.others_in.Given as goal
 abbrev pub invariant-loop-pair : goal.invariant-loop-pair
 invariant-loop-pair l = record {
   others :
-      fold with_text l.others.items (filter (is_other l.reads) (map (λ pair. pair.name) (drop l.pair-index l.pairs)))
+      fold with_text l.others.items
+      (filter (is_other l.reads) (map (λ pair. pair.name) (drop l.pair-index l.pairs)))
       ≡ others_of l.reads l.pairs;
   seen : (name : List ℕ) → is_lent name l.seen ≡ has_text name l.others.items;
 }

@@ -7,5 +7,6 @@ use Rattle.an_query.proofs.pairs.query_pairs.Given as goal
 -- the pairs that are left stand behind those that were decoded
 abbrev pub invariant-loop-name : goal.invariant-loop-name
 invariant-loop-name l =
-    option_map (λ xs. l.pairs.items ++ xs) (all_there (map decoded_pair (raw_pairs_left l.name-iterator)))
+    option_map (λ xs. l.pairs.items ++ xs)
+    (all_there (map decoded_pair (raw_pairs_left l.name-iterator)))
     ≡ pairs_of l.query

@@ -5,10 +5,14 @@ use Rattle.an_query.proofs.pairs.text_of.Goals as goal
 
 pub returns-in-Ok : goal.returns-in-Ok
 returns-in-Ok c = record {
-  text = rw (is_utf8-from_IsUtf8 c.args.bytes.now c.in-Ok.ensures.cases.1) (ap Some c.in-Ok.ensures.cases.0);
+  text =
+      rw (is_utf8-from_IsUtf8 c.args.bytes.now c.in-Ok.ensures.cases.1)
+      (ap Some c.in-Ok.ensures.cases.0);
 }
 
 pub returns-in-Err : goal.returns-in-Err
 returns-in-Err c = record {
-  text = rw (false_from_ne_true _ (λ e. c.in-Err.ensures.cases.0 (IsUtf8-from_is_utf8 c.args.bytes.now e)));
+  text =
+      rw (false_from_ne_true _
+      (λ e. c.in-Err.ensures.cases.0 (IsUtf8-from_is_utf8 c.args.bytes.now e)));
 }

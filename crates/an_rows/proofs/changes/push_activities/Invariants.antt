@@ -9,5 +9,7 @@ use Rattle.an_rows.proofs.changes.push_activities.Given as goal
 abbrev pub invariant-loop-activity : goal.invariant-loop-activity
 invariant-loop-activity l = record {
   place : l.key ≡ l.start + l.activity-index;
-  changes : l.changes.items ++ map put (cells_from Second Activity l.key (drop l.activity-index l.activities)) ≡ l.fn.changes.items ++ map put (cells_from Second Activity l.start l.activities);
+  changes : l.changes.items
+      ++ map put (cells_from Second Activity l.key (drop l.activity-index l.activities))
+      ≡ l.fn.changes.items ++ map put (cells_from Second Activity l.start l.activities);
 }

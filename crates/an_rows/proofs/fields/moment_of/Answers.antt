@@ -6,4 +6,6 @@ use Rattle.an_rows.proofs.FieldLemmas.{moment_is}
 use Rattle.an_rows.proofs.fields.moment_of.Goals as goal
 
 pub returns : goal.returns
-returns c = moment_is _ _ c.new.ensures.range c.new.ensures.value ∙ ap (only_if is_moment) (to_z-of_z w64 c.args.seconds c.ranges.seconds)
+returns c =
+    moment_is _ _ c.new.ensures.range c.new.ensures.value
+    ∙ ap (only_if is_moment) (to_z-of_z w64 c.args.seconds c.ranges.seconds)

@@ -5,4 +5,6 @@ use Rattle.an_rows.proofs.inner.items_of.Given as goal
 
 -- what was written, and what the texts that are left are to add
 abbrev pub invariant-loop-text : goal.invariant-loop-text
-invariant-loop-text l = l.out.items ++ item_commas (text_items (map (λ t. t.now) (drop l.text-index l.texts))) ≡ item_commas (text_items (map (λ t. t.now) l.texts))
+invariant-loop-text l =
+    l.out.items ++ item_commas (text_items (map (λ t. t.now) (drop l.text-index l.texts)))
+    ≡ item_commas (text_items (map (λ t. t.now) l.texts))

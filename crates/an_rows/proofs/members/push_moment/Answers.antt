@@ -9,7 +9,10 @@ pub returns : goal.returns
 returns c =
     let fits : SFits w64 c.seconds.result = search rules in
     record {
-      text = member_joined c.args.name.now (moment_tree c.args.moment) c.args.out.items _ _ c.in_ok-out.ensures.text
+      text =
+          member_joined c.args.name.now
+          (moment_tree c.args.moment) c.args.out.items _ _ c.in_ok-out.ensures.text
           (c.in_ok-out-2.ensures.text
-          ∙ ap (λ m. c.in_ok-out.out.items ++ compact_text (moment_tree m)) (to_z-of_z w64 c.seconds.result fits ∙ c.seconds.ensures.value));
+          ∙ ap (λ m. c.in_ok-out.out.items ++ compact_text (moment_tree m))
+          (to_z-of_z w64 c.seconds.result fits ∙ c.seconds.ensures.value));
     }

@@ -11,9 +11,13 @@ use Rattle.an_rows.proofs.notes.live_note_in.Goals as goal
 
 pub returns : goal.returns
 returns c =
-    let P : Result LiveNote RowError → Type 0 = λ meant. Gives {A = ReadNote} {B = LiveNote} {E = RowError} note_read Memory c.live_note_on.result meant in
+    let P : Result LiveNote RowError → Type 0 =
+    λ meant. Gives {A = ReadNote} {B = LiveNote}
+    {E = RowError} note_read Memory c.live_note_on.result meant in
     record {
       live = subst P
-          (sym (live_note_read c.args.format c.in_ok-manifest.manifest c.in_ok-creator.creator c.in_ok-group.group (view c.args.tree.now)
-          c.in_ok-manifest.ensures.name c.in_ok-group.ensures.inner c.in_ok-creator.ensures.creator)) c.live_note_on.ensures.live;
+          (sym (live_note_read c.args.format c.in_ok-manifest.manifest c.in_ok-creator.creator
+          c.in_ok-group.group (view c.args.tree.now)
+          c.in_ok-manifest.ensures.name c.in_ok-group.ensures.inner
+          c.in_ok-creator.ensures.creator)) c.live_note_on.ensures.live;
     }

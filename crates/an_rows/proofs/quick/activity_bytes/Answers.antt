@@ -7,4 +7,7 @@ use Rattle.an_rows.proofs.quick.activity_bytes.Goals as goal
 pub returns : goal.returns
 unfolding row_text
 returns c =
-    c.in_ok-out-3.ensures.text [] (activity_members Second c.args.activity.now) (c.in_ok-out-2.ensures.text ∙ ap (λ front. front ++ commas (activity_members Second c.args.activity.now)) c.in_ok-out.ensures.items) refl
+    c.in_ok-out-3.ensures.text [] (activity_members Second c.args.activity.now)
+    (c.in_ok-out-2.ensures.text
+    ∙ ap (λ front. front ++ commas (activity_members Second c.args.activity.now))
+    c.in_ok-out.ensures.items) refl

@@ -7,4 +7,7 @@ use Rattle.an_rows.proofs.quick.note_bytes.Goals as goal
 pub returns : goal.returns
 unfolding row_text
 returns c =
-    c.in_ok-out-3.ensures.text [] (note_members Second c.args.row.now) (c.in_ok-out-2.ensures.text ∙ ap (λ front. front ++ commas (note_members Second c.args.row.now)) c.in_ok-out.ensures.items) refl
+    c.in_ok-out-3.ensures.text [] (note_members Second c.args.row.now)
+    (c.in_ok-out-2.ensures.text
+    ∙ ap (λ front. front ++ commas (note_members Second c.args.row.now)) c.in_ok-out.ensures.items)
+    refl

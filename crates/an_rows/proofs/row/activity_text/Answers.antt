@@ -8,5 +8,8 @@ pub returns : goal.returns
 unfolding row_text
 returns c = record {
   text = c.from_vec.ensures.value
-      ∙ c.in_ok-out-2.ensures.text [] (activity_members Second c.args.activity.now) (c.in_ok-out.ensures.text ∙ ap (λ front. front ++ commas (activity_members Second c.args.activity.now)) c.new.ensures.items) refl;
+      ∙ c.in_ok-out-2.ensures.text [] (activity_members Second c.args.activity.now)
+      (c.in_ok-out.ensures.text
+      ∙ ap (λ front. front ++ commas (activity_members Second c.args.activity.now))
+      c.new.ensures.items) refl;
 }

@@ -7,5 +7,8 @@ pub returns : goal.returns
 unfolding row_text
 returns c = record {
   text = c.from_vec.ensures.value
-      ∙ c.in_ok-out-2.ensures.text [] (row_members c.args.format c.args.row.now) (c.in_ok-out.ensures.text ∙ ap (λ front. front ++ commas (row_members c.args.format c.args.row.now)) c.new.ensures.items) refl;
+      ∙ c.in_ok-out-2.ensures.text [] (row_members c.args.format c.args.row.now)
+      (c.in_ok-out.ensures.text
+      ∙ ap (λ front. front ++ commas (row_members c.args.format c.args.row.now))
+      c.new.ensures.items) refl;
 }

@@ -6,5 +6,6 @@ use Rattle.an_rows.proofs.turning.push_notes.Given as goal
 abbrev pub invariant-loop-row : goal.invariant-loop-row
 invariant-loop-row l = record {
   place : l.key ≡ l.row-index;
-  changes : l.changes.items ++ rewritten_notes l.key (drop l.row-index l.rows) ≡ l.fn.changes.items ++ rewritten_notes 0 l.rows;
+  changes : l.changes.items ++ rewritten_notes l.key (drop l.row-index l.rows)
+      ≡ l.fn.changes.items ++ rewritten_notes 0 l.rows;
 }

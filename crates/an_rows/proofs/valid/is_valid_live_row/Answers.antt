@@ -5,7 +5,10 @@ use Rattle.an_rows.proofs.valid.is_valid_live_row.Goals as goal
 
 pub returns-then-is_valid_head : goal.returns-then-is_valid_head
 returns-then-is_valid_head c = record {
-  valid = λ is. live-row-valid c.args.row.now (lent_note c.in-Some.live) (sym (ap (option_map lent_note) (sym c.in-Some.is) ∙ c.live.ensures.live))
-      (c.is_valid_head.ensures.owner c.if-is_valid_head.true) (c.is_valid_head.ensures.name c.if-is_valid_head.true)
+  valid =
+      λ is. live-row-valid c.args.row.now (lent_note c.in-Some.live)
+      (sym (ap (option_map lent_note) (sym c.in-Some.is) ∙ c.live.ensures.live))
+      (c.is_valid_head.ensures.owner c.if-is_valid_head.true)
+      (c.is_valid_head.ensures.name c.if-is_valid_head.true)
       (c.is_valid_head.ensures.number c.if-is_valid_head.true) (sym c.is_valid_live.ensures ∙ is);
 }

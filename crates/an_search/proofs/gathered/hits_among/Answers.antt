@@ -12,6 +12,11 @@ returns-in-Named-clause-stand g c =
     let s = g.T.Look.state c.args.look.now in
     let who = identity c.args.who.now in
     let named = ap (λ scope. searched (view_of s who) scope c.args.manifests.now) c.in-Named.is in
-    IfOk-weaker c.hits_on.result _ _ (λ places is. subst (λ names. StandAt s.notes places.items (hits_on (view_of s who) names c.args.wanted.now)) (sym named)
-    (subst (λ found. StandAt s.notes found (hits_on (view_of s who) (lent_names c.args.manifests.now) c.args.wanted.now)) (sym is) (gathered-stand s who c.args.wanted.now (lent_names c.args.manifests.now))))
+    IfOk-weaker c.hits_on.result _ _
+    (λ places is. subst
+    (λ names. StandAt s.notes places.items (hits_on (view_of s who) names c.args.wanted.now))
+    (sym named)
+    (subst (λ found. StandAt s.notes found
+    (hits_on (view_of s who) (lent_names c.args.manifests.now) c.args.wanted.now))
+    (sym is) (gathered-stand s who c.args.wanted.now (lent_names c.args.manifests.now))))
     c.hits_on.ensures.places

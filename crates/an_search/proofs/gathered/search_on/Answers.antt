@@ -17,38 +17,69 @@ pub returns-clause-answer : goal.returns-clause-answer
 returns-clause-answer g c =
     let s = g.T.Look.state c.args.look.now in
     let view = view_of s (identity c.args.who.now) in
-    let names = searched (view_of (g.T.Look.state c.args.look.now) (identity c.args.who.now)) c.args.scope c.args.manifests.now in
-    let shown = subst (λ places. StandAt s.notes places (hits_on view names c.in_ok-wanted.wanted)) (sym c.as_slice.ensures.value) c.in_ok-places.ensures.stand in
-    subst (λ wanted. Gives (λ page. page) Memory c.page_at.result (found_text c.args.site.now c.args.whole.now c.args.query.now (hits_on view names wanted)))
+    let names =
+    searched (view_of (g.T.Look.state c.args.look.now) (identity c.args.who.now)) c.args.scope
+    c.args.manifests.now in
+    let shown =
+    subst (λ places. StandAt s.notes places (hits_on view names c.in_ok-wanted.wanted))
+    (sym c.as_slice.ensures.value) c.in_ok-places.ensures.stand in
+    subst (λ wanted. Gives (λ page. page) Memory c.page_at.result
+    (found_text c.args.site.now c.args.whole.now c.args.query.now (hits_on view names wanted)))
     c.in_ok-wanted.ensures (c.page_at.ensures.answer _ shown)
 
 pub returns-clause-steps : goal.returns-clause-steps
 returns-clause-steps g c =
     let s = g.T.Look.state c.args.look.now in
     let who = identity c.args.who.now in
-    let names = searched (view_of (g.T.Look.state c.args.look.now) (identity c.args.who.now)) c.args.scope c.args.manifests.now in
+    let names =
+    searched (view_of (g.T.Look.state c.args.look.now) (identity c.args.who.now)) c.args.scope
+    c.args.manifests.now in
     let query = c.args.query.now in
     let found : Wanted → List NoteState = λ wanted. hits_on (view_of s who) names wanted in
-    let looked = c.in_ok-places.ensures.steps ∙ ap (λ (wanted : Wanted). c.args.steps.now + find_cost_on (view_of s who) names wanted.terms) c.in_ok-wanted.ensures in
-    let stand = subst (λ places. StandAt s.notes places (found c.in_ok-wanted.wanted)) (sym c.as_slice.ensures.value) c.in_ok-places.ensures.stand in
-    let many = stand-count s.notes c.as_slice.result.now (found c.in_ok-wanted.wanted) stand ∙ ap (λ wanted. length (found wanted)) c.in_ok-wanted.ensures in
-    takes_both Memory c.page_at.result _ _ _ _ _ _ c.page_at.ensures.steps looked (page_cost-same query.page c.args.site.now.size c.as_slice.result.now (found (wanted_of query)) many)
+    let looked =
+    c.in_ok-places.ensures.steps
+    ∙ ap (λ (wanted : Wanted). c.args.steps.now + find_cost_on (view_of s who) names wanted.terms)
+    c.in_ok-wanted.ensures in
+    let stand =
+    subst (λ places. StandAt s.notes places (found c.in_ok-wanted.wanted))
+    (sym c.as_slice.ensures.value) c.in_ok-places.ensures.stand in
+    let many =
+    stand-count s.notes c.as_slice.result.now (found c.in_ok-wanted.wanted) stand
+    ∙ ap (λ wanted. length (found wanted)) c.in_ok-wanted.ensures in
+    takes_both Memory c.page_at.result _ _ _ _ _ _ c.page_at.ensures.steps looked
+    (page_cost-same query.page c.args.site.now.size c.as_slice.result.now
+    (found (wanted_of query)) many)
 
 pub returns-clause-steps_most : goal.returns-clause-steps_most
 returns-clause-steps_most g c =
     let s = g.T.Look.state c.args.look.now in
     let who = identity c.args.who.now in
-    let names = searched (view_of (g.T.Look.state c.args.look.now) (identity c.args.who.now)) c.args.scope c.args.manifests.now in
+    let names =
+    searched (view_of (g.T.Look.state c.args.look.now) (identity c.args.who.now)) c.args.scope
+    c.args.manifests.now in
     let query = c.args.query.now in
     let found : Wanted → List NoteState = λ wanted. hits_on (view_of s who) names wanted in
-    let looked = c.in_ok-places.ensures.steps ∙ ap (λ (wanted : Wanted). c.args.steps.now + find_cost_on (view_of s who) names wanted.terms) c.in_ok-wanted.ensures in
-    let stand = subst (λ places. StandAt s.notes places (found c.in_ok-wanted.wanted)) (sym c.as_slice.ensures.value) c.in_ok-places.ensures.stand in
-    let many = stand-count s.notes c.as_slice.result.now (found c.in_ok-wanted.wanted) stand ∙ ap (λ wanted. length (found wanted)) c.in_ok-wanted.ensures in
-    let page = page_cost-same query.page c.args.site.now.size c.as_slice.result.now (found (wanted_of query)) many in
+    let looked =
+    c.in_ok-places.ensures.steps
+    ∙ ap (λ (wanted : Wanted). c.args.steps.now + find_cost_on (view_of s who) names wanted.terms)
+    c.in_ok-wanted.ensures in
+    let stand =
+    subst (λ places. StandAt s.notes places (found c.in_ok-wanted.wanted))
+    (sym c.as_slice.ensures.value) c.in_ok-places.ensures.stand in
+    let many =
+    stand-count s.notes c.as_slice.result.now (found c.in_ok-wanted.wanted) stand
+    ∙ ap (λ wanted. length (found wanted)) c.in_ok-wanted.ensures in
+    let page =
+    page_cost-same query.page c.args.site.now.size c.as_slice.result.now
+    (found (wanted_of query)) many in
     omega (arith, c.page_at.ensures.steps_most, looked, page)
 
 pub returns-in_err-places-clause-steps_most : goal.returns-in_err-places-clause-steps_most
 returns-in_err-places-clause-steps_most g c =
     let view = view_of (g.T.Look.state c.args.look.now) (identity c.args.who.now) in
-    let looked = subst (λ (wanted : Wanted). c.hits_among.new.steps ≤ c.args.steps.now + find_cost_on view (searched view c.args.scope c.args.manifests.now) wanted.terms) c.in_ok-wanted.ensures c.hits_among.ensures.steps_most in
+    let looked =
+    subst (λ (wanted : Wanted). c.hits_among.new.steps
+    ≤ c.args.steps.now
+    + find_cost_on view (searched view c.args.scope c.args.manifests.now) wanted.terms)
+    c.in_ok-wanted.ensures c.hits_among.ensures.steps_most in
     omega (arith, looked)

@@ -10,7 +10,8 @@ pub returns : goal.returns
 returns g c = λ term.
     let terms = c.args.terms.now in
     let first : List ℕ → Bool = λ term. not (is_first term terms) in
-    let moved = IsPermutation-map (λ other. other.term) _ _ c.sort_unstable_by_key.ensures.permutation in
+    let moved =
+    IsPermutation-map (λ other. other.term) _ _ c.sort_unstable_by_key.ensures.permutation in
     sym (list_any-IsPermutation (λ other. bytes_eq other term) _ _ moved)
     ∙ ap (has_text term) c.in_ok-others.ensures
     ∙ has_text-filter first term (ascending terms)

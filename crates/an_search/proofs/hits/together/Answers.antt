@@ -17,7 +17,8 @@ loop-place-preserved g c =
     let suited = c.loop-place.suited.items in
     let left = drop (at + 1) places in
     let rest = filter (is_suited_at notes wanted) left in
-    let own : option_copied one.row ≡ slice_get notes one.place = c.held_at.ensures.row ∙ ap (slice_get notes) (sym c.held_at.ensures.place) in
+    let own : option_copied one.row ≡ slice_get notes one.place =
+    c.held_at.ensures.row ∙ ap (slice_get notes) (sym c.held_at.ensures.place) in
     let front : drop at places ≡ one.place ∷ left =
     drop-cons places at 0 c.loop-place-test.true
     ∙ ap (λ n. get_or places at 0 ∷ drop n places) (sym (add-one at))
@@ -25,12 +26,18 @@ loop-place-preserved g c =
     let more =
     ap (λ held. suited ++ (suited_of wanted held ++ rest)) c.in_ok-push.ensures.items
     ∙ ap (λ places. suited ++ places) (held_more notes wanted c.loop-place.held.items one left own)
-    ∙ ap (λ places. suited ++ (suited_of wanted c.loop-place.held.items ++ filter (is_suited_at notes wanted) places)) (sym front)
+    ∙ ap (λ places. suited
+    ++ (suited_of wanted c.loop-place.held.items ++ filter (is_suited_at notes wanted) places))
+    (sym front)
     ∙ c.loop-place.invariant.places in
     elim c.if-len-ge-TOGETHER.branch [
       | then-len-ge-TOGETHER+in_ok-suited-2 w ↦
-          let judged = w.in_ok-suited-2.ensures.suited ∙ ap (λ held. suited ++ suited_of wanted held) w.as_slice.ensures.value in
-          let all = ap (λ places. places ++ rest) judged ∙ append_assoc suited (suited_of wanted c.push.new.self.items) rest ∙ more in
+          let judged =
+          w.in_ok-suited-2.ensures.suited
+          ∙ ap (λ held. suited ++ suited_of wanted held) w.as_slice.ensures.value in
+          let all =
+          ap (λ places. places ++ rest) judged
+          ∙ append_assoc suited (suited_of wanted c.push.new.self.items) rest ∙ more in
           rw (w.suited-is, w.held-is, w.last-is, w.clear.ensures.items) (record {
             places = all;
             known = w.in_ok-suited-2.ensures.known;

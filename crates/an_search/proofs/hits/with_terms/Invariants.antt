@@ -10,6 +10,7 @@ abbrev pub invariant-loop-other : goal.invariant-loop-other
 invariant-loop-other g l =
     let having = with_terms (g.T.Look.state l.look) (identity l.who) (option_copied l.manifest) in
     record {
-      left : having l.having.items (map (λ other. other.term) (drop l.other-index l.terms)) ≡ having l.fn.places.items (map (λ other. other.term) l.terms);
+      left : having l.having.items (map (λ other. other.term) (drop l.other-index l.terms))
+          ≡ having l.fn.places.items (map (λ other. other.term) l.terms);
       rise : Rises 0 l.having.items;
     }

@@ -5,4 +5,6 @@ use Rattle.an_search.proofs.pieces.has_one_of.Given as goal
 
 -- none so far is among the others
 abbrev pub invariant-loop-place : goal.invariant-loop-place
-invariant-loop-place l = list_any (λ text. has_text text l.others) l.texts ≡ list_any (λ text. has_text text l.others) (drop l.place l.texts)
+invariant-loop-place l =
+    list_any (λ text. has_text text l.others) l.texts
+    ≡ list_any (λ text. has_text text l.others) (drop l.place l.texts)

@@ -9,5 +9,8 @@ returns c =
     let ranges = c.args.ranges.now in
     let order = c.requires.ordered in
     let place = c.partition_point-place.result in
-    c.has_begun_at.ensures ∙ found_in moment ranges place order c.partition_point-place.ensures.bound
-    (IsPartitionPoint-from_clause (ends_before moment) ranges place c.partition_point-place.ensures.partitioned (parted moment ranges order) (λ a r q k. search rules))
+    c.has_begun_at.ensures
+    ∙ found_in moment ranges place order c.partition_point-place.ensures.bound
+    (IsPartitionPoint-from_clause
+    (ends_before moment) ranges place c.partition_point-place.ensures.partitioned
+    (parted moment ranges order) (λ a r q k. search rules))

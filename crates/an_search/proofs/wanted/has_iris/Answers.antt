@@ -8,4 +8,5 @@ use Rattle.an_search.proofs.wanted.has_iris.Goals as goal
 pub returns : goal.returns
 returns c =
     let own = iris_of c.args.note.now in
-    c.has_each_iri.ensures ∙ ap (λ texts. has_all texts own) c.ordered.ensures.ordered ∙ all-ascending (λ text. has_text text own) c.args.iris.now
+    c.has_each_iri.ensures ∙ ap (λ texts. has_all texts own) c.ordered.ensures.ordered
+    ∙ all-ascending (λ text. has_text text own) c.args.iris.now

@@ -12,13 +12,17 @@ returns-then-len-eq1-clause-found c =
     let pieces = c.args.pieces.now in
     let in_order = c.motivations-own.ensures.motivations in
     c.is_piece.ensures.found
-    ∙ ap (λ text. has_text text pieces) (c.text.ensures.text ∙ ap (λ texts. get_or texts 0 []) in_order)
-    ∙ one_shared pieces own (ap length (sym in_order) ∙ sym c.len.ensures.length ∙ c.if-len-eq1.true)
+    ∙ ap (λ text. has_text text pieces)
+    (c.text.ensures.text ∙ ap (λ texts. get_or texts 0 []) in_order)
+    ∙ one_shared pieces own
+    (ap length (sym in_order) ∙ sym c.len.ensures.length ∙ c.if-len-eq1.true)
 
 pub returns-clause-found : goal.returns-clause-found
 returns-clause-found c =
     let own = motivations_of c.args.note.now in
     c.share_one.ensures
-    ∙ ap (λ pieces. list_any (λ text. has_text text c.motivations-own.result.now) pieces) c.ordered.ensures.ordered
-    ∙ ap (λ texts. list_any (λ text. has_text text texts) (ascending c.args.pieces.now)) c.motivations-own.ensures.motivations
+    ∙ ap (λ pieces. list_any (λ text. has_text text c.motivations-own.result.now) pieces)
+    c.ordered.ensures.ordered
+    ∙ ap (λ texts. list_any (λ text. has_text text texts) (ascending c.args.pieces.now))
+    c.motivations-own.ensures.motivations
     ∙ share_ascending own c.args.pieces.now

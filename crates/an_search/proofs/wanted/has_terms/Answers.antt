@@ -8,4 +8,5 @@ use Rattle.an_search.proofs.wanted.has_terms.Goals as goal
 pub returns : goal.returns
 returns c =
     let own = note_terms c.args.note.now in
-    c.has_each_term.ensures ∙ ap (λ texts. has_all texts own) c.ordered.ensures.ordered ∙ all-ascending (λ text. has_text text own) c.args.terms.now
+    c.has_each_term.ensures ∙ ap (λ texts. has_all texts own) c.ordered.ensures.ordered
+    ∙ all-ascending (λ text. has_text text own) c.args.terms.now

@@ -8,5 +8,7 @@ overflow_add-result-in-Some c =
 
 pub returns-clause-is : goal.returns-clause-is
 returns-clause-is c =
-    IsPointOf-behind c.args.text.now _ c.args.point c.in-Some.c c.len_utf8.result c.utf8.text c.requires.is
-    (sym c.range_from.ensures.value ∙ sym c.chars.ensures.rest ∙ c.in-Some.ensures.steps.0) c.len_utf8.ensures.value
+    IsPointOf-behind c.args.text.now _ c.args.point c.in-Some.c c.len_utf8.result c.utf8.text
+    c.requires.is
+    (sym c.range_from.ensures.value ∙ sym c.chars.ensures.rest ∙ c.in-Some.ensures.steps.0)
+    c.len_utf8.ensures.value

@@ -10,8 +10,10 @@ overflow_add-result-in-Some c =
 pub returns-in-Some : goal.returns-in-Some
 returns-in-Some c =
     IsNext-some c.args.needle.now c.args.text.now c.args.from c.utf8.needle c.utf8.text c.requires
-    _ _ c.in-Some.skipped c.char_count.result c.range_from-rest.ensures.value c.range.ensures.value c.in-Some.ensures.cases c.char_count.ensures.count
+    _ _ c.in-Some.skipped c.char_count.result c.range_from-rest.ensures.value c.range.ensures.value
+    c.in-Some.ensures.cases c.char_count.ensures.count
 
 pub returns-in-None : goal.returns-in-None
 returns-in-None c =
-    StandsNowhere-none c.args.needle.now c.args.text.now c.args.from c.utf8.needle c.utf8.text c.requires _ c.range_from-rest.ensures.value c.in-None.ensures.cases
+    StandsNowhere-none c.args.needle.now c.args.text.now c.args.from c.utf8.needle c.utf8.text
+    c.requires _ c.range_from-rest.ensures.value c.in-None.ensures.cases

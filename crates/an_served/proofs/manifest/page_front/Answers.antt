@@ -12,5 +12,7 @@ returns c =
     ∙ ap (λ t. t ++ codes "/canvases/")
     (c.without_last-out.ensures (codes "{\"id\":\"" ++ escape (manifest_iri base name)) 34
     (c.in_ok-out.ensures.text
-    ∙ front_quoted _ _ _ (c.in_ok-extend_from_slice.ensures.items ∙ ap (λ t. t ++ codes "{\"id\":") c.new-out.ensures.items) (c.as_str.ensures.value ∙ c.in_ok-iri.ensures.iri)))
+    ∙ front_quoted _ _ _ (c.in_ok-extend_from_slice.ensures.items
+    ∙ ap (λ t. t ++ codes "{\"id\":") c.new-out.ensures.items)
+    (c.as_str.ensures.value ∙ c.in_ok-iri.ensures.iri)))
     ∙ front_whole base name

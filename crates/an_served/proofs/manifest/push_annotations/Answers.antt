@@ -9,7 +9,12 @@ use Rattle.an_served.proofs.manifest.push_annotations.Goals as goal
 pub returns : goal.returns
 returns c = record {
   member = λ values one kept is.
-      let none = none_kept c.args.text.now c.args.cut.first c.args.cut.last values kept (omega (arith, c.if-cut-min.false, c.min.ensures)) in
-      subst (λ kept. IfOk c.push_only.result (λ v. v.items ≡ c.args.out.items ++ member_text (codes "annotations") (array (with_last one kept)))) (sym none) (c.push_only.ensures.member one is);
+      let none =
+      none_kept c.args.text.now c.args.cut.first c.args.cut.last values kept
+      (omega (arith, c.if-cut-min.false, c.min.ensures)) in
+      subst (λ kept. IfOk c.push_only.result
+      (λ v.
+      v.items ≡ c.args.out.items ++ member_text (codes "annotations") (array (with_last one kept))))
+      (sym none) (c.push_only.ensures.member one is);
   grows = c.push_only.ensures.grows;
 }

@@ -9,5 +9,7 @@ use Rattle.an_served.proofs.manifest.push_canvases.Given as goal
 abbrev pub invariant-loop-cut : goal.invariant-loop-cut
 invariant-loop-cut l = record {
   number : l.done ≡ l.cut-index;
-  left : IsLeft l.base l.name l.out.items (l.fn.out.items ++ item_commas (dressed_canvases l.base l.name 1 (canvases_in l.sheet))) l.rest l.done (drop l.cut-index l.cuts);
+  left : IsLeft l.base l.name l.out.items
+      (l.fn.out.items ++ item_commas (dressed_canvases l.base l.name 1 (canvases_in l.sheet)))
+      l.rest l.done (drop l.cut-index l.cuts);
 }

@@ -14,7 +14,8 @@ returns c =
     let sheet = is_sheet tree c.text-text.ensures.tree c.text-text.ensures.kept in
     record {
       text = IfOk-weaker c.push_piece.result _ _ (λ v is label found. is
-          ∙ ap₂ (λ t (k : SheetCuts). c.args.out.items ++ piece t k.label.below k.label.above) c.text-text.ensures.text c.cuts.ensures.cuts
+          ∙ ap₂ (λ t (k : SheetCuts). c.args.out.items ++ piece t k.label.below k.label.above)
+          c.text-text.ensures.text c.cuts.ensures.cuts
           ∙ ap (λ text. c.args.out.items ++ text) (label_written tree sheet label found))
           c.push_piece.ensures.piece;
       label = ap is_some (has_label tree c.text-text.ensures.kept);

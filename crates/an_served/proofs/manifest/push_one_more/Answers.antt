@@ -26,14 +26,28 @@ close_items-requires c =
 pub returns : goal.returns
 returns c =
     let a = c.in_ok-out.out.items in
-    let named = ap length c.in_ok-out.ensures.text ∙ length-append c.args.out.items (name_text c.args.name.now) in
+    let named =
+    ap length c.in_ok-out.ensures.text
+    ∙ length-append c.args.out.items (name_text c.args.name.now) in
     record {
       member = λ values one kept text.
           let b = c.in_ok-out-2.ensures.piece ∙ ap (λ t. a ++ t) kept in
-          let last = c.in_ok-extend_from_slice.ensures.items ∙ ap (λ t. c.push.new.self.items ++ t) text in
-          let d = one_more_written one values a c.in_ok-out-2.out.items c.push.new.self.items c.extend_from_slice.new.self.items b c.in_ok-push.ensures.items last in
-          let start : c.len-start.result ≡ length a = omega (arith, c.len-start.ensures, c.in_ok-out.out.ok) in
-          member_joined c.args.name.now (array (with_last one values)) c.args.out.items a c.in_ok-out-3.out.items c.in_ok-out.ensures.text
+          let last =
+          c.in_ok-extend_from_slice.ensures.items ∙ ap (λ t. c.push.new.self.items ++ t) text in
+          let d =
+          one_more_written one values a c.in_ok-out-2.out.items c.push.new.self.items
+          c.extend_from_slice.new.self.items b c.in_ok-push.ensures.items last in
+          let start : c.len-start.result ≡ length a =
+          omega (arith, c.len-start.ensures, c.in_ok-out.out.ok) in
+          member_joined c.args.name.now (array (with_last one values)) c.args.out.items a
+          c.in_ok-out-3.out.items c.in_ok-out.ensures.text
           (c.in_ok-out-3.ensures.text a (with_last one values) d start);
-      grows = omega (arith, named, c.len-start.ensures, c.in_ok-out.out.ok, c.in_ok-out-3.ensures.grows, c.in_ok-out-3.out.ok);
+      grows = omega (
+        arith,
+        named,
+        c.len-start.ensures,
+        c.in_ok-out.out.ok,
+        c.in_ok-out-3.ensures.grows,
+        c.in_ok-out-3.out.ok,
+      );
     }

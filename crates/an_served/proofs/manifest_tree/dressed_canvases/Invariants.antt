@@ -10,6 +10,8 @@ abbrev pub invariant-loop-canvas : goal.invariant-loop-canvas
 invariant-loop-canvas l = record {
   left : into_iter_len l.canvas-iterator ≡ length (into_iter_items l.canvas-iterator);
   count : length l.dressed.items + length (into_iter_items l.canvas-iterator) ≡ l.count;
-  all : appended (items_view l.dressed.items) (dressed_canvases l.base l.name (length l.dressed.items + 1) (items_view (into_iter_items l.canvas-iterator)))
+  all : appended (items_view l.dressed.items)
+      (dressed_canvases l.base l.name (length l.dressed.items + 1)
+      (items_view (into_iter_items l.canvas-iterator)))
       ≡ dressed_canvases l.base l.name 1 (items_view l.fn.canvases.items);
 }

@@ -12,6 +12,10 @@ returns c =
     c.in_ok-out.ensures.text [] (codes "@context") refl (sym (cut-empty ms)) c.requires.cuts.context
     ∙ ap (λ all. c.args.out.items ++ commas (below (codes "@context") all)) (above-empty ms) in
     record {
-      text = three_pieces c.args.out.items _ _ _ (commas (below (codes "@context") ms)) _ (commas (below (codes "created") (above (codes "@context") ms))) first c.in_ok-out-2.ensures.text
-          (c.in_ok-out-3.ensures.text (codes "@context") (codes "created") refl c.requires.cuts.context c.requires.cuts.created);
+      text =
+          three_pieces c.args.out.items _ _ _ (commas (below (codes "@context") ms)) _
+          (commas (below (codes "created") (above (codes "@context") ms))) first
+          c.in_ok-out-2.ensures.text
+          (c.in_ok-out-3.ensures.text (codes "@context")
+          (codes "created") refl c.requires.cuts.context c.requires.cuts.created);
     }

@@ -8,8 +8,10 @@ abbrev pub invariant-loop-turns : goal.invariant-loop-turns
 invariant-loop-turns g l = record {
   serving : Goes g.S.Service.stands
       (Serving (g.S.Service.rules l.fn.context) l.turns
-      (line (g.L.Link.traffic l.fn.link) (g.L.Link.read_faults l.fn.link) (g.L.Link.write_faults l.fn.link))
-      (line (g.L.Link.traffic l.link) (g.L.Link.read_faults l.link) (g.L.Link.write_faults l.link)) l.buffer)
+      (line (g.L.Link.traffic l.fn.link) (g.L.Link.read_faults l.fn.link)
+      (g.L.Link.write_faults l.fn.link))
+      (line (g.L.Link.traffic l.link) (g.L.Link.read_faults l.link) (g.L.Link.write_faults l.link))
+      l.buffer)
       l.fn.service l.service;
   kept : g.S.Service.kept l.fn.service l.service;
   few : l.turns < 1000;

@@ -26,7 +26,8 @@ returns-in-Some-clause-listing c =
     let old : List Audience = c.changes_of.new.classes in
     let new : List Audience = c.prepare.new.classes in
     let rows : List Filed = c.args.listed.now.rows in
-    let listing = listing-grown s c.args.classes.now old rows c.changes_of.ensures.grows c.requires.listing in
+    let listing =
+    listing-grown s c.args.classes.now old rows c.changes_of.ensures.grows c.requires.listing in
     let steps = c.in-Some.prepared.steps.items in
     let activities : List Activity = c.in-Some.prepared.activities.items in
     let t : State = with_rows (rows_of entry) s in
@@ -37,7 +38,9 @@ returns-in-Some-clause-listing c =
     ∙ ap (λ (l : List Row). state_behind s l activities) planned.1
     ∙ ap (state_behind s (rows_of entry)) planned.3
     ∙ after-behind s entry in
-    let before = subst (All (IsFiled t new)) (sym c.prepare.ensures.rows) (filed-behind entry s old new rows c.prepare.ensures.grows listing planned.0) in
+    let before =
+    subst (All (IsFiled t new)) (sym c.prepare.ensures.rows)
+    (filed-behind entry s old new rows c.prepare.ensures.grows listing planned.0) in
     rw state (listing-after entry s old new rows c.put.new.listed.rows listing planned.0
     (c.put.ensures.notes ∙ ap (λ (u : State). u.notes) state)
     (c.put.ensures.filed t new (steps-filed t new steps planned.2) before))
@@ -60,20 +63,34 @@ returns-in-Some-clause-changes c =
     ∙ ap (λ (l : List Row). state_behind s l activities) planned.1
     ∙ ap (state_behind s (rows_of entry)) planned.3
     ∙ after-behind s entry in
-    let kept = changes-grown s first new c.args.changes.now changes (λ audience class is. c.prepare.ensures.grows audience class (c.changes_of.ensures.grows audience class is)) c.changes_of.ensures.extends c.changes_of.ensures.rows c.requires.changes in
-    let filed = All-gives (IsChangeFiled old changes.pairs) (IsChangeFiled new changes.pairs) added (change-grown old new c.prepare.ensures.grows changes.pairs changes.pairs (Extends-refl changes.pairs)) c.in_ok-added.ensures.filed in
-    rw state (changes-after entry s new changes c.add_changes.new.changes added kept c.add_changes.ensures.rows c.add_changes.ensures.pairs c.in_ok-added.ensures.added filed)
+    let kept =
+    changes-grown s first new c.args.changes.now changes
+    (λ audience class is.
+    c.prepare.ensures.grows audience class (c.changes_of.ensures.grows audience class is))
+    c.changes_of.ensures.extends c.changes_of.ensures.rows c.requires.changes in
+    let filed =
+    All-gives (IsChangeFiled old changes.pairs) (IsChangeFiled new changes.pairs) added
+    (change-grown old new c.prepare.ensures.grows changes.pairs changes.pairs
+    (Extends-refl changes.pairs)) c.in_ok-added.ensures.filed in
+    rw state (changes-after entry s new changes c.add_changes.new.changes added kept
+    c.add_changes.ensures.rows c.add_changes.ensures.pairs c.in_ok-added.ensures.added filed)
 
 pub returns-in_err-added-clause-changes : goal.returns-in_err-added-clause-changes
 returns-in_err-added-clause-changes c =
-    changes-grown c.args.book.now.state c.args.classes.now c.changes_of.new.classes c.args.changes.now c.changes_of.new.changes c.changes_of.ensures.grows c.changes_of.ensures.extends c.changes_of.ensures.rows c.requires.changes
+    changes-grown c.args.book.now.state c.args.classes.now c.changes_of.new.classes
+    c.args.changes.now c.changes_of.new.changes c.changes_of.ensures.grows
+    c.changes_of.ensures.extends c.changes_of.ensures.rows c.requires.changes
 
 pub returns-in_err-prepared-clause-changes : goal.returns-in_err-prepared-clause-changes
 returns-in_err-prepared-clause-changes c =
-    changes-prepared c.args.book.now.state c.prepare.new.book.state c.args.classes.now c.changes_of.new.classes c.prepare.new.classes c.args.changes.now c.changes_of.new.changes
-    c.prepare.ensures.state c.changes_of.ensures.grows c.prepare.ensures.grows c.changes_of.ensures.extends c.changes_of.ensures.rows c.requires.changes
+    changes-prepared c.args.book.now.state c.prepare.new.book.state c.args.classes.now
+    c.changes_of.new.classes c.prepare.new.classes c.args.changes.now c.changes_of.new.changes
+    c.prepare.ensures.state c.changes_of.ensures.grows c.prepare.ensures.grows
+    c.changes_of.ensures.extends c.changes_of.ensures.rows c.requires.changes
 
 pub returns-in-None-clause-changes : goal.returns-in-None-clause-changes
 returns-in-None-clause-changes c =
-    changes-prepared c.args.book.now.state c.prepare.new.book.state c.args.classes.now c.changes_of.new.classes c.prepare.new.classes c.args.changes.now c.changes_of.new.changes
-    c.prepare.ensures.state c.changes_of.ensures.grows c.prepare.ensures.grows c.changes_of.ensures.extends c.changes_of.ensures.rows c.requires.changes
+    changes-prepared c.args.book.now.state c.prepare.new.book.state c.args.classes.now
+    c.changes_of.new.classes c.prepare.new.classes c.args.changes.now c.changes_of.new.changes
+    c.prepare.ensures.state c.changes_of.ensures.grows c.prepare.ensures.grows
+    c.changes_of.ensures.extends c.changes_of.ensures.rows c.requires.changes

@@ -4,4 +4,6 @@ use Rattle.an_snapshot.proofs.copying.copy_activities.Given as goal
 
 -- the rows so far are copied
 abbrev pub invariant-loop-row : goal.invariant-loop-row
-invariant-loop-row l = let s : State = record l.fn.copy.state { activities = take l.row-index l.rows } in l.copy.state ≡ s
+invariant-loop-row l =
+    let s : State = record l.fn.copy.state { activities = take l.row-index l.rows } in
+    l.copy.state ≡ s

@@ -7,6 +7,7 @@ use Rattle.an_snapshot.proofs.copying.copy_readers.Goals as goal
 pub loop-row-preserved : goal.loop-row-preserved
 loop-row-preserved c =
     let s = c.loop-row.copy.state in
-    adds-reader c.args.copy.now.state s c.add.new.book.state c.args.rows.now c.loop-row.row-index c.row-item.result c.loop-row.invariant
+    adds-reader c.args.copy.now.state s c.add.new.book.state c.args.rows.now c.loop-row.row-index
+    c.row-item.result c.loop-row.invariant
     (c.in_ok-add.ensures.added ∙ ap (λ r. with_row s (kept.Reader r)) c.in_ok-row.ensures.equal)
     c.loop-row-test.true c.row-item.is c.requires.distinct

@@ -6,4 +6,5 @@ use Rattle.an_snapshot.proofs.copying.copy_rows.Goals as goal
 
 pub copy_notes-requires-clause-distinct : goal.copy_notes-requires-clause-distinct
 copy_notes-requires-clause-distinct c =
-    subst (λ (l : List NoteState). keys_are_distinct note_key l ≡ true) (sym c.notes.ensures.rows) (notes-distinct c.args.book.now.state c.requires.distinct)
+    subst (λ (l : List NoteState). keys_are_distinct note_key l ≡ true) (sym c.notes.ensures.rows)
+    (notes-distinct c.args.book.now.state c.requires.distinct)

@@ -5,4 +5,6 @@ use Rattle.an_snapshot.proofs.filing.add_rows.Given as goal
 
 -- what the rows that are left add comes behind what those so far do
 abbrev pub invariant-loop-row : goal.invariant-loop-row
-invariant-loop-row l = l.added.items ++ flat_map added_by_row (drop l.row-index l.rows) ≡ l.fn.added.items ++ flat_map added_by_row l.rows
+invariant-loop-row l =
+    l.added.items ++ flat_map added_by_row (drop l.row-index l.rows)
+    ≡ l.fn.added.items ++ flat_map added_by_row l.rows

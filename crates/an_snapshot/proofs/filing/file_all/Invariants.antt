@@ -13,6 +13,7 @@ invariant-loop-activity l = record {
   grows : Grows l.fn.classes l.classes;
   rows : l.changes.rows ≡ l.fn.changes.rows;
   extends : Extends l.fn.changes.pairs l.changes.pairs;
-  added : activities_in l.added.items ++ into_iter_items l.activity-iterator ≡ l.fn.activities.items;
+  added : activities_in l.added.items ++ into_iter_items l.activity-iterator
+      ≡ l.fn.activities.items;
   filed : All (IsChangeFiled l.classes l.changes.pairs) l.added.items;
 }

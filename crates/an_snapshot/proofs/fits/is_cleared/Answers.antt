@@ -15,7 +15,11 @@ returns c =
     let gone = sym c.is_live.ensures.live ∙ c.if-is_live.false in
     rw gone (
     c.have_places.ensures
-    ∙ ap (λ (l : List Filed). list_all (has_place notes l) c.as_slice.result.now) c.rows.ensures.rows
-    ∙ ap (list_all (has_place notes rows)) (c.as_slice.ensures.value ∙ c.in_ok-places.ensures.places)
-    ∙ ap (λ (name : List ℕ). list_all (has_place notes rows) (places_from (λ (f : Filed). is_on name f.note) 0 rows)) c.name.ensures.name
+    ∙ ap (λ (l : List Filed). list_all (has_place notes l) c.as_slice.result.now)
+    c.rows.ensures.rows
+    ∙ ap (list_all (has_place notes rows))
+    (c.as_slice.ensures.value ∙ c.in_ok-places.ensures.places)
+    ∙ ap (λ (name : List ℕ).
+    list_all (has_place notes rows) (places_from (λ (f : Filed). is_on name f.note) 0 rows))
+    c.name.ensures.name
     ∙ cleared-places c.args.book.now.state notes rows c.args.row.now.name c.requires.notes)

@@ -12,7 +12,10 @@ returns-then-not-keeps_group c =
     let s : State = c.args.book.now.state in
     let i = c.loop-row.row-index in
     let row : Row = c.row-item.result in
-    let isnt = keeps-over (take i rows) s row ∙ ap (λ (ms : List ManifestState). keeps_over s ms row) (sym c.loop-row.invariant.left.manifests)
+    let isnt =
+    keeps-over (take i rows) s row
+    ∙ ap (λ (ms : List ManifestState). keeps_over s ms row)
+    (sym c.loop-row.invariant.left.manifests)
     ∙ sym c.keeps_group.ensures ∙ c.if-not-keeps_group.true in
     record { left = keeps-fails rows i row s c.loop-row-test.true c.row-item.is isnt }
 
@@ -22,15 +25,23 @@ loop-row-preserved c =
     let s : State = c.args.book.now.state in
     let i = c.loop-row.row-index in
     let row : Row = c.row-item.result in
-    let is = keeps-over (take i rows) s row ∙ ap (λ (ms : List ManifestState). keeps_over s ms row) (sym c.loop-row.invariant.left.manifests)
+    let is =
+    keeps-over (take i rows) s row
+    ∙ ap (λ (ms : List ManifestState). keeps_over s ms row)
+    (sym c.loop-row.invariant.left.manifests)
     ∙ sym c.keeps_group.ensures ∙ c.if-not-keeps_group.false in
     let next = rows-next rows i row empty c.loop-row-test.true c.row-item.is in
     record {
-      keeps = keeps-next rows i row s c.loop-row-test.true c.row-item.is c.loop-row.invariant.keeps is;
+      keeps =
+          keeps-next rows i row s c.loop-row-test.true c.row-item.is c.loop-row.invariant.keeps is;
       left = record {
-        manifests = c.in_ok-put.ensures.manifests ∙ ap (manifests_with row) c.loop-row.invariant.left.manifests
-            ∙ sym (manifests-row (with_rows (take i rows) empty) row) ∙ ap (λ (t : State). t.manifests) (sym next);
+        manifests =
+            c.in_ok-put.ensures.manifests
+            ∙ ap (manifests_with row) c.loop-row.invariant.left.manifests
+            ∙ sym (manifests-row (with_rows (take i rows) empty) row)
+            ∙ ap (λ (t : State). t.manifests) (sym next);
         notes = c.in_ok-put.ensures.notes ∙ ap (notes_with row) c.loop-row.invariant.left.notes
-            ∙ sym (notes-row (with_rows (take i rows) empty) row) ∙ ap (λ (t : State). t.notes) (sym next);
+            ∙ sym (notes-row (with_rows (take i rows) empty) row)
+            ∙ ap (λ (t : State). t.notes) (sym next);
       };
     }

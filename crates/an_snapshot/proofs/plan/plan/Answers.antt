@@ -11,6 +11,8 @@ returns-in_ok-steps-in-Some-clause-plan c =
     let classes = c.steps_of.new.classes in (
       left.0,
       c.in_ok-steps-in-Some.ensures.rows,
-      All-gives (IsStepOver s c.in-Some.left.manifests.rows classes) (IsStep (with_rows c.args.rows.items s) classes) c.in_ok-steps-in-Some.steps.items
-          (step-behind c.args.rows.items s c.in-Some.left.manifests.rows left.1.manifests classes) c.in_ok-steps-in-Some.ensures.steps,
+      All-gives (IsStepOver s c.in-Some.left.manifests.rows classes)
+          (IsStep (with_rows c.args.rows.items s) classes) c.in_ok-steps-in-Some.steps.items
+          (step-behind c.args.rows.items s c.in-Some.left.manifests.rows left.1.manifests classes)
+          c.in_ok-steps-in-Some.ensures.steps,
     )

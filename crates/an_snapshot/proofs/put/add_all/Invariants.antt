@@ -7,6 +7,8 @@ abbrev pub invariant-loop-activity : goal.invariant-loop-activity
 invariant-loop-activity l =
     (goal.iterator-loop-activity).can_next l.activity-iterator ×
     (goal.iterator-loop-activity).is_finite l.activity-iterator ×
-    (record l.book.state { activities = l.book.state.activities ++ into_iter_items l.activity-iterator }
+    (record l.book.state {
+      activities = l.book.state.activities ++ into_iter_items l.activity-iterator;
+    }
     ≡ record l.fn.book.state { activities = l.fn.book.state.activities ++ l.fn.activities.items }) ×
     (length (into_iter_items l.activity-iterator) ≤ l.book.room)

@@ -12,7 +12,8 @@ returns-in_default c =
     let kinds = kinds_in (identity c.args.who.now) c.args.classes.now c.args.pairs.now in
     let lists = c.args.lists.now.lists in
     let none : slice_get lists c.loop-number.number ≡ None = search rules in
-    let rest = ap (sum_by (λ (l : List ℕ). length l)) (seen-end kinds lists c.loop-number.number none) in
+    let rest =
+    ap (sum_by (λ (l : List ℕ). length l)) (seen-end kinds lists c.loop-number.number none) in
     let all = c.loop-number.invariant in
     omega (arith, rest, all)
 
@@ -21,7 +22,10 @@ overflow_add-count c =
     let who = identity c.args.who.now in
     let lists = c.args.lists.now.lists in
     let there : slice_get lists c.loop-number.number ≡ Some c.in-Some.list.now = search rules in
-    let more = listed-more who c.args.classes.now c.args.pairs.now lists c.loop-number.number c.in-Some.list.now c.loop-number-test.true there true (sym c.if-is_some.true ∙ c.is_some.ensures ∙ ap (λ o. is_some o) c.kind_in.ensures) in
+    let more =
+    listed-more who c.args.classes.now c.args.pairs.now lists
+    c.loop-number.number c.in-Some.list.now c.loop-number-test.true there true
+    (sym c.if-is_some.true ∙ c.is_some.ensures ∙ ap (λ o. is_some o) c.kind_in.ensures) in
     let all = c.loop-number.invariant in
     let few = c.requires.few in
     omega (arith, more, all, few)
@@ -34,9 +38,15 @@ loop-number-preserved c =
     let all = c.loop-number.invariant in
     elim c.if-is_some.branch [
       | then-is_some w ↦
-          let more = listed-more who c.args.classes.now c.args.pairs.now lists c.loop-number.number c.in-Some.list.now c.loop-number-test.true there true (sym w.if-is_some.true ∙ c.is_some.ensures ∙ ap (λ o. is_some o) c.kind_in.ensures) in
+          let more =
+          listed-more who c.args.classes.now c.args.pairs.now lists
+          c.loop-number.number c.in-Some.list.now c.loop-number-test.true there true
+          (sym w.if-is_some.true ∙ c.is_some.ensures ∙ ap (λ o. is_some o) c.kind_in.ensures) in
           omega (arith, more, all, w.count-is)
       | else-is_some w ↦
-          let more = listed-more who c.args.classes.now c.args.pairs.now lists c.loop-number.number c.in-Some.list.now c.loop-number-test.true there false (sym w.if-is_some.false ∙ c.is_some.ensures ∙ ap (λ o. is_some o) c.kind_in.ensures) in
+          let more =
+          listed-more who c.args.classes.now c.args.pairs.now lists
+          c.loop-number.number c.in-Some.list.now c.loop-number-test.true there false
+          (sym w.if-is_some.false ∙ c.is_some.ensures ∙ ap (λ o. is_some o) c.kind_in.ensures) in
           omega (arith, more, all, w.count-is)
     ]

@@ -10,4 +10,5 @@ abbrev pub invariant-loop-number : goal.invariant-loop-number
 invariant-loop-number l =
     let kinds = kinds_in (identity l.who) l.classes l.pairs in
     let lists = l.lists.lists in
-    l.count + sum_by (λ list. length list) (lists_seen (drop l.number kinds) (drop l.number lists)) ≡ sum_by (λ list. length list) (lists_seen kinds lists)
+    l.count + sum_by (λ list. length list) (lists_seen (drop l.number kinds) (drop l.number lists))
+    ≡ sum_by (λ list. length list) (lists_seen kinds lists)

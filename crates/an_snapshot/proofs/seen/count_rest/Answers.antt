@@ -14,13 +14,21 @@ loop-change-preserved c =
     let change : FiledChange = c.change-item.result in
     let before = c.loop-change.invariant.count in
     let few = c.loop-change.invariant.few in
-    let more = count-more (λ number. is_some (kind_at kinds number)) c.args.changes.now c.loop-change.change-index change c.change-item.is c.loop-change-test.true in
+    let more =
+    count-more (λ number. is_some (kind_at kinds number)) c.args.changes.now
+    c.loop-change.change-index change c.change-item.is c.loop-change-test.true in
     let told = ap (λ o. is_some o) (sym c.kind_of.ensures) ∙ sym c.is_some.ensures in
     elim c.if-is_some.branch [
       | then-is_some w ↦
           let yes = ap one (told ∙ w.if-is_some.true) in
-          record { count = omega (arith, w.count-is, yes, more, before); few = omega (arith, w.count-is, few) }
+          record {
+            count = omega (arith, w.count-is, yes, more, before);
+            few = omega (arith, w.count-is, few);
+          }
       | else-is_some w ↦
           let no = ap one (told ∙ w.if-is_some.false) in
-          record { count = omega (arith, w.count-is, no, more, before); few = omega (arith, w.count-is, few) }
+          record {
+            count = omega (arith, w.count-is, no, more, before);
+            few = omega (arith, w.count-is, few);
+          }
     ]

@@ -8,8 +8,10 @@ use Rattle.an_snapshot.proofs.seen.count_rest.Given as goal
 -- how many were seen so far, and how many are seen of the rest
 abbrev pub invariant-loop-change : goal.invariant-loop-change
 invariant-loop-change l =
-    let sees : ℕ → Bool = λ number. is_some (kind_at (kinds_in (identity l.who) l.classes l.pairs) number) in
+    let sees : ℕ → Bool =
+    λ number. is_some (kind_at (kinds_in (identity l.who) l.classes l.pairs) number) in
     record {
-      count : l.count + count_by sees (numbers_in (drop l.change-index l.changes)) ≡ count_by sees (numbers_in l.changes);
+      count : l.count + count_by sees (numbers_in (drop l.change-index l.changes))
+          ≡ count_by sees (numbers_in l.changes);
       few : l.count ≤ l.change-index;
     }

@@ -5,4 +5,6 @@ use Rattle.an_snapshot.proofs.seen.kinds_in.Given as goal
 
 -- the kinds so far and those of the rest are those of all
 abbrev pub invariant-loop-pair : goal.invariant-loop-pair
-invariant-loop-pair l = l.kinds.items ++ kinds_in (identity l.who) l.classes (drop l.pair-index l.pairs) ≡ kinds_in (identity l.who) l.classes l.pairs
+invariant-loop-pair l =
+    l.kinds.items ++ kinds_in (identity l.who) l.classes (drop l.pair-index l.pairs)
+    ≡ kinds_in (identity l.who) l.classes l.pairs

@@ -14,9 +14,15 @@ returns c =
     let pairs : List ClassChange = c.args.changes.now.pairs in
     let rows = c.args.changes.now.rows in
     let kinds : c.as_slice-3.result.now ≡ kinds_in who classes pairs =
-    c.as_slice-3.ensures.value ∙ c.in_ok-kinds.ensures ∙ ap (λ (ps : List ClassChange). kinds_in who classes ps) c.pairs.ensures.pairs in
+    c.as_slice-3.ensures.value ∙ c.in_ok-kinds.ensures
+    ∙ ap (λ (ps : List ClassChange). kinds_in who classes ps) c.pairs.ensures.pairs in
     let whole : seen_by_kinds c.as_slice-3.result.now c.as_slice-2.result.now ≡ seen_in who rows =
     ap (seen_by_kinds c.as_slice-3.result.now) c.as_slice-2.ensures.rows
     ∙ ap (λ (ks : List (Option Kind)). seen_by_kinds ks rows) kinds
     ∙ seen-told who classes pairs rows c.requires.filed in
-    record { seen = subst (λ (l : List Seen). IfOk c.page.result (λ seen. seen.items ≡ take c.args.count (drop c.args.start l))) whole c.page.ensures.page }
+    record {
+      seen =
+          subst (λ (l : List Seen).
+          IfOk c.page.result (λ seen. seen.items ≡ take c.args.count (drop c.args.start l))) whole
+          c.page.ensures.page;
+    }

@@ -8,4 +8,6 @@ returns c =
     let places = c.args.places.now in
     let place = c.args.place in
     count-parted (λ p. ltb p place) places c.partition_point.result c.partition_point.ensures.bound
-    (IsPartitionPoint-from_clause (λ p. ltb p place) places c.partition_point.result c.partition_point.ensures.partitioned (below-parted place places c.requires.rises) (λ a r q k. search rules))
+    (IsPartitionPoint-from_clause (λ p. ltb p place) places c.partition_point.result
+    c.partition_point.ensures.partitioned (below-parted place places c.requires.rises)
+    (λ a r q k. search rules))

@@ -11,7 +11,13 @@ returns-in_default c =
     let lists = c.args.lists.now.lists in
     let none : slice_get lists c.loop-number.number ≡ None = search rules in
     let seen = map (λ (l : Bor (List ℕ)). l.now) c.loop-number.seen.items in
-    record { lists = sym (append-nil seen) ∙ ap (λ (r : List (List ℕ)). seen ++ r) (sym (seen-end kinds lists c.loop-number.number none)) ∙ c.loop-number.invariant }
+    record {
+      lists =
+          sym (append-nil seen)
+          ∙ ap (λ (r : List (List ℕ)). seen ++ r)
+          (sym (seen-end kinds lists c.loop-number.number none))
+          ∙ c.loop-number.invariant;
+    }
 
 pub loop-number-preserved : goal.loop-number-preserved
 loop-number-preserved c =
@@ -29,12 +35,14 @@ loop-number-preserved c =
           let is = sym c.is_some.ensures ∙ w.if-is_some.true in
           ap (λ (l : List (Bor (List ℕ))). map (λ (r : Bor (List ℕ)). r.now) l ++ left) items
           ∙ seen-pushed c.loop-number.seen.items list left
-          ∙ ap (λ (r : List (List ℕ)). seen ++ r) (sym (more ∙ ap (λ (b : Bool). cond b (list.now ∷ left) left) is))
+          ∙ ap (λ (r : List (List ℕ)). seen ++ r)
+          (sym (more ∙ ap (λ (b : Bool). cond b (list.now ∷ left) left) is))
           ∙ c.loop-number.invariant
       | else-is_some w ↦
           let items = ap (λ v. v.items) w.seen-is in
           let isnt = sym c.is_some.ensures ∙ w.if-is_some.false in
           ap (λ (l : List (Bor (List ℕ))). map (λ (r : Bor (List ℕ)). r.now) l ++ left) items
-          ∙ ap (λ (r : List (List ℕ)). seen ++ r) (sym (more ∙ ap (λ (b : Bool). cond b (list.now ∷ left) left) isnt))
+          ∙ ap (λ (r : List (List ℕ)). seen ++ r)
+          (sym (more ∙ ap (λ (b : Bool). cond b (list.now ∷ left) left) isnt))
           ∙ c.loop-number.invariant
     ]

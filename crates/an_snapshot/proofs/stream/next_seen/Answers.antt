@@ -12,6 +12,8 @@ pub returns-else-place-from-clause-seen : goal.returns-else-place-from-clause-se
 returns-else-place-from-clause-seen c =
     let place = c.walk_unseen-place.result in
     let next = c.next_place.result in
-    let within : next ≤ max place c.args.stream.now.filed.now.count = subst (λ n. next ≤ max place n) c.count.ensures.count c.next_place.ensures.within in
-    skipped c.args.stream.now c.requires.stream place next c.next_place.ensures.after within c.next_place.ensures.few
+    let within : next ≤ max place c.args.stream.now.filed.now.count =
+    subst (λ n. next ≤ max place n) c.count.ensures.count c.next_place.ensures.within in
+    skipped c.args.stream.now c.requires.stream place next c.next_place.ensures.after within
+    c.next_place.ensures.few
     ∙ c.walk_unseen-place.ensures.seen

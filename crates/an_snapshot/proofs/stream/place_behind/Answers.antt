@@ -23,12 +23,19 @@ returns-clause-behind c =
     let is = c.requires.stream in
     let place = c.place_with-place.result in
     let lists = ap (all_below place) is.lists in
-    let rest : take (length rows - place) (drop place rows) ≡ drop place rows = all-from rows rows place place refl refl in
-    let below : c.all_below.result ≡ all_below place (lists_seen kinds filed.lists) = c.all_below.ensures.count ∙ lists in
-    let behind : seen_by_kinds kinds (drop c.walk_past.result (drop place rows)) ≡ drop (c.args.count - all_below place (lists_seen kinds filed.lists)) (seen_by_kinds kinds (drop place rows)) =
+    let rest : take (length rows - place) (drop place rows) ≡ drop place rows =
+    all-from rows rows place place refl refl in
+    let below : c.all_below.result ≡ all_below place (lists_seen kinds filed.lists) =
+    c.all_below.ensures.count ∙ lists in
+    let behind : seen_by_kinds kinds (drop c.walk_past.result (drop place rows))
+    ≡ drop (c.args.count - all_below place (lists_seen kinds filed.lists))
+    (seen_by_kinds kinds (drop place rows)) =
     ap (λ (l : List FiledChange). seen_by_kinds kinds (drop c.walk_past.result l)) (sym rest)
     ∙ c.walk_past.ensures.behind
-    ∙ ap (λ (l : List FiledChange). drop (c.args.count - c.all_below.result) (seen_by_kinds kinds l)) rest
+    ∙ ap
+    (λ (l : List FiledChange). drop (c.args.count - c.all_below.result) (seen_by_kinds kinds l))
+    rest
     ∙ ap (λ (n : ℕ). drop (c.args.count - n) (seen_by_kinds kinds (drop place rows))) below in
     page-begins kinds rows filed is.within is.filed place c.walk_past.result c.args.count
-    (omega (arith, c.place_with-place.ensures.within, c.count.ensures.count)) (omega (arith, lists, c.place_with-place.ensures.few)) behind
+    (omega (arith, c.place_with-place.ensures.within, c.count.ensures.count))
+    (omega (arith, lists, c.place_with-place.ensures.few)) behind

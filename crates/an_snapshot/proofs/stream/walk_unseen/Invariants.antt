@@ -6,7 +6,8 @@ use Rattle.an_snapshot.proofs.stream.walk_unseen.Given as goal
 abbrev pub invariant-loop-place : goal.invariant-loop-place
 invariant-loop-place l = record {
   after : l.from ≤ l.place;
-  seen : seen_by_kinds l.kinds (drop l.place l.changes) ≡ seen_by_kinds l.kinds (drop l.from l.changes);
+  seen : seen_by_kinds l.kinds (drop l.place l.changes)
+      ≡ seen_by_kinds l.kinds (drop l.from l.changes);
 }
 
 abbrev pub decreases-loop-place : goal.decreases-loop-place

@@ -14,7 +14,8 @@ invariant-loop-change g l =
     let so_far = state g.S.Store l.tx.conn.now in
     record {
       same_reference : l.tx.conn.ghost_name ≡ l.fn.tx.conn.ghost_name;
-      left : HasCleanDisk so_far → IsTrue first.in_transaction → Tells first → AreLeft (drop l.change-index l.changes) l.changes first so_far;
+      left : HasCleanDisk so_far → IsTrue first.in_transaction → Tells first
+          → AreLeft (drop l.change-index l.changes) l.changes first so_far;
       inside : HasCleanDisk so_far → IsTrue first.in_transaction → IsTrue so_far.in_transaction;
       kept : HasCleanDisk so_far → IsTrue first.in_transaction → KeepsCommit first so_far;
       clean : doubt first.is_clean ≤ doubt so_far.is_clean;

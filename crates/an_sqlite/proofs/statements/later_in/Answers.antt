@@ -9,7 +9,11 @@ returns-in-Ok-clause-rows g c clean tells =
     let from = c.key_or_last.result in
     let is : from ≡ pos last = c.key_or_last.ensures in
     let same : to_z w64 (of_z w64 from) ≡ from = search rules in
-    later_in_at (state g.S.Store c.args.conn.now) (state g.S.Store c.ask_later_in.new.conn) c.args.tab last (to_z w64 (of_z w64 from)) c.in-Ok.rows.items (same ∙ is) tells (c.in-Ok.ensures.ok clean)
+    later_in_at (state g.S.Store c.args.conn.now) (state g.S.Store c.ask_later_in.new.conn)
+    c.args.tab last (to_z w64 (of_z w64 from)) c.in-Ok.rows.items (same ∙ is) tells
+    (c.in-Ok.ensures.ok clean)
 
 pub returns-in-Ok-clause-kept : goal.returns-in-Ok-clause-kept
-returns-in-Ok-clause-kept g c clean tells = later_in_same (state g.S.Store c.args.conn.now) (state g.S.Store c.ask_later_in.new.conn) _ c.in-Ok.rows.items tells (c.in-Ok.ensures.ok clean)
+returns-in-Ok-clause-kept g c clean tells =
+    later_in_same (state g.S.Store c.args.conn.now)
+    (state g.S.Store c.ask_later_in.new.conn) _ c.in-Ok.rows.items tells (c.in-Ok.ensures.ok clean)

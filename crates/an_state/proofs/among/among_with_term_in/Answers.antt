@@ -21,7 +21,13 @@ returns c =
     let having = c.loop-place.having.items in
     let none = drop_all c.loop-place.place-index places (omega (arith, c.loop-place-test.false)) in
     sym (append-nil having)
-    ∙ ap (λ left. having ++ filter (λ place. passes (λ row. is_sought s who manifest row && has_term term row) (slice_get s.notes place)) left) (sym none)
+    ∙ ap (λ left. having
+    ++ filter (λ place.
+    passes (λ row. is_sought s who manifest row && has_term term row) (slice_get s.notes place))
+    left) (sym none)
     ∙ c.loop-place.invariant
-    ∙ filter-same (λ place. passes (λ row. is_sought s who manifest row && has_term term row) (slice_get s.notes place)) (λ place. has place (places_with_term s who manifest term)) places
-    (λ place. sym (has-places_from {A = NoteState} (λ row. is_sought s who manifest row && has_term term row) place s.notes))
+    ∙ filter-same (λ place.
+    passes (λ row. is_sought s who manifest row && has_term term row) (slice_get s.notes place))
+    (λ place. has place (places_with_term s who manifest term)) places
+    (λ place. sym (has-places_from {A = NoteState}
+    (λ row. is_sought s who manifest row && has_term term row) place s.notes))

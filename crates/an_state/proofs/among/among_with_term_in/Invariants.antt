@@ -11,5 +11,11 @@ use Rattle.an_state.proofs.among.among_with_term_in.Given as goal
 abbrev pub invariant-loop-place : goal.invariant-loop-place
 invariant-loop-place l =
     let s = l.book.state in
-    l.having.items ++ filter (λ place. passes (λ row. is_sought s (identity l.who) (option_copied l.manifest) row && has_term l.term row) (slice_get s.notes place)) (drop l.place-index l.places)
-    ≡ filter (λ place. passes (λ row. is_sought s (identity l.who) (option_copied l.manifest) row && has_term l.term row) (slice_get s.notes place)) l.places
+    l.having.items
+    ++ filter (λ place. passes
+    (λ row. is_sought s (identity l.who) (option_copied l.manifest) row && has_term l.term row)
+    (slice_get s.notes place))
+    (drop l.place-index l.places)
+    ≡ filter (λ place. passes
+    (λ row. is_sought s (identity l.who) (option_copied l.manifest) row && has_term l.term row)
+    (slice_get s.notes place)) l.places

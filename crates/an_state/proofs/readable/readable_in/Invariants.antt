@@ -9,5 +9,7 @@ use Rattle.an_state.proofs.readable.readable_in.Given as goal
 abbrev pub invariant-loop-place : goal.invariant-loop-place
 invariant-loop-place l =
     let s = l.book.state in
-    l.places.items ++ places_from (is_sought s (identity l.who) (option_copied l.manifest)) l.place (drop l.place s.notes)
+    l.places.items
+    ++ places_from (is_sought s (identity l.who) (option_copied l.manifest)) l.place
+    (drop l.place s.notes)
     ≡ places_from (is_sought s (identity l.who) (option_copied l.manifest)) 0 s.notes

@@ -10,5 +10,10 @@ use Rattle.an_state.proofs.readable.with_term_in.Given as goal
 abbrev pub invariant-loop-place : goal.invariant-loop-place
 invariant-loop-place l =
     let s = l.book.state in
-    l.places.items ++ places_from (λ row. is_sought s (identity l.who) (option_copied l.manifest) row && has_term l.term row) l.place (drop l.place s.notes)
-    ≡ places_from (λ row. is_sought s (identity l.who) (option_copied l.manifest) row && has_term l.term row) 0 s.notes
+    l.places.items
+    ++ places_from
+    (λ row. is_sought s (identity l.who) (option_copied l.manifest) row && has_term l.term row)
+    l.place (drop l.place s.notes)
+    ≡ places_from
+    (λ row. is_sought s (identity l.who) (option_copied l.manifest) row && has_term l.term row) 0
+    s.notes

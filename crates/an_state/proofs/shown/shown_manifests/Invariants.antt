@@ -9,4 +9,5 @@ abbrev pub invariant-loop-place : goal.invariant-loop-place
 invariant-loop-place g l =
     let manifests = (g.T.Look.state l.look).manifests in
     let shown = shows_manifest (identity l.who) in
-    map (λ row. row.now) l.rows.items ++ filter shown (drop l.place manifests) ≡ filter shown manifests
+    map (λ row. row.now) l.rows.items ++ filter shown (drop l.place manifests)
+    ≡ filter shown manifests

@@ -15,8 +15,12 @@ returns c =
     let kind : c.kind_text.result.now ≡ kind_text seen.kind = search rules in
     record {
       text = c.in_ok-out-4.ensures.text c.args.out.items (activity_members base seen)
-          (activity_pieces base seen c.args.out.items _ _ _ (c.in_ok-out.ensures.text ∙ ap (λ text. c.args.out.items ++ member_text (codes "endTime") (string text)) moment)
-          c.in_ok-out-2.ensures.text (c.in_ok-out-3.ensures.text ∙ ap (λ text. c.in_ok-out-2.out.items ++ member_text (codes "type") (string text)) kind))
+          (activity_pieces base seen c.args.out.items _ _ _
+          (c.in_ok-out.ensures.text
+          ∙ ap (λ text. c.args.out.items ++ member_text (codes "endTime") (string text)) moment)
+          c.in_ok-out-2.ensures.text
+          (c.in_ok-out-3.ensures.text
+          ∙ ap (λ text. c.in_ok-out-2.out.items ++ member_text (codes "type") (string text)) kind))
           (c.len-start.ensures ∙ c.args.out.ok.0)
           ∙ ap (λ tree. c.args.out.items ++ compact_text tree) (written_activity base seen);
     }

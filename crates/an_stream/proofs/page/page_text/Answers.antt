@@ -18,8 +18,12 @@ returns c =
     record {
       text = c.from_vec.ensures.value
           ∙ c.in_ok-out-4.ensures.text [] (page_members whole pages paging.page start items)
-          (page_pieces whole pages paging.page start items [] _ _ _ (c.in_ok-out.ensures.text ∙ ap (λ before. before ++ head_text whole pages paging.page) c.in_ok-room.ensures.items)
-          (c.in_ok-out-2.ensures.text items (c.as_slice.ensures.value ∙ c.in_ok-items.ensures.text ∙ ap (λ before. before ++ item_commas items) c.in_ok-listed.ensures.items))
+          (page_pieces whole pages paging.page start items [] _ _ _
+          (c.in_ok-out.ensures.text
+          ∙ ap (λ before. before ++ head_text whole pages paging.page) c.in_ok-room.ensures.items)
+          (c.in_ok-out-2.ensures.text items
+          (c.as_slice.ensures.value ∙ c.in_ok-items.ensures.text
+          ∙ ap (λ before. before ++ item_commas items) c.in_ok-listed.ensures.items))
           c.in_ok-out-3.ensures.text) refl
           ∙ ap compact_text (written_page whole pages paging.page start items);
     }

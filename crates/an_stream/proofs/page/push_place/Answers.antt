@@ -11,8 +11,15 @@ returns c =
     let whole = c.args.whole.now in
     let path : c.as_str.result.now ≡ whole.path = search rules in
     record {
-      text = piece_then c.args.out.items _ _ _ _ (c.in_ok-out.ensures.text ∙ ap (λ iri. c.args.out.items ++ member_text (codes "partOf") (thing iri (codes "OrderedCollection"))) path)
+      text =
+          piece_then c.args.out.items _ _ _ _
+          (c.in_ok-out.ensures.text
+          ∙ ap (λ iri.
+          c.args.out.items ++ member_text (codes "partOf") (thing iri (codes "OrderedCollection")))
+          path)
           (piece_then c.in_ok-out.out.items _ _ _ _ c.in_ok-out-2.ensures.text
-          (piece_then c.in_ok-out-2.out.items _ _ _ _ c.in_ok-out-3.ensures.text (last_piece _ _ _ c.in_ok-out-4.ensures.text)))
-          ∙ ap (λ text. c.args.out.items ++ text) (place_text whole paging.page (start_of paging.page paging.size));
+          (piece_then c.in_ok-out-2.out.items _ _ _ _ c.in_ok-out-3.ensures.text
+          (last_piece _ _ _ c.in_ok-out-4.ensures.text)))
+          ∙ ap (λ text. c.args.out.items ++ text)
+          (place_text whole paging.page (start_of paging.page paging.size));
     }

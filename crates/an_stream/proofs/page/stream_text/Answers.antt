@@ -13,9 +13,14 @@ returns c =
     record {
       text = c.from_vec.ensures.value
           ∙ c.in_ok-out-7.ensures.text [] (members_in (stream_tree whole c.args.pages c.args.total))
-          (piece_then [] _ _ _ _ (c.in_ok-out.ensures.text ∙ ap (λ before. before ++ member_text (codes "@context") (string changes_context)) c.new.ensures.items)
-          (piece_then c.in_ok-out.out.items _ _ _ _ c.in_ok-out-2.ensures.text (piece_then c.in_ok-out-2.out.items _ _ _ _
-          (c.in_ok-out-3.ensures.text ∙ ap (λ id. c.in_ok-out-2.out.items ++ member_text (codes "id") (string id)) path)
-          (piece_then c.in_ok-out-3.out.items _ _ _ _ c.in_ok-out-4.ensures.text (piece_then c.in_ok-out-4.out.items _ _ _ _ c.in_ok-out-5.ensures.text
+          (piece_then [] _ _ _ _ (c.in_ok-out.ensures.text
+          ∙ ap (λ before. before ++ member_text (codes "@context") (string changes_context))
+          c.new.ensures.items)
+          (piece_then c.in_ok-out.out.items _ _ _ _ c.in_ok-out-2.ensures.text
+          (piece_then c.in_ok-out-2.out.items _ _ _ _
+          (c.in_ok-out-3.ensures.text
+          ∙ ap (λ id. c.in_ok-out-2.out.items ++ member_text (codes "id") (string id)) path)
+          (piece_then c.in_ok-out-3.out.items _ _ _ _ c.in_ok-out-4.ensures.text
+          (piece_then c.in_ok-out-4.out.items _ _ _ _ c.in_ok-out-5.ensures.text
           (last_piece _ _ _ c.in_ok-out-6.ensures.text)))))) refl;
     }

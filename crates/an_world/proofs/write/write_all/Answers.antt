@@ -15,4 +15,5 @@ loop-at-preserved g c = record {
 -- what was written before the call that failed
 pub returns-in_err-at-clause-front : goal.returns-in_err-at-clause-front
 returns-in_err-at-clause-front g c =
-    WritesFront-failed c.loop-at.at _ _ _ _ c.loop-at.invariant.written c.in_err-at.ensures.fault_still
+    WritesFront-failed c.loop-at.at _ _ _ _ c.loop-at.invariant.written
+    c.in_err-at.ensures.fault_still

@@ -18,11 +18,14 @@ returns g c = record {
       let new = c.run_kept.new.link in
       told_clean over_files c.keeper_for-keeper.result.place
       (λ (told : Told). IfSome (form_of (map string_bytes c.args.words.now)) (Runs
-      (outside_of told after (¬ (IsTrue false)) (Rises (g.L.Link.read_faults old) (g.L.Link.read_faults new)) (Rises (g.L.Link.write_faults old) (g.L.Link.write_faults new)))
+      (outside_of told after (¬ (IsTrue false))
+      (Rises (g.L.Link.read_faults old) (g.L.Link.read_faults new))
+      (Rises (g.L.Link.write_faults old) (g.L.Link.write_faults new)))
       (record { tally = c.run_kept.new.door.tally; faults = c.run_kept.new.door.faults })
       (g.C.Clock.answers c.args.clock.now)
       (line (g.L.Link.traffic old) (g.L.Link.read_faults old) (g.L.Link.write_faults old))
       (line (g.L.Link.traffic new) (g.L.Link.read_faults new) (g.L.Link.write_faults new))
       c.run_kept.result.status))
-      cells c.run_kept.ensures.runs (c.run_kept.ensures.never some) (λ clean. c.keeper_for-keeper.ensures.tells clean cells holds);
+      cells c.run_kept.ensures.runs (c.run_kept.ensures.never some)
+      (λ clean. c.keeper_for-keeper.ensures.tells clean cells holds);
 }

@@ -6,5 +6,6 @@ use Rattle.an_base.proofs.kept.KeptTree.to_value.Goals as goal
 
 pub returns-in-Ok-clause-value : goal.returns-in-Ok-clause-value
 returns-in-Ok-clause-value c =
-    let same : Ok (view c.in-Ok.value) ≡ Ok c.args.self.now = sym c.in-Ok.ensures.tree ∙ ap tree_of c.text.ensures.text ∙ read_back _ c.text.ensures.tree in
+    let same : Ok (view c.in-Ok.value) ≡ Ok c.args.self.now =
+    sym c.in-Ok.ensures.tree ∙ ap tree_of c.text.ensures.text ∙ read_back _ c.text.ensures.tree in
     cc

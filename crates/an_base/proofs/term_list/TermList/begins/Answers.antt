@@ -13,6 +13,9 @@ begins-requires c = record {
 
 pub returns : goal.returns
 returns c = record {
-  begins = c.begins.ensures.begins ∙ ap (λ terms. starts_with nat_eq (get_or terms c.args.place []) c.args.prefix.now)
-      (sym (terms-numbered c.self.inside.terms c.self.inside.totals.items c.self.invariant) ∙ ap (map (λ e. e.term)) c.self.view_is);
+  begins =
+      c.begins.ensures.begins
+      ∙ ap (λ terms. starts_with nat_eq (get_or terms c.args.place []) c.args.prefix.now)
+      (sym (terms-numbered c.self.inside.terms c.self.inside.totals.items c.self.invariant)
+      ∙ ap (map (λ e. e.term)) c.self.view_is);
 }

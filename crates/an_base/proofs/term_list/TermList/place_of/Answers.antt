@@ -7,5 +7,6 @@ use Rattle.an_base.proofs.term_list.TermList.place_of.Goals as goal
 pub returns : goal.returns
 returns c = record {
   place = c.place_of.ensures.place ∙ ap (prefix_len (is_below c.args.text.now))
-      (sym (terms-numbered c.self.inside.terms c.self.inside.totals.items c.self.invariant) ∙ ap (map (λ e. e.term)) c.self.view_is);
+      (sym (terms-numbered c.self.inside.terms c.self.inside.totals.items c.self.invariant)
+      ∙ ap (map (λ e. e.term)) c.self.view_is);
 }

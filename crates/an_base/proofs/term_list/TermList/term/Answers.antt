@@ -13,5 +13,6 @@ text-requires c = record {
 pub returns : goal.returns
 returns c = record {
   term = c.text.ensures.text ∙ ap (λ terms. get_or terms c.args.place [])
-      (sym (terms-numbered c.self.inside.terms c.self.inside.totals.items c.self.invariant) ∙ ap (map (λ e. e.term)) c.self.view_is);
+      (sym (terms-numbered c.self.inside.terms c.self.inside.totals.items c.self.invariant)
+      ∙ ap (map (λ e. e.term)) c.self.view_is);
 }

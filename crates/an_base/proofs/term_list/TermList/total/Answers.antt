@@ -12,5 +12,7 @@ number_at-requires c =
 pub returns : goal.returns
 returns c = record {
   total = c.number_at.ensures ∙ ap (λ totals. get_or totals c.args.place 0)
-      (c.as_slice.ensures.value ∙ sym (totals-numbered c.self.inside.terms c.self.inside.totals.items c.self.invariant) ∙ ap (map (λ e. e.total)) c.self.view_is);
+      (c.as_slice.ensures.value
+      ∙ sym (totals-numbered c.self.inside.terms c.self.inside.totals.items c.self.invariant)
+      ∙ ap (map (λ e. e.total)) c.self.view_is);
 }

@@ -7,6 +7,7 @@ use Rattle.an_base.proofs.totals.TermTotals.count_from.Given as goal
 -- with what is left counted, the totals are those with all counted
 abbrev pub invariant-loop-place : goal.invariant-loop-place
 invariant-loop-place l = record {
-  totals : counted_from l.prefix l.self (drop l.place l.list) ≡ counted_from l.prefix l.fn.self l.list;
+  totals : counted_from l.prefix l.self (drop l.place l.list)
+      ≡ counted_from l.prefix l.fn.self l.list;
   behind : prefix_len (is_below l.prefix) (map (λ e. e.term) l.list) ≤ l.place;
 }

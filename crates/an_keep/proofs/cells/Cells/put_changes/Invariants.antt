@@ -9,8 +9,11 @@ abbrev pub invariant-loop-change : goal.invariant-loop-change
 invariant-loop-change l =
     (goal.iterator-loop-change).can_next l.change-iterator ×
     (goal.iterator-loop-change).is_finite l.change-iterator ×
-    (put_changes (into_iter_items l.change-iterator) (l.self-inside.rows.items ++ l.self-inside.log.items)
+    (put_changes (into_iter_items l.change-iterator)
+    (l.self-inside.rows.items ++ l.self-inside.log.items)
     ≡ put_changes l.changes (l.initial.self-inside.rows.items ++ l.initial.self-inside.log.items)) ×
-    (vec_len l.self-inside.rows + length (into_iter_items l.change-iterator) ≤ vec_capacity l.self-inside.rows) ×
-    (vec_len l.self-inside.log + length (into_iter_items l.change-iterator) ≤ vec_capacity l.self-inside.log) ×
+    (vec_len l.self-inside.rows + length (into_iter_items l.change-iterator)
+    ≤ vec_capacity l.self-inside.rows) ×
+    (vec_len l.self-inside.log + length (into_iter_items l.change-iterator)
+    ≤ vec_capacity l.self-inside.log) ×
     Part l.self-inside.rows.items l.self-inside.log.items

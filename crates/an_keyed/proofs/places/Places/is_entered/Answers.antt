@@ -7,4 +7,5 @@ place-requires c = record { entry = (c.loop-next.invariant.at_hash c.in-Some.ent
 
 pub loop-next-preserved : goal.loop-next-preserved
 loop-next-preserved c =
-    walk_goes _ _ _ c.in-Some.entry _ (rw c.in-Some.is at c.loop-next.invariant) (λ e. c.if-place.false (c.place.ensures.place ∙ e)) c.before-next.ensures.last
+    walk_goes _ _ _ c.in-Some.entry _ (rw c.in-Some.is at c.loop-next.invariant)
+    (λ e. c.if-place.false (c.place.ensures.place ∙ e)) c.before-next.ensures.last

@@ -10,7 +10,9 @@ invariant_of-self g c =
     let hash : key_hash (key c.args.row) ≡ c.hash_of-hash.result = grind arith in
     let new : place_of key (key c.args.row) c.self.inside.rows.items ≡ None = grind arith in
     record {
-      hashed = rw (c.push_reserved.ensures.items, c.push.ensures.hashes, ← hash) (IsHashed-push_row key _ _ c.self.invariant.hashed c.args.row new);
+      hashed =
+          rw (c.push_reserved.ensures.items, c.push.ensures.hashes, ← hash)
+          (IsHashed-push_row key _ _ c.self.invariant.hashed c.args.row new);
       rows = omega arith;
       index = omega arith;
     }
@@ -18,7 +20,8 @@ invariant_of-self g c =
 pub invariant_of-self-in-Some : goal.invariant_of-self-in-Some
 invariant_of-self-in-Some g c =
     let key = g.R.Keyed.key in
-    let here : place_of key (key c.args.row) c.self.inside.rows.items ≡ Some c.in-Some.place = grind arith in
+    let here : place_of key (key c.args.row) c.self.inside.rows.items ≡ Some c.in-Some.place =
+    grind arith in
     record {
       hashed = IsHashed-set_row key _ _ c.self.invariant.hashed c.args.row c.in-Some.place here;
       rows = c.self.invariant.rows;

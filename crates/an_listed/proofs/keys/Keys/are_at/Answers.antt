@@ -7,10 +7,22 @@ pub returns-then-are_under : goal.returns-then-are_under
 returns-then-are_under c =
     let keys = c.args.self.now in
     let term = c.args.term.now in
-    record { at = c.has.ensures ∙ ap (λ (b : Bool). b && has_text term (map (λ e. e.term) keys.terms)) (sym (sym c.are_under.ensures ∙ c.if-are_under.true)) ∙ sym (posted-keys c.args.manifest.now term c.args.class keys) }
+    record {
+      at =
+          c.has.ensures
+          ∙ ap (λ (b : Bool). b && has_text term (map (λ e. e.term) keys.terms))
+          (sym (sym c.are_under.ensures ∙ c.if-are_under.true))
+          ∙ sym (posted-keys c.args.manifest.now term c.args.class keys);
+    }
 
 pub returns-else-are_under : goal.returns-else-are_under
 returns-else-are_under c =
     let keys = c.args.self.now in
     let term = c.args.term.now in
-    record { at = c.if-are_under.false ∙ ap (λ (b : Bool). b && has_text term (map (λ e. e.term) keys.terms)) (sym (sym c.are_under.ensures ∙ c.if-are_under.false)) ∙ sym (posted-keys c.args.manifest.now term c.args.class keys) }
+    record {
+      at =
+          c.if-are_under.false
+          ∙ ap (λ (b : Bool). b && has_text term (map (λ e. e.term) keys.terms))
+          (sym (sym c.are_under.ensures ∙ c.if-are_under.false))
+          ∙ sym (posted-keys c.args.manifest.now term c.args.class keys);
+    }

@@ -16,9 +16,12 @@ returns-then-place-len-clause-rest c = λ coming room.
     }
   where
     -- rows are to come, or none needs space
-    left : (coming : List Filed) → length (c.args.row ∷ coming) ≤ c.self.inside.room → HasSpace (c.args.row ∷ coming) c.self.inside.register → HasSpace coming c.replace-done.new.self
+    left : (coming : List Filed) → length (c.args.row ∷ coming) ≤ c.self.inside.room
+        → HasSpace (c.args.row ∷ coming) c.self.inside.register
+        → HasSpace coming c.replace-done.new.self
     left [] few space = space-none c.replace-done.new.self
-    left (row ∷ rows) few space = c.replace-done.ensures.rest (grind (arith, few)) (row ∷ rows) space
+    left (row ∷ rows) few space =
+        c.replace-done.ensures.rest (grind (arith, few)) (row ∷ rows) space
 
 pub returns-else-place-len-clause-rest : goal.returns-else-place-len-clause-rest
 returns-else-place-len-clause-rest c = λ coming room.

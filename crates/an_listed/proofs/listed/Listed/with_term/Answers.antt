@@ -11,5 +11,12 @@ use Rattle.an_listed.proofs.listed.Listed.with_term.Goals as goal
 
 pub returns : goal.returns
 returns c =
-    let found : List Filed → List ℕ = places_from (λ row. reads_within (identity c.args.who.now) c.args.classes.now (option_copied c.args.manifest) row && has_term c.args.term.now row.note) 0 in
-    record { places = IfOk-weaker c.with_term.result _ _ (λ places is. is c.self.inside.rows.items c.self.invariant.stands ∙ ap (λ (l : Listings). found l.rows) c.self.view_is) c.with_term.ensures.places }
+    let found : List Filed → List ℕ =
+    places_from (λ row. reads_within (identity c.args.who.now) c.args.classes.now
+    (option_copied c.args.manifest) row && has_term c.args.term.now row.note) 0 in
+    record {
+      places =
+          IfOk-weaker c.with_term.result _ _
+          (λ places is. is c.self.inside.rows.items c.self.invariant.stands
+          ∙ ap (λ (l : Listings). found l.rows) c.self.view_is) c.with_term.ensures.places;
+    }

@@ -14,7 +14,11 @@ returns c =
     let manifest = c.as_str-manifest.result.now in record {
       places = IfOk-weaker c.places.result _ _ (λ places is rows stands.
           is
-          ∙ ap (λ (cs : List ℕ). ascending (flat_map (λ class. places_in c.args.self.now.whole (slot_of manifest [] class)) cs)) c.as_slice.ensures.value
-          ∙ whole-all c.args.self.now rows stands manifest c.in_ok-own.own.items c.in_ok-own.ensures.others
-          ∙ ap (λ (m : List ℕ). places_from (λ (row : Filed). is_on m row.note) 0 rows) c.as_str-manifest.ensures.value) c.places.ensures.places;
+          ∙ ap (λ (cs : List ℕ). ascending
+          (flat_map (λ class. places_in c.args.self.now.whole (slot_of manifest [] class)) cs))
+          c.as_slice.ensures.value
+          ∙ whole-all c.args.self.now rows stands manifest c.in_ok-own.own.items
+          c.in_ok-own.ensures.others
+          ∙ ap (λ (m : List ℕ). places_from (λ (row : Filed). is_on m row.note) 0 rows)
+          c.as_str-manifest.ensures.value) c.places.ensures.places;
     }

@@ -17,7 +17,12 @@ returns c =
     let passes : ℕ → Bool = reads (identity c.args.who.now) c.args.classes.now in record {
       places = IfOk-weaker c.places.result _ _ (λ places is rows stands.
           is
-          ∙ ap (λ (cs : List ℕ). ascending (flat_map (λ class. places_in c.args.self.now.whole (slot_of manifest [] class)) cs)) c.as_slice.ensures.value
-          ∙ whole-read c.args.self.now rows stands manifest passes c.in_ok-read.read.items c.in_ok-read.ensures.read c.in_ok-read.ensures.others
-          ∙ ap (λ (m : List ℕ). places_from (λ (row : Filed). is_on m row.note && passes row.class) 0 rows) c.as_str-manifest.ensures.value) c.places.ensures.places;
+          ∙ ap (λ (cs : List ℕ). ascending
+          (flat_map (λ class. places_in c.args.self.now.whole (slot_of manifest [] class)) cs))
+          c.as_slice.ensures.value
+          ∙ whole-read c.args.self.now rows stands manifest passes c.in_ok-read.read.items
+          c.in_ok-read.ensures.read c.in_ok-read.ensures.others
+          ∙ ap (λ (m : List ℕ).
+          places_from (λ (row : Filed). is_on m row.note && passes row.class) 0 rows)
+          c.as_str-manifest.ensures.value) c.places.ensures.places;
     }

@@ -18,6 +18,11 @@ returns c =
     let passes : ℕ → Bool = reads (identity c.args.who.now) c.args.classes.now in record {
       places = IfOk-weaker c.places.result _ _ (λ places is rows stands.
           is
-          ∙ ap (λ (cs : List ℕ). ascending (flat_map (λ class. places_in lists (slot_of text term class)) cs)) c.as_slice.ensures.value
-          ∙ words-read c.args.self.now rows stands (option_copied c.args.manifest) lists text c.lists_within-lists.ensures.lists c.text_within-text.ensures term passes c.in_ok-read.read.items c.in_ok-read.ensures.read c.in_ok-read.ensures.others) c.places.ensures.places;
+          ∙ ap (λ (cs : List ℕ).
+          ascending (flat_map (λ class. places_in lists (slot_of text term class)) cs))
+          c.as_slice.ensures.value
+          ∙ words-read c.args.self.now rows stands (option_copied c.args.manifest) lists
+          text c.lists_within-lists.ensures.lists c.text_within-text.ensures term passes
+          c.in_ok-read.read.items c.in_ok-read.ensures.read c.in_ok-read.ensures.others)
+          c.places.ensures.places;
     }

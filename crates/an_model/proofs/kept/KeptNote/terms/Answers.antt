@@ -5,5 +5,7 @@ use Rattle.an_model.proofs.kept.KeptNote.terms.Goals as goal
 
 pub returns : goal.returns
 returns c = record {
-  terms = ap (λ parts. parts.terms) c.deref.ensures ∙ c.self.invariant.terms ∙ ap (λ tree. totals_of (note_terms tree)) c.self.view_is;
+  terms =
+      ap (λ parts. parts.terms) c.deref.ensures ∙ c.self.invariant.terms
+      ∙ ap (λ tree. totals_of (note_terms tree)) c.self.view_is;
 }

@@ -8,18 +8,37 @@ use Rattle.an_postings.proofs.manifest_postings.ManifestPostings.let_go_in.Goals
 
 pub returns-clause-leaner : goal.returns-clause-leaner
 returns-clause-leaner c =
-    let same = sought_as_text c.of.result.head c.of.result.text.now c.args.term.now c.of.ensures.head c.of.ensures.text c.utf8.term in
+    let same =
+    sought_as_text c.of.result.head c.of.result.text.now c.args.term.now c.of.ensures.head
+    c.of.ensures.text c.utf8.term in
     elim c.match-get_mut.branch [
-      | in-Some w ↦ (rw w.self-inside-is (changed-written c.args.term.now _ (set-written c.self.inside.terms.entries c.args.self.now c.self.view_is c.args.term.now (c.get_mut.follows.lender w.let_go.new.self).entries w.in-Some.postings.now w.let_go.new.self (found_by same _ _ (sym w.in-Some.ensures.value)) (set_by same _ _ _ (c.get_mut.follows.holds w.let_go.new.self).0)) w.let_go.ensures.leaner))
+      | in-Some w ↦
+          (rw w.self-inside-is (changed-written c.args.term.now _
+          (set-written c.self.inside.terms.entries c.args.self.now c.self.view_is c.args.term.now
+          (c.get_mut.follows.lender w.let_go.new.self).entries w.in-Some.postings.now
+          w.let_go.new.self (found_by same _ _ (sym w.in-Some.ensures.value))
+          (set_by same _ _ _ (c.get_mut.follows.holds w.let_go.new.self).0))
+          w.let_go.ensures.leaner))
       | in-None w ↦ (
-          let none = missing-there c.self.inside.terms.entries c.args.self.now c.self.view_is c.args.term.now (found_by same _ _ (sym w.in-None.ensures.value)) in
-          rw (w.self-inside-is, c.get_mut.follows.holds-at-none, c.self.view_is) (changed-nothing c.args.term.now _ c.args.self.now none leaner-nothing))
+          let none =
+          missing-there c.self.inside.terms.entries c.args.self.now c.self.view_is c.args.term.now
+          (found_by same _ _ (sym w.in-None.ensures.value)) in
+          rw (w.self-inside-is, c.get_mut.follows.holds-at-none, c.self.view_is)
+          (changed-nothing c.args.term.now _ c.args.self.now none leaner-nothing))
     ]
 
 pub returns-clause-none : goal.returns-clause-none
 returns-clause-none c =
-    let same = sought_as_text c.of.result.head c.of.result.text.now c.args.term.now c.of.ensures.head c.of.ensures.text c.utf8.term in
+    let same =
+    sought_as_text c.of.result.head c.of.result.text.now c.args.term.now c.of.ensures.head
+    c.of.ensures.text c.utf8.term in
     elim c.match-get_mut.branch [
-      | in-Some w ↦ (rw (w.self-inside-is, w.result-is) (λ is. written_here (set-written c.self.inside.terms.entries c.args.self.now c.self.view_is c.args.term.now (c.get_mut.follows.lender w.let_go.new.self).entries w.in-Some.postings.now w.let_go.new.self (found_by same _ _ (sym w.in-Some.ensures.value)) (set_by same _ _ _ (c.get_mut.follows.holds w.let_go.new.self).0)) ∙ w.let_go.ensures.none is))
+      | in-Some w ↦
+          (rw (w.self-inside-is, w.result-is)
+          (λ is. written_here (set-written c.self.inside.terms.entries c.args.self.now
+          c.self.view_is c.args.term.now (c.get_mut.follows.lender w.let_go.new.self).entries
+          w.in-Some.postings.now w.let_go.new.self (found_by same _ _ (sym w.in-Some.ensures.value))
+          (set_by same _ _ _ (c.get_mut.follows.holds w.let_go.new.self).0))
+          ∙ w.let_go.ensures.none is))
       | in-None w ↦ (rw w.result-is (λ is. cc))
     ]

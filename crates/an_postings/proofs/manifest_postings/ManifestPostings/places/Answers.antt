@@ -11,10 +11,28 @@ use Rattle.an_postings.proofs.manifest_postings.ManifestPostings.places.Goals as
 
 pub returns-in-Some : goal.returns-in-Some
 returns-in-Some c =
-    let same = sought_as_text c.of.result.head c.of.result.text.now c.args.term.now c.of.ensures.head c.of.ensures.text c.utf8.term in
-    record { places = IfOk-weaker c.places.result _ _ (λ p h. h ∙ ap (λ (l : List ClassPostings). ascending (flat_map (places_at l) c.args.classes.now)) (sym (found-there c.self.inside.terms.entries c.args.self.now c.self.view_is c.args.term.now c.in-Some.postings.now (found_by same _ _ (sym c.in-Some.ensures.value))))) c.places.ensures.places }
+    let same =
+    sought_as_text c.of.result.head c.of.result.text.now c.args.term.now c.of.ensures.head
+    c.of.ensures.text c.utf8.term in
+    record {
+      places =
+          IfOk-weaker c.places.result _ _
+          (λ p h. h
+          ∙ ap (λ (l : List ClassPostings). ascending (flat_map (places_at l) c.args.classes.now))
+          (sym (found-there c.self.inside.terms.entries c.args.self.now
+          c.self.view_is c.args.term.now c.in-Some.postings.now
+          (found_by same _ _ (sym c.in-Some.ensures.value))))) c.places.ensures.places;
+    }
 
 pub returns-in-None : goal.returns-in-None
 returns-in-None c =
-    let same = sought_as_text c.of.result.head c.of.result.text.now c.args.term.now c.of.ensures.head c.of.ensures.text c.utf8.term in
-    record { places = c.new.ensures.items ∙ sym (flat-none c.args.classes.now) ∙ ap (λ (l : List ClassPostings). ascending (flat_map (places_at l) c.args.classes.now)) (sym (missing-there c.self.inside.terms.entries c.args.self.now c.self.view_is c.args.term.now (found_by same _ _ (sym c.in-None.ensures.value)))) }
+    let same =
+    sought_as_text c.of.result.head c.of.result.text.now c.args.term.now c.of.ensures.head
+    c.of.ensures.text c.utf8.term in
+    record {
+      places =
+          c.new.ensures.items ∙ sym (flat-none c.args.classes.now)
+          ∙ ap (λ (l : List ClassPostings). ascending (flat_map (places_at l) c.args.classes.now))
+          (sym (missing-there c.self.inside.terms.entries c.args.self.now c.self.view_is
+          c.args.term.now (found_by same _ _ (sym c.in-None.ensures.value))));
+    }

@@ -8,10 +8,28 @@ use Rattle.an_postings.proofs.manifest_postings.ManifestPostings.remove.Goals.{i
 
 pub returns : goal.returns
 returns c =
-    let same = sought_as_text c.of.result.head c.of.result.text.now c.args.term.now c.of.ensures.head c.of.ensures.text c.utf8.term in
+    let same =
+    sought_as_text c.of.result.head c.of.result.text.now c.args.term.now c.of.ensures.head
+    c.of.ensures.text c.utf8.term in
     elim c.match-get_mut.branch [
-      | in-Some w ↦ (rw w.self-inside-is (record { removed = changed-written c.args.term.now _ (set-written c.self.inside.terms.entries c.args.self.now c.self.view_is c.args.term.now (c.get_mut.follows.lender w.remove.new.self).entries w.in-Some.postings.now w.remove.new.self (found_by same _ _ (sym w.in-Some.ensures.value)) (set_by same _ _ _ (c.get_mut.follows.holds w.remove.new.self).0)) w.remove.ensures.removed }))
+      | in-Some w ↦
+          (rw w.self-inside-is (record {
+            removed =
+                changed-written c.args.term.now _
+                (set-written c.self.inside.terms.entries c.args.self.now c.self.view_is
+                c.args.term.now (c.get_mut.follows.lender w.remove.new.self).entries
+                w.in-Some.postings.now w.remove.new.self
+                (found_by same _ _ (sym w.in-Some.ensures.value))
+                (set_by same _ _ _ (c.get_mut.follows.holds w.remove.new.self).0))
+                w.remove.ensures.removed;
+          }))
       | in-None w ↦ (
-          let none = missing-there c.self.inside.terms.entries c.args.self.now c.self.view_is c.args.term.now (found_by same _ _ (sym w.in-None.ensures.value)) in
-          rw (w.self-inside-is, c.get_mut.follows.holds-at-none, c.self.view_is) (record { removed = changed-nothing c.args.term.now _ c.args.self.now none (removed-nothing c.args.class c.args.place) }))
+          let none =
+          missing-there c.self.inside.terms.entries c.args.self.now c.self.view_is c.args.term.now
+          (found_by same _ _ (sym w.in-None.ensures.value)) in
+          rw (w.self-inside-is, c.get_mut.follows.holds-at-none, c.self.view_is) (record {
+            removed =
+                changed-nothing c.args.term.now _ c.args.self.now none
+                (removed-nothing c.args.class c.args.place);
+          }))
     ]

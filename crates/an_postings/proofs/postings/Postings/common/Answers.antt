@@ -9,5 +9,10 @@ use Rattle.an_postings.proofs.postings.Postings.common.Goals as goal
 
 pub returns : goal.returns
 returns c =
-    let same = ap (λ (lists : List ClassPostings). filter (λ place. has place (ascending (flat_map (places_at lists) c.args.classes.now))) c.args.places.now) c.lists_of.ensures.lists in
-    record { common = IfOk-weaker c.common_in.result _ _ (λ p h. h ∙ same) c.common_in.ensures.common }
+    let same =
+    ap (λ (lists : List ClassPostings). filter
+    (λ place. has place (ascending (flat_map (places_at lists) c.args.classes.now)))
+    c.args.places.now) c.lists_of.ensures.lists in
+    record {
+      common = IfOk-weaker c.common_in.result _ _ (λ p h. h ∙ same) c.common_in.ensures.common;
+    }

@@ -5,7 +5,14 @@ use Rattle.an_postings.specs.declared.class_postings.ClassPostings.{ClassPosting
 use Rattle.an_postings.proofs.postings.Postings.lists_of.Goals as goal
 
 pub returns-in-Some-clause-lists : goal.returns-in-Some-clause-lists
-returns-in-Some-clause-lists c = c.lists_of.ensures.lists ∙ ap (λ (l : List (List ℕ × List ClassPostings)). under c.args.term.now l) (sym (found-there c.self.inside.manifests.entries c.args.self.now c.self.view_is c.args.manifest.now c.in-Some.terms.now (sym c.in-Some.ensures.value)))
+returns-in-Some-clause-lists c =
+    c.lists_of.ensures.lists
+    ∙ ap (λ (l : List (List ℕ × List ClassPostings)). under c.args.term.now l)
+    (sym (found-there c.self.inside.manifests.entries c.args.self.now c.self.view_is
+    c.args.manifest.now c.in-Some.terms.now (sym c.in-Some.ensures.value)))
 
 pub returns-in-None-clause-lists : goal.returns-in-None-clause-lists
-returns-in-None-clause-lists c = ap (λ (l : List (List ℕ × List ClassPostings)). under c.args.term.now l) (sym (missing-there c.self.inside.manifests.entries c.args.self.now c.self.view_is c.args.manifest.now (sym c.in-None.ensures.value)))
+returns-in-None-clause-lists c =
+    ap (λ (l : List (List ℕ × List ClassPostings)). under c.args.term.now l)
+    (sym (missing-there c.self.inside.manifests.entries c.args.self.now c.self.view_is
+    c.args.manifest.now (sym c.in-None.ensures.value)))

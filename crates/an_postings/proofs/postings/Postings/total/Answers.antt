@@ -9,7 +9,21 @@ use Rattle.an_postings.proofs.SumsOverClasses.{total_none}
 use Rattle.an_postings.proofs.postings.Postings.total.Goals as goal
 
 pub returns-in-Some : goal.returns-in-Some
-returns-in-Some c = record { total = c.total.ensures.total ∙ ap (λ (l : List (List ℕ × List ClassPostings)). capped (sum_by (count_at (under c.args.term.now l)) c.args.classes.now)) (sym (found-there c.self.inside.manifests.entries c.args.self.now c.self.view_is c.args.manifest.now c.in-Some.terms.now (sym c.in-Some.ensures.value))) }
+returns-in-Some c = record {
+  total =
+      c.total.ensures.total
+      ∙ ap (λ (l : List (List ℕ × List ClassPostings)).
+      capped (sum_by (count_at (under c.args.term.now l)) c.args.classes.now))
+      (sym (found-there c.self.inside.manifests.entries c.args.self.now c.self.view_is
+      c.args.manifest.now c.in-Some.terms.now (sym c.in-Some.ensures.value)));
+}
 
 pub returns-in-None : goal.returns-in-None
-returns-in-None c = record { total = total_none c.args.classes.now ∙ ap (λ (l : List (List ℕ × List ClassPostings)). capped (sum_by (count_at (under c.args.term.now l)) c.args.classes.now)) (sym (missing-there c.self.inside.manifests.entries c.args.self.now c.self.view_is c.args.manifest.now (sym c.in-None.ensures.value))) }
+returns-in-None c = record {
+  total =
+      total_none c.args.classes.now
+      ∙ ap (λ (l : List (List ℕ × List ClassPostings)).
+      capped (sum_by (count_at (under c.args.term.now l)) c.args.classes.now))
+      (sym (missing-there c.self.inside.manifests.entries c.args.self.now c.self.view_is
+      c.args.manifest.now (sym c.in-None.ensures.value)));
+}

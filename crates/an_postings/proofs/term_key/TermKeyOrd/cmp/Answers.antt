@@ -7,5 +7,8 @@ use Rattle.an_postings.proofs.term_key.TermKeyOrd.cmp.Goals as goal
 
 pub returns : goal.returns
 returns c =
-    c.compare.ensures ∙ ap₂ (λ m bs. head_cmp m bs (string_bytes c.args.other.now)) c.self.invariant c.as_str.ensures.value
-    ∙ key_order c.self.inside.text c.args.other.now ∙ ap (λ k. string_cmp k c.args.other.now) c.self.view_is
+    c.compare.ensures
+    ∙ ap₂ (λ m bs. head_cmp m bs (string_bytes c.args.other.now)) c.self.invariant
+    c.as_str.ensures.value
+    ∙ key_order c.self.inside.text c.args.other.now
+    ∙ ap (λ k. string_cmp k c.args.other.now) c.self.view_is

@@ -13,11 +13,14 @@ returns-in-Ok-clause-shown c =
     let looked = c.in-Ok.ensures.1.0 in
     let x : Published = c.in-Ok.reading.part.value in
     let seen = c.self.invariant.seen ∙ ap (λ s. s.seen) c.self.view_is in
-    let list = ap (λ m. m.list) c.again-mark.ensures ∙ ap (λ (y : Published). y.mark.list) c.get.ensures in
+    let list =
+    ap (λ m. m.list) c.again-mark.ensures ∙ ap (λ (y : Published). y.mark.list) c.get.ensures in
     record {
       same_book = search rules;
       same_own = search rules;
-      later = subst (λ (l : List Event). IsPrefix c.args.self.seen l) (sym list) (subst (λ (l : List Event). IsPrefix l x.mark.list) seen looked.later);
+      later =
+          subst (λ (l : List Event). IsPrefix c.args.self.seen l) (sym list)
+          (subst (λ (l : List Event). IsPrefix l x.mark.list) seen looked.later);
       legal = search rules;
       stands = search rules;
       state = search rules;

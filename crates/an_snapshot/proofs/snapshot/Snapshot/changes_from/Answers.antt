@@ -17,6 +17,8 @@ returns c =
     ∙ ap (λ (l : List Activity). seen_by who l) c.self.invariant.changes.activities
     ∙ ap (λ (a : Absorbed). let s = a.state in seen_by who s.activities) c.self.view_is in
     record {
-      seen = subst (λ (l : List Seen). IfOk c.slice_seen.result (λ seen. seen.items ≡ take c.args.count (drop c.args.start l)))
+      seen =
+          subst (λ (l : List Seen).
+          IfOk c.slice_seen.result (λ seen. seen.items ≡ take c.args.count (drop c.args.start l)))
           whole c.slice_seen.ensures.seen;
     }

@@ -11,6 +11,16 @@ use Rattle.an_snapshot.proofs.snapshot.Snapshot.places_among.Goals as goal
 pub returns : goal.returns
 returns c =
     let inside = c.self.inside in
-    let whole = with_term-is inside.book.state inside.classes (identity c.args.who.now) (option_copied c.args.manifest) inside.listed.rows c.self.invariant.listing c.args.term.now
-    ∙ ap (λ (a : Absorbed). let s = a.state in places_with_term s (identity c.args.who.now) (option_copied c.args.manifest) c.args.term.now) c.self.view_is in
-    record { having = subst (λ (meant : List ℕ). IfOk c.among_with_term.result (λ having. having.items ≡ filter (λ place. has place meant) c.args.places.now)) whole c.among_with_term.ensures.having }
+    let whole =
+    with_term-is inside.book.state inside.classes (identity c.args.who.now)
+    (option_copied c.args.manifest) inside.listed.rows c.self.invariant.listing c.args.term.now
+    ∙ ap (λ (a : Absorbed).
+    let s = a.state in
+    places_with_term s (identity c.args.who.now) (option_copied c.args.manifest) c.args.term.now)
+    c.self.view_is in
+    record {
+      having =
+          subst (λ (meant : List ℕ). IfOk c.among_with_term.result
+          (λ having. having.items ≡ filter (λ place. has place meant) c.args.places.now)) whole
+          c.among_with_term.ensures.having;
+    }

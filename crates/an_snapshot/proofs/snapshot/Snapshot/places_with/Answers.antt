@@ -9,6 +9,15 @@ use Rattle.an_snapshot.proofs.snapshot.Snapshot.places_with.Goals as goal
 pub returns : goal.returns
 returns c =
     let inside = c.self.inside in
-    let whole = with_term-is inside.book.state inside.classes (identity c.args.who.now) (option_copied c.args.manifest) inside.listed.rows c.self.invariant.listing c.args.term.now
-    ∙ ap (λ (a : Absorbed). let s = a.state in places_with_term s (identity c.args.who.now) (option_copied c.args.manifest) c.args.term.now) c.self.view_is in
-    record { places = subst (λ (meant : List ℕ). IfOk c.with_term.result (λ places. places.items ≡ meant)) whole c.with_term.ensures.places }
+    let whole =
+    with_term-is inside.book.state inside.classes (identity c.args.who.now)
+    (option_copied c.args.manifest) inside.listed.rows c.self.invariant.listing c.args.term.now
+    ∙ ap (λ (a : Absorbed).
+    let s = a.state in
+    places_with_term s (identity c.args.who.now) (option_copied c.args.manifest) c.args.term.now)
+    c.self.view_is in
+    record {
+      places =
+          subst (λ (meant : List ℕ). IfOk c.with_term.result (λ places. places.items ≡ meant)) whole
+          c.with_term.ensures.places;
+    }

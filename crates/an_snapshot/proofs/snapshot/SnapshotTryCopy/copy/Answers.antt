@@ -14,10 +14,16 @@ invariant_of-result c =
     let inside = c.self.inside in
     let state = c.in_ok-book.ensures.state in
     record {
-      listing = listing-copied inside.book.state c.in_ok-book.book.state inside.classes c.in_ok-classes.classes c.copy_changes.new.classes inside.listed.rows c.in_ok-listed.listed.rows
-          state c.in_ok-classes.ensures.classes c.copy_changes.ensures.grows c.in_ok-listed.ensures.rows c.self.invariant.listing;
+      listing =
+          listing-copied inside.book.state c.in_ok-book.book.state inside.classes
+          c.in_ok-classes.classes c.copy_changes.new.classes inside.listed.rows
+          c.in_ok-listed.listed.rows
+          state c.in_ok-classes.ensures.classes c.copy_changes.ensures.grows
+          c.in_ok-listed.ensures.rows c.self.invariant.listing;
       changes = record {
-        activities = c.in_ok-changes.ensures.activities ∙ c.activities.ensures.rows ∙ ap (λ (s : State). s.activities) (sym state);
+        activities =
+            c.in_ok-changes.ensures.activities ∙ c.activities.ensures.rows
+            ∙ ap (λ (s : State). s.activities) (sym state);
         filed = c.in_ok-changes.ensures.filed;
       };
     }

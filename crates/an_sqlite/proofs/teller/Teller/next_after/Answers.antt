@@ -6,16 +6,22 @@ pub invariant_of-self : goal.invariant_of-self
 invariant_of-self g c =
     let self = c.args.self.now in
     let done = c.next_after in
-    record { known = knows_asked g.S.Store self.came.value self.base done.new.self done.ensures.goes_on done.result done.ensures.stays done.ensures.still self.known }
+    record {
+      known =
+          knows_asked g.S.Store self.came.value self.base done.new.self done.ensures.goes_on
+          done.result done.ensures.stays done.ensures.still self.known;
+    }
 
 pub returns-clause-gives : goal.returns-clause-gives
 returns-clause-gives g c =
     let self = c.args.self.now in
     let done = c.next_after in
-    gives_asked g.S.Store self.came.value self.base done.new.self done.ensures.goes_on (next_after c.args.tab c.args.key) done.result done.ensures.stays done.ensures.cell self.known
+    gives_asked g.S.Store self.came.value self.base done.new.self done.ensures.goes_on
+    (next_after c.args.tab c.args.key) done.result done.ensures.stays done.ensures.cell self.known
 
 pub returns-clause-told : goal.returns-clause-told
 returns-clause-told g c =
     let self = c.args.self.now in
     let done = c.next_after in
-    stays_asked g.S.Store self.came.value self.base done.new.self done.ensures.goes_on done.result done.ensures.stays done.ensures.still self.known
+    stays_asked g.S.Store self.came.value self.base done.new.self done.ensures.goes_on done.result
+    done.ensures.stays done.ensures.still self.known

@@ -10,22 +10,30 @@ returns-then-reply-clause-wrote g c =
     let v : Seated = c.args.seat.now in
     let s : Stock = c.align.new.self in
     let same = sym c.align.ensures.same in
-    let first : IsPrefix v.seen s.published = subst (λ (z : Stock). IsPrefix v.seen z.published) same c.align.ensures.later in
+    let first : IsPrefix v.seen s.published =
+    subst (λ (z : Stock). IsPrefix v.seen z.published) same c.align.ensures.later in
     let at : Stock → Seated = λ z. record v { seen = z.published } in
-    wrote-again c.args.moment c.args.caller.now c.args.command v c.align.new.seat c.align-in-Ok.new.seat s c.take.new.self c.align.ensures.stocked c.take.ensures.stocked first
-    (c.align.ensures.seat ∙ ap at same) c.align-in-Ok.ensures.seat c.in-Ok.reply c.in-Ok.ensures.took c.if-reply.true
+    wrote-again c.args.moment c.args.caller.now c.args.command v c.align.new.seat
+    c.align-in-Ok.new.seat s c.take.new.self c.align.ensures.stocked c.take.ensures.stocked first
+    (c.align.ensures.seat ∙ ap at same) c.align-in-Ok.ensures.seat c.in-Ok.reply
+    c.in-Ok.ensures.took c.if-reply.true
 
 pub earn-requires : goal.earn-requires
 earn-requires g c =
     let v : Seated = c.args.seat.now in
     let s : Stock = c.align.new.self in
     let same = sym c.align.ensures.same in
-    let first : IsPrefix v.seen s.published = subst (λ (z : Stock). IsPrefix v.seen z.published) same c.align.ensures.later in
-    let own : Stands v.own s.published = subst (λ (z : Stock). Stands v.own z.published) same c.align.ensures.own in
+    let first : IsPrefix v.seen s.published =
+    subst (λ (z : Stock). IsPrefix v.seen z.published) same c.align.ensures.later in
+    let own : Stands v.own s.published =
+    subst (λ (z : Stock). Stands v.own z.published) same c.align.ensures.own in
     let at : Stock → Seated = λ z. record v { seen = z.published } in record {
       last =
-          earns-last c.args.moment c.args.caller.now c.args.command v c.align.new.seat c.align-in-Ok.new.seat s c.take.new.self c.align.ensures.stocked c.take.ensures.stocked first
-          (c.align.ensures.seat ∙ ap at same) c.align-in-Ok.ensures.seat c.in-Ok.reply c.in-Ok.ensures.took c.if-reply.false own;
+          earns-last c.args.moment c.args.caller.now c.args.command v c.align.new.seat
+          c.align-in-Ok.new.seat s c.take.new.self c.align.ensures.stocked
+          c.take.ensures.stocked first
+          (c.align.ensures.seat ∙ ap at same) c.align-in-Ok.ensures.seat c.in-Ok.reply
+          c.in-Ok.ensures.took c.if-reply.false own;
     }
 
 pub returns-else-reply-clause-wrote : goal.returns-else-reply-clause-wrote
@@ -33,7 +41,10 @@ returns-else-reply-clause-wrote g c =
     let v : Seated = c.args.seat.now in
     let s : Stock = c.align.new.self in
     let same = sym c.align.ensures.same in
-    let first : IsPrefix v.seen s.published = subst (λ (z : Stock). IsPrefix v.seen z.published) same c.align.ensures.later in
+    let first : IsPrefix v.seen s.published =
+    subst (λ (z : Stock). IsPrefix v.seen z.published) same c.align.ensures.later in
     let at : Stock → Seated = λ z. record v { seen = z.published } in
-    wrote-earned c.args.moment c.args.caller.now c.args.command v c.align.new.seat c.align-in-Ok.new.seat s c.take.new.self c.align.ensures.stocked c.take.ensures.stocked first
-    (c.align.ensures.seat ∙ ap at same) c.align-in-Ok.ensures.seat c.in-Ok.reply c.in-Ok.ensures.took c.earn.new.seat c.if-reply.false c.earn.ensures.later c.earn.ensures.own
+    wrote-earned c.args.moment c.args.caller.now c.args.command v c.align.new.seat
+    c.align-in-Ok.new.seat s c.take.new.self c.align.ensures.stocked c.take.ensures.stocked first
+    (c.align.ensures.seat ∙ ap at same) c.align-in-Ok.ensures.seat c.in-Ok.reply
+    c.in-Ok.ensures.took c.earn.new.seat c.if-reply.false c.earn.ensures.later c.earn.ensures.own
