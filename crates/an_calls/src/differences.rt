@@ -5,7 +5,7 @@ use crate::shown::written;
 use an_base::{Name, Shared, Steps, TermTotal, TermTotals, TryCopy};
 use an_policy::{Caller, Who};
 use an_snapshot::Snapshot;
-use an_state::{Book, Look, NoteRow, ReaderRow, add_row};
+use an_state::{Book, Look, NoteRow, ReaderRow, add_terms_of};
 use std::alloc::{AllocError, Global};
 use std::fmt::Debug;
 use std::marker::Brand;
@@ -101,7 +101,7 @@ fn compare_callers(
 fn words_in(alloc: Global, notes: &[Shared<NoteRow>]) -> Result<Vec<TermTotal>, AllocError> {
     let mut words = TermTotals::new(alloc);
     for row in notes {
-        add_row(&mut words, row.get(), "")?;
+        add_terms_of(&mut words, row.get(), "")?;
     }
     words.into_vec()
 }

@@ -12,10 +12,11 @@ use Rattle.an_terms.specs.Terms.{term_of}
 use Rattle.an_code.specs.declared.parameter.Parameter.TheVariants as parameter
 use Rattle.an_query.specs.Filters.{FiltersRecord}
 use Rattle.an_complete.specs.Ask.{AskRecord, ask_of}
-use Rattle.an_complete.specs.declared.ask.QueryAskError.TheVariants as refusal
+use Rattle.an_complete.specs.declared.ask.AskError.TheVariants as refusal
 
 unfoldable asks_on_literals : Unit {0}
-unfolding ask_of raw_pairs split percent_decode is_utf8 chars encode_utf8 moment_of has_form days_of_months term_of caseless unicode_normalization
+unfolding ask_of raw_pairs split percent_decode is_utf8 chars encode_utf8 moment_of has_form
+    days_of_months term_of caseless unicode_normalization
 asks_on_literals = tt
 
 abbrev unfiltered : FiltersRecord
@@ -72,7 +73,8 @@ row-no_number_and_no_range : ask_of (codes "date=now&min=0&q=h") ≡ Err refusal
 unfolding asks_on_literals
 row-no_number_and_no_range = refl
 
-row-second_piece : ask_of (codes "date=2024-05-01T10:00:00Z/2024-05-01T10:02:00Z+now&q=h") ≡ Err (refusal.Date 1)
+row-second_piece : ask_of (codes "date=2024-05-01T10:00:00Z/2024-05-01T10:02:00Z+now&q=h")
+    ≡ Err (refusal.Date 1)
 unfolding asks_on_literals
 row-second_piece = refl
 
@@ -81,6 +83,10 @@ row-page : ask_of (codes "page=3&q=h&page=4") ≡ Ok (record h { ignored = codes
 unfolding asks_on_literals
 row-page = refl
 
-row-empty_values : ask_of (codes "q=+&motivation=&user") ≡ Ok (record h { q = codes " "; filters = record unfiltered { motivation = Some []; user = Some [] } })
+row-empty_values : ask_of (codes "q=+&motivation=&user")
+    ≡ Ok (record h {
+      q = codes " ";
+      filters = record unfiltered { motivation = Some []; user = Some [] };
+    })
 unfolding asks_on_literals
 row-empty_values = refl

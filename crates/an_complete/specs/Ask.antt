@@ -10,8 +10,8 @@ use Rattle.an_query.specs.Pairs.{pairs_of}
 use Rattle.an_query.specs.declared.pairs.Pair.{Pair}
 use Rattle.an_code.specs.declared.parameter.Parameter.{Parameter}
 use Rattle.an_code.specs.declared.parameter.Parameter.TheVariants as parameter
-use Rattle.an_complete.specs.declared.ask.QueryAskError.{QueryAskError}
-use Rattle.an_complete.specs.declared.ask.QueryAskError.TheVariants as refusal
+use Rattle.an_complete.specs.declared.ask.AskError.{AskError}
+use Rattle.an_complete.specs.declared.ask.AskError.TheVariants as refusal
 
 -- the values that were given, and the names of no parameter that is read
 pub record AskRecord : Type 0 where
@@ -35,7 +35,7 @@ abbrev pub has_prefix : Option (List ℕ) → Bool
 has_prefix q = passes (λ value. nat_lt 0 (length (term_of value))) q
 
 -- why pairs give no query where these parameters are read, in the order of the refusals
-abbrev pub ask_refusals : List Parameter → List Pair → List (Option QueryAskError)
+abbrev pub ask_refusals : List Parameter → List Pair → List (Option AskError)
 ask_refusals reads pairs =
     option_map refusal.Twice (twice_of reads pairs)
     ∷ when (not (has_prefix (value_of parameter.Q pairs))) refusal.NoPrefix
@@ -52,7 +52,7 @@ ask_in reads pairs = record {
 }
 
 -- the query that a text is, or the first refusal
-unfoldable pub ask_of : List ℕ → Result AskRecord QueryAskError
+unfoldable pub ask_of : List ℕ → Result AskRecord AskError
 ask_of text =
     or_refuse refusal.Bytes (pairs_of text) (λ pairs.
     unless (first_of (ask_refusals ask_parameters pairs)) (ask_in ask_parameters pairs))

@@ -56,7 +56,7 @@ impl Model for Ask {
 
 /// Why a text is no query of a completion.
 #[derive(Clone, Copy, Debug, PartialEq, Eq)]
-pub enum QueryAskError {
+pub enum AskError {
     /// There is no `q`, or its folded text is empty.
     NoPrefix,
     /// `min` isn't decimal from 1 to 999,999,999 without leading zeros.
@@ -106,29 +106,29 @@ impl Ask {
 /// The query of a completion that a text is (IIIF Content Search API 2.0; URL Standard, section
 /// 5.1), or the first of the refusals in this order: `Bytes`, `Twice`, `NoPrefix`, `Min`, `Date`.
 #[tactic(auto, unfolding(crate::specs::Ask::ask_of))]
-pub fn read_ask(alloc: Global, text: &str) -> Result<Ask, QueryAskError>
-    ensures ask { Gives (λ ask. ask) QueryAskError.Memory result (ask_of text.now) }
+pub fn read_ask(alloc: Global, text: &str) -> Result<Ask, AskError>
+    ensures ask { Gives (λ ask. ask) AskError.Memory result (ask_of text.now) }
 {
     match query_pairs(alloc, text) {
         Ok(Some(pairs)) => ask_in(alloc, &ASK_PARAMETERS, pairs.as_slice()),
-        Ok(None) => Err(QueryAskError::Bytes),
-        Err(_) => Err(QueryAskError::Memory),
+        Ok(None) => Err(AskError::Bytes),
+        Err(_) => Err(AskError::Memory),
     }
 }
 
 /// The query that pairs give where these parameters are read, or the first of the refusals but for
 /// `Bytes`.
-pub fn ask_in(alloc: Global, reads: &[Parameter], pairs: &[Pair]) -> Result<Ask, QueryAskError>
-    ensures ask { Gives (λ ask. ask) QueryAskError.Memory result
+pub fn ask_in(alloc: Global, reads: &[Parameter], pairs: &[Pair]) -> Result<Ask, AskError>
+    ensures ask { Gives (λ ask. ask) AskError.Memory result
         (unless (first_of (ask_refusals reads.now pairs.now)) (ask_in reads.now pairs.now)) }
 {
     match refusal_in(alloc, reads, pairs) {
         Ok(Some(refusal)) => Err(refusal),
         Ok(None) => match filled(alloc, reads, pairs) {
             Ok(ask) => Ok(ask),
-            Err(_) => Err(QueryAskError::Memory),
+            Err(_) => Err(AskError::Memory),
         },
-        Err(_) => Err(QueryAskError::Memory),
+        Err(_) => Err(AskError::Memory),
     }
 }
 
@@ -137,15 +137,15 @@ fn refusal_in(
     alloc: Global,
     reads: &[Parameter],
     pairs: &[Pair],
-) -> Result<Option<QueryAskError>, AllocError>
+) -> Result<Option<AskError>, AllocError>
     ensures { IfOk result (λ refusal. refusal ≡ first_of (ask_refusals reads.now pairs.now)) }
 {
     match twice_in(reads, pairs) {
-        Some(name) => Ok(Some(QueryAskError::Twice { name })),
+        Some(name) => Ok(Some(AskError::Twice { name })),
         None => if has_prefix(alloc, value_in(Parameter::Q, pairs))? {
             Ok(bad_limits(pairs))
         } else {
-            Ok(Some(QueryAskError::NoPrefix))
+            Ok(Some(AskError::NoPrefix))
         },
     }
 }
@@ -164,16 +164,16 @@ fn has_prefix(alloc: Global, q: Option<&Text>) -> Result<bool, AllocError>
 }
 
 /// What is wrong with the number or the date.
-fn bad_limits(pairs: &[Pair]) -> Option<QueryAskError>
+fn bad_limits(pairs: &[Pair]) -> Option<AskError>
     ensures { result ≡ first_of
-        (when (is_bad_number (value_of parameter.Min pairs.now)) QueryAskError.Min
-        ∷ option_map QueryAskError.Date (bad_date (value_of parameter.Date pairs.now)) ∷ []) }
+        (when (is_bad_number (value_of parameter.Min pairs.now)) AskError.Min
+        ∷ option_map AskError.Date (bad_date (value_of parameter.Date pairs.now)) ∷ []) }
 {
     if is_bad_number(value_in(Parameter::Min, pairs)) {
-        return Some(QueryAskError::Min);
+        return Some(AskError::Min);
     }
     match bad_date(value_in(Parameter::Date, pairs)) {
-        Some(at) => Some(QueryAskError::Date { at }),
+        Some(at) => Some(AskError::Date { at }),
         None => None,
     }
 }

@@ -15,7 +15,7 @@ ghost use Rattle.an_complete.specs.Cost.{filter_cost, filter_cost_on, sought_cos
 use an_base::{Name, Steps, TermTotal, TermTotals};
 use an_policy::Who;
 use an_search::{Last, Scope, Wanted, known_first, matches_after, wants_nothing};
-use an_state::{Look, NoteRow, add_row, manifests_are_distinct};
+use an_state::{Look, NoteRow, add_terms_of, manifests_are_distinct};
 use std::alloc::{AllocError, Global};
 use std::sync::ledger::Ledger;
 
@@ -195,7 +195,7 @@ fn try_row<'a>(
     ensures known { OnOk result (AreKnown filters.now last.new) }
 {
     if matches_after(row, filters, last) {
-        add_row(totals, row, prefix)
+        add_terms_of(totals, row, prefix)
     } else {
         Ok(())
     }

@@ -14,7 +14,7 @@ use Rattle.an_query.specs.Query.{QueryRecord, query_in, query_refusals, search_p
 use Rattle.an_query.specs.declared.pairs.Pair.{Pair}
 use Rattle.an_query.specs.declared.query.QueryError.TheVariants as no_query
 use Rattle.an_complete.specs.Ask.{AskRecord, ask_in, ask_parameters, ask_refusals}
-use Rattle.an_complete.specs.declared.ask.QueryAskError.TheVariants as no_ask
+use Rattle.an_complete.specs.declared.ask.AskError.TheVariants as no_ask
 use Rattle.an_gather.specs.declared.ask.GatherAskError.{GatherAskError}
 use Rattle.an_gather.specs.declared.ask.GatherAskError.TheVariants as ask_refusal
 use Rattle.an_gather.specs.declared.gather.GatherError.{GatherError}

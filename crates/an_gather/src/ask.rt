@@ -9,7 +9,7 @@ ghost use Rattle.an_gather.specs.Gather.{gather_ask_refusals, named_ask};
 use crate::names::bad_names;
 use an_base::Text;
 use an_code::Parameter;
-use an_complete::{Ask, QueryAskError, ask_in};
+use an_complete::{Ask, AskError, ask_in};
 use an_query::{Pair, copied_value, query_pairs, twice_in, value_in};
 use std::alloc::Global;
 use std::marker::Model;
@@ -49,7 +49,7 @@ pub enum GatherAskError {
     /// This piece of the manifests, from 0, is no name.
     Manifests { at: usize },
     /// It is no query of a completion.
-    Ask(QueryAskError),
+    Ask(AskError),
 }
 
 impl GatherAsk {
@@ -74,22 +74,22 @@ impl GatherAsk {
 /// `Manifests`, `NoPrefix`, `Min`, `Date`.
 #[tactic(auto, unfolding(crate::specs::Gather::gather_ask_of))]
 pub fn read_gather_ask(alloc: Global, text: &str) -> Result<GatherAsk, GatherAskError>
-    ensures ask { Gives (λ ask. ask) (GatherAskError.Ask QueryAskError.Memory) result
+    ensures ask { Gives (λ ask. ask) (GatherAskError.Ask AskError.Memory) result
         (gather_ask_of text.now) }
 {
     match query_pairs(alloc, text) {
         Ok(Some(pairs)) => gather_ask_in(alloc, pairs.as_slice()),
-        Ok(None) => Err(GatherAskError::Ask(QueryAskError::Bytes)),
-        Err(_) => Err(GatherAskError::Ask(QueryAskError::Memory)),
+        Ok(None) => Err(GatherAskError::Ask(AskError::Bytes)),
+        Err(_) => Err(GatherAskError::Ask(AskError::Memory)),
     }
 }
 
 fn gather_ask_in(alloc: Global, pairs: &[Pair]) -> Result<GatherAsk, GatherAskError>
-    ensures { Gives (λ ask. ask) (GatherAskError.Ask QueryAskError.Memory) result
+    ensures { Gives (λ ask. ask) (GatherAskError.Ask AskError.Memory) result
         (unless (first_of (gather_ask_refusals pairs.now)) (gather_ask_in pairs.now)) }
 {
     match twice_in(&GATHER_ASK_PARAMETERS, pairs) {
-        Some(name) => Err(GatherAskError::Ask(QueryAskError::Twice { name })),
+        Some(name) => Err(GatherAskError::Ask(AskError::Twice { name })),
         None => match bad_names(value_in(Parameter::Manifests, pairs)) {
             Some(at) => Err(GatherAskError::Manifests { at }),
             None => named_ask(alloc, pairs),
@@ -100,13 +100,13 @@ fn gather_ask_in(alloc: Global, pairs: &[Pair]) -> Result<GatherAsk, GatherAskEr
 /// The same, where no parameter comes twice and the names are good.
 fn named_ask(alloc: Global, pairs: &[Pair]) -> Result<GatherAsk, GatherAskError>
     requires names { bad_names (value_of parameter.Manifests pairs.now) ≡ None }
-    ensures { Gives (λ ask. ask) (GatherAskError.Ask QueryAskError.Memory) result
+    ensures { Gives (λ ask. ask) (GatherAskError.Ask AskError.Memory) result
         (named_ask pairs.now) }
 {
     match ask_in(alloc, &GATHER_ASK_PARAMETERS, pairs) {
         Ok(ask) => match copied_value(Parameter::Manifests, pairs) {
             Ok(manifests) => Ok(GatherAsk { manifests, ask }),
-            Err(_) => Err(GatherAskError::Ask(QueryAskError::Memory)),
+            Err(_) => Err(GatherAskError::Ask(AskError::Memory)),
         },
         Err(error) => Err(GatherAskError::Ask(error)),
     }

@@ -21,7 +21,7 @@ use crate::put_reader::put_reader;
 use crate::refusal::permit;
 use an_base::{Moment, TryCopy};
 use an_policy::{Caller, Who};
-use an_state::{Book, Command, Entry, Look, ManifestRow, Object, done, object_of};
+use an_state::{Book, Command, Entry, Look, ManifestRow, Object, entry_of_write, object_of};
 use std::alloc::{AllocError, Global};
 
 /// Decides a write, whose number is from 1 to 999,999,999 and whose group is a group: the first
@@ -164,5 +164,5 @@ fn entry_of(
         command.now at (by_whom (identity who.now)) effect.rows effect.activities) }
 {
     let by = by_whom(who)?;
-    done(command, at, by, effect.rows, effect.activities)
+    entry_of_write(command, at, by, effect.rows, effect.activities)
 }

@@ -42,7 +42,7 @@ pub(crate) fn permit<'a>(
             manifest,
             group,
             ..
-        } => place(book, who, manifest, group),
+        } => manifest_for_put(book, who, manifest, group),
         Command::DropNote { .. } => Ok(None),
         Command::PutReader { .. } | Command::DropReader { .. } => Ok(None),
         Command::PutManifest { .. } | Command::DropManifest { .. } => Ok(None),
@@ -50,7 +50,7 @@ pub(crate) fn permit<'a>(
 }
 
 /// The row of the manifest that an annotation is put on, in a group.
-fn place<'a>(
+fn manifest_for_put<'a>(
     book: &'a Book,
     who: &Who<'_>,
     manifest: &Name,

@@ -6,8 +6,8 @@ use Rattle.an_base.specs.Outcome.{or_refuse}
 use Rattle.an_code.specs.declared.code.Code.{Code}
 use Rattle.an_code.specs.declared.code.Code.TheVariants as code
 use Rattle.an_complete.specs.Ask.{AskRecord, ask_of}
-use Rattle.an_complete.specs.declared.ask.QueryAskError.{QueryAskError}
-use Rattle.an_complete.specs.declared.ask.QueryAskError.TheVariants as no_ask
+use Rattle.an_complete.specs.declared.ask.AskError.{AskError}
+use Rattle.an_complete.specs.declared.ask.AskError.TheVariants as no_ask
 use Rattle.an_gather.specs.Gather.{GatherAskRecord, GatherRecord, gather_ask_of, gather_of}
 use Rattle.an_gather.specs.declared.ask.GatherAskError.{GatherAskError}
 use Rattle.an_gather.specs.declared.ask.GatherAskError.TheVariants as no_gather_ask
@@ -104,7 +104,7 @@ query_refused no_query.Memory = unrouted.Memory
 abbrev pub searched : List ℕ → Result QueryRecord QueryError → Result Read Unrouted
 searched manifest = result_map_both (read.Search manifest) query_refused
 
-abbrev pub ask_refused : QueryAskError → Unrouted
+abbrev pub ask_refused : AskError → Unrouted
 ask_refused no_ask.NoPrefix = unrouted.Query code.Prefix
 ask_refused no_ask.Min = unrouted.Query code.Min
 ask_refused (no_ask.Twice name) = unrouted.Query (code.Twice name)
@@ -112,7 +112,7 @@ ask_refused (no_ask.Date at) = unrouted.Query (code.Date at)
 ask_refused no_ask.Bytes = unrouted.Query code.Bytes
 ask_refused no_ask.Memory = unrouted.Memory
 
-abbrev pub completed : List ℕ → Result AskRecord QueryAskError → Result Read Unrouted
+abbrev pub completed : List ℕ → Result AskRecord AskError → Result Read Unrouted
 completed manifest = result_map_both (read.Complete manifest) ask_refused
 
 abbrev pub gather_refused : GatherError → Unrouted

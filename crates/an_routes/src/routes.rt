@@ -26,7 +26,7 @@ use crate::query::{
 use crate::target::target_parts;
 use an_base::Name;
 use an_code::Code;
-use an_complete::{QueryAskError, read_ask};
+use an_complete::{AskError, read_ask};
 use an_gather::{GatherAskError, GatherError, read_gather, read_gather_ask};
 use an_http::Method;
 use an_query::{Pair, QueryError, SEARCH_PARAMETERS, read_query};
@@ -295,16 +295,16 @@ fn completed(alloc: Global, manifest: Name, query: &str) -> Result<Read, Unroute
     }
 }
 
-fn ask_refused(error: QueryAskError) -> Unrouted
+fn ask_refused(error: AskError) -> Unrouted
     ensures { result ≡ ask_refused error }
 {
     match error {
-        QueryAskError::NoPrefix => Unrouted::Query(Code::Prefix),
-        QueryAskError::Min => Unrouted::Query(Code::Min),
-        QueryAskError::Twice { name } => Unrouted::Query(Code::Twice { name }),
-        QueryAskError::Date { at } => Unrouted::Query(Code::Date { at }),
-        QueryAskError::Bytes => Unrouted::Query(Code::Bytes),
-        QueryAskError::Memory => Unrouted::Memory,
+        AskError::NoPrefix => Unrouted::Query(Code::Prefix),
+        AskError::Min => Unrouted::Query(Code::Min),
+        AskError::Twice { name } => Unrouted::Query(Code::Twice { name }),
+        AskError::Date { at } => Unrouted::Query(Code::Date { at }),
+        AskError::Bytes => Unrouted::Query(Code::Bytes),
+        AskError::Memory => Unrouted::Memory,
     }
 }
 

@@ -7,7 +7,7 @@ use crate::seat_context::SeatContext;
 use an_http::{Allow, Reply};
 use an_keep::Keeper;
 use an_policy::Caller;
-use an_serve::{Response, told_reply};
+use an_serve::{Response, reply_to_write};
 use an_state::Command;
 use an_store::{Naming, Seat};
 use an_world::Clock;
@@ -38,5 +38,5 @@ pub(crate) fn write<R: Wait, K: Keeper, J: Naming, C: Clock>(
     let written = place
         .store()
         .write(place.rt(), alloc, seat, moment, &caller, command);
-    told_reply(alloc, place.settings(), allow, written)
+    reply_to_write(alloc, place.settings(), allow, written)
 }

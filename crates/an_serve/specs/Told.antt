@@ -10,8 +10,8 @@ use Rattle.an_shelf.specs.declared.error.WriteError.{WriteError}
 use Rattle.an_shelf.specs.declared.error.WriteError.TheVariants as error
 
 -- the reply to a write; want of memory is told otherwise
-abbrev pub told_reply : Site → Allow → Result WriteReply WriteError → Reply
-told_reply site methods (Ok reply) = write_answer site methods (Ok reply)
-told_reply site methods (Err (error.Refused refused)) = write_answer site methods (Err refused)
-told_reply site methods (Err error.Keeper) = refusal_reply methods code.Keeper
-told_reply site methods (Err error.Memory) = refusal_reply methods code.Keeper
+abbrev pub reply_to_write : Site → Allow → Result WriteReply WriteError → Reply
+reply_to_write site methods (Ok reply) = write_answer site methods (Ok reply)
+reply_to_write site methods (Err (error.Refused refused)) = write_answer site methods (Err refused)
+reply_to_write site methods (Err error.Keeper) = refusal_reply methods code.Keeper
+reply_to_write site methods (Err error.Memory) = refusal_reply methods code.Keeper

@@ -9,7 +9,7 @@ ghost use Rattle.an_serve.specs.Setting.{DeskComes, DeskKeeps, DeskRests};
 ghost use Rattle.an_state.specs.Commands.{is_sendable};
 
 use crate::responding::{Response, respond};
-use crate::told::told_reply;
+use crate::told::reply_to_write;
 use an_base::Moment;
 use an_http::{Allow, Reply, Request};
 use an_keep::Keeper;
@@ -147,5 +147,5 @@ fn write<K: Keeper, C: Clock>(
 {
     let moment = context.moment();
     let written = desk.write(alloc, moment, &caller, command);
-    told_reply(alloc, context.settings(), allow, written)
+    reply_to_write(alloc, context.settings(), allow, written)
 }

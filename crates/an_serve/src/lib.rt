@@ -9,7 +9,7 @@
 
 pub use at_desk::session_at_desk;
 pub use responding::{Response, respond};
-pub use told::told_reply;
+pub use told::reply_to_write;
 
 mod at_desk;
 mod responding;

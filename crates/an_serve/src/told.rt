@@ -1,5 +1,5 @@
 ghost use Rattle.std.specs.Prelude.{◌≡◌, Err, IfOk};
-ghost use Rattle.an_serve.specs.Told.{told_reply};
+ghost use Rattle.an_serve.specs.Told.{reply_to_write};
 
 use an_answers::{refusal_reply, write_answer};
 use an_code::Code;
@@ -11,13 +11,13 @@ use std::alloc::{AllocError, Global};
 
 /// The reply to a write, at a path with these methods. Its only error is want of memory, also where
 /// that kept the write from being done, or from being shown.
-pub fn told_reply(
+pub fn reply_to_write(
     alloc: Global,
     settings: &Site,
     allow: Allow,
     written: Result<WriteReply, WriteError>,
 ) -> Result<Reply, AllocError>
-    ensures reply { IfOk result (λ reply. reply ≡ told_reply settings.now allow written) }
+    ensures reply { IfOk result (λ reply. reply ≡ reply_to_write settings.now allow written) }
     ensures memory { IfOk result (λ _. ¬ (written ≡ Err WriteError.Memory)) }
 {
     match written {

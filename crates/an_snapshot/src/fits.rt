@@ -9,7 +9,7 @@ use an_state::{Book, ManifestRow, NoteRow};
 use std::alloc::{AllocError, Global};
 
 /// Whether live annotations still stand on live manifests with what is left of an entry's rows.
-pub(crate) fn stand(
+pub(crate) fn notes_keep_live_manifests(
     alloc: Global,
     book: &Book,
     listed: &Listed,

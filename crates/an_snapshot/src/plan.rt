@@ -9,7 +9,7 @@ ghost use Rattle.an_snapshot.specs.Steps.{row_of_step};
 ghost use Rattle.an_snapshot.specs.declared.planned_row.PlannedRow.TheVariants.{Note};
 
 use crate::deciding::deciding_class;
-use crate::fits::stand;
+use crate::fits::notes_keep_live_manifests;
 use crate::last_rows::{LastRows, left_of};
 use crate::planned_row::PlannedRow;
 use an_base::{Shared, TryCopy};
@@ -53,7 +53,7 @@ fn left_by(
     ensures left { IfOk result (λ left. LeavesFitting book.now.state rows.now left) }
 {
     match left_of(alloc, book, rows)? {
-        Some(left) => if stand(alloc, book, listed, &left)? {
+        Some(left) => if notes_keep_live_manifests(alloc, book, listed, &left)? {
             Ok(Some(left))
         } else {
             Ok(None)

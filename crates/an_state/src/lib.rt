@@ -10,7 +10,7 @@
 pub use activity::{Activity, Seen};
 pub use book::Book;
 pub use command::{Command, Object, object_of, typed_writes};
-pub use entry::{Entry, Row, done};
+pub use entry::{Entry, Row, entry_of_write};
 pub use former::former_views_stay;
 pub use look::Look;
 pub use names::as_known;
@@ -20,7 +20,7 @@ pub use shown::{
     is_manifest_shown, is_note_shown, manifests_are_distinct, shown_manifest, shown_manifests,
     shown_note,
 };
-pub use totals::add_row;
+pub use totals::add_terms_of;
 pub use untold::groups_are_untold;
 
 mod activity;

@@ -8,7 +8,7 @@ ghost use Rattle.an_state.specs.View.{sought_places};
 use crate::book::Book;
 use crate::row::NoteRow;
 use crate::shown::{is_manifest_shown, is_read_below};
-use crate::totals::add_row;
+use crate::totals::add_terms_of;
 use an_base::{Name, TermTotal, TermTotals};
 use an_policy::Who;
 use std::alloc::{AllocError, Global};
@@ -81,7 +81,7 @@ fn sought_totals(
     let mut totals = TermTotals::new(alloc);
     for row in book.notes() {
         if is_sought(book, who, manifest, row.get()) {
-            add_row(&mut totals, row.get(), prefix)?;
+            add_terms_of(&mut totals, row.get(), prefix)?;
         }
     }
     Ok(totals)

@@ -5,7 +5,7 @@ use Rattle.std.specs.Option.{option_map_or}
 use Rattle.an_base.specs.declared.span.TermTotal.{TermTotal}
 use Rattle.an_complete.specs.Ask.{AskRecord, ask_of}
 use Rattle.an_complete.specs.Complete.{asked_terms}
-use Rattle.an_complete.specs.declared.ask.QueryAskError.{QueryAskError}
+use Rattle.an_complete.specs.declared.ask.AskError.{AskError}
 use Rattle.an_state.specs.Entries.{state_after}
 use Rattle.an_state.specs.State.{State, empty}
 use Rattle.an_machine.specs.Step.{step}
@@ -53,7 +53,7 @@ total_in term terms =
     option_map_or (λ listed. listed.total) (find (λ listed. bytes_eq listed.term term) terms) 0
 
 -- the total of a term in a completion
-abbrev pub listed_if : View → List ℕ → Result AskRecord QueryAskError → ℕ
+abbrev pub listed_if : View → List ℕ → Result AskRecord AskError → ℕ
 listed_if view term (Ok ask) = total_in term (asked_terms view (codes "m1") ask)
 listed_if view term (Err refusal) = 0
 

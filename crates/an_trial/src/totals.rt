@@ -8,7 +8,7 @@ ghost use Rattle.an_trial.specs.Trial.{found_total, listed_total, total_in};
 
 use crate::names::name;
 use an_base::{Steps, TermTotal};
-use an_complete::{QueryAskError, asked_terms, read_ask};
+use an_complete::{AskError, asked_terms, read_ask};
 use an_policy::{Caller, Who};
 use an_query::{QueryError, SEARCH_PARAMETERS, read_query};
 use an_snapshot::Snapshot;
@@ -56,7 +56,7 @@ pub(crate) fn listed_total<L: Ledger>(
             let terms = asked_terms(alloc, look, who, &manifest, &ask, steps)?;
             total_of_word(alloc, word, terms.as_slice())
         }
-        Err(QueryAskError::Memory) => Err(AllocError),
+        Err(AskError::Memory) => Err(AllocError),
         Err(_) => Ok(0),
     }
 }
