@@ -1,5 +1,5 @@
--- For private clauses: texts are in the order of the numbers that their first bytes are, which an impl
--- cites.
+-- For private clauses: texts are in the order of the numbers that their first bytes are, which an
+-- impl cites.
 use Rattle.std.proofs.Common.{◌≡◌, ℕ, zero, suc, ◌+◌, ◌*◌, ◌^◌, ◌<◌, ◌≤◌, ◌/◌, ◌%◌, Bool, true, false, cond, ◌&&◌, ltb, List, [], ◌∷◌, ◌++◌, String, string_bytes, refl, sym, ap, ◌∙◌, subst, arith, ⊎_elim}
 use Rattle.std.proofs.lemmas.Bool.{and_parts, ltb-true}
 use Rattle.std.proofs.Math.Nat.{mul-le-mul_right}
@@ -37,11 +37,18 @@ unfolding encode
 small_encode c s = step (ltb c 128) (ltb c 2048) (ltb c 65536) refl refl refl
   where
     step : (p q r : Bool) → ltb c 128 ≡ p → ltb c 2048 ≡ q → ltb c 65536 ≡ r
-        → AreBytes (cond p (c ∷ []) (cond q ((192 + c / 64) ∷ next c ∷ []) (cond r ((224 + c / 4096) ∷ next (c / 64) ∷ next c ∷ []) ((240 + c / 262144) ∷ next (c / 4096) ∷ next (c / 64) ∷ next c ∷ []))))
+        → AreBytes (cond p (c ∷ [])
+        (cond q ((192 + c / 64) ∷ next c ∷ [])
+        (cond r ((224 + c / 4096) ∷ next (c / 64) ∷ next c ∷ [])
+        ((240 + c / 262144) ∷ next (c / 4096) ∷ next (c / 64) ∷ next c ∷ []))))
     step true q r e f g = (omega (arith, ltb-true c 128 e), tt)
     step false true r e f g = (omega (arith, ltb-true c 2048 f), (small_next c, tt))
-    step false false true e f g = (omega (arith, ltb-true c 65536 g), (small_next (c / 64), (small_next c, tt)))
-    step false false false e f g = (omega (arith, scalar_small c s), (small_next (c / 4096), (small_next (c / 64), (small_next c, tt))))
+    step false false true e f g =
+        (omega (arith, ltb-true c 65536 g), (small_next (c / 64), (small_next c, tt)))
+    step false false false e f g = (
+      omega (arith, scalar_small c s),
+      (small_next (c / 4096), (small_next (c / 64), (small_next c, tt))),
+    )
 
 AreBytes-encodes : (cs : List ℕ) → scalars cs ≡ true → AreBytes (encodes cs)
 AreBytes-encodes [] s = tt
@@ -66,30 +73,46 @@ small_head (suc n) (b ∷ bs) h =
     let most : b * 256 ^ n ≤ 255 * 256 ^ n = mul-le-mul_right (256 ^ n) (omega (arith, h.0)) in
     omega (arith, rest, most)
 
-order : (n : ℕ) (xs bs : List ℕ) → AreBytes xs → AreBytes bs → head_from n xs < head_from n bs → slice_cmp nat_cmp xs bs ≡ Less
+order : (n : ℕ) (xs bs : List ℕ) → AreBytes xs → AreBytes bs → head_from n xs < head_from n bs
+    → slice_cmp nat_cmp xs bs ≡ Less
 order zero xs bs h k less = absurd (omega (arith, less))
 order (suc n) [] [] h k less = absurd (omega (arith, less))
 order (suc n) [] (b ∷ bs) h k less = refl
 order (suc n) (a ∷ xs) [] h k less = absurd (omega (arith, less))
 order (suc n) (a ∷ xs) (b ∷ bs) h k less =
-    step (nat_cmp a b) (ranks a b) (λ e. order n xs bs h.1 k.1 (let same : a * 256 ^ n ≡ b * 256 ^ n = ap (λ d. d * 256 ^ n) e in omega (arith, less, same)))
+    step (nat_cmp a b) (ranks a b) (λ e. order n xs bs h.1 k.1
+    (let same : a * 256 ^ n ≡ b * 256 ^ n = ap (λ d. d * 256 ^ n) e in
+    omega (arith, less, same)))
   where
-    step : (r : Ordering) → MatchOrdering r (a < b) (a ≡ b) (b < a) → (a ≡ b → slice_cmp nat_cmp xs bs ≡ Less) → ordering_then r (slice_cmp nat_cmp xs bs) ≡ Less
+    step : (r : Ordering) → MatchOrdering r (a < b) (a ≡ b) (b < a)
+        → (a ≡ b → slice_cmp nat_cmp xs bs ≡ Less)
+        → ordering_then r (slice_cmp nat_cmp xs bs) ≡ Less
     step Less m rest = refl
     step Equal m rest = rest m
     step Greater m rest =
         let small = small_head n bs k.1 in
-        let most : (b + 1) * 256 ^ n ≤ a * 256 ^ n = mul-le-mul_right (256 ^ n) (omega (arith, m)) in
+        let above : b + 1 ≤ a = omega (arith, m) in
+        let most : (b + 1) * 256 ^ n ≤ a * 256 ^ n = mul-le-mul_right (256 ^ n) above in
         absurd (omega (arith, less, small, most))
 
 -- where a text's own number is compared first, the order is that of the texts
-pub head_order : (a b : List ℕ) → IsUtf8 a → IsUtf8 b → head_cmp (head_of a) a b ≡ slice_cmp nat_cmp a b
+pub head_order : (a b : List ℕ) → IsUtf8 a → IsUtf8 b
+    → head_cmp (head_of a) a b ≡ slice_cmp nat_cmp a b
 head_order a b u v = step (nat_cmp (head_of a) (head_of b)) (ranks (head_of a) (head_of b))
   where
-    step : (r : Ordering) → MatchOrdering r (head_of a < head_of b) (head_of a ≡ head_of b) (head_of b < head_of a) → ordering_then r (slice_cmp nat_cmp a b) ≡ slice_cmp nat_cmp a b
-    step Less m = sym (order 8 a b (AreBytes-IsUtf8 a u) (AreBytes-IsUtf8 b v) m)
+    of_a : AreBytes a
+    of_a = AreBytes-IsUtf8 a u
+
+    of_b : AreBytes b
+    of_b = AreBytes-IsUtf8 b v
+
+    step : (r : Ordering)
+        → MatchOrdering r (head_of a < head_of b) (head_of a ≡ head_of b) (head_of b < head_of a)
+        → ordering_then r (slice_cmp nat_cmp a b) ≡ slice_cmp nat_cmp a b
+    step Less m = sym (order 8 a b of_a of_b m)
     step Equal m = refl
-    step Greater m = sym (nat_list_cmp_total.antisymm a b ∙ ap ordering_reverse (order 8 b a (AreBytes-IsUtf8 b v) (AreBytes-IsUtf8 a u) m))
+    step Greater m =
+        sym (nat_list_cmp_total.antisymm a b ∙ ap ordering_reverse (order 8 b a of_b of_a m))
 
 -- ---- the laws of a number and a text that are compared with keys
 
@@ -97,15 +120,27 @@ abbrev pair_cmp : (ℕ × List ℕ) → (ℕ × List ℕ) → Ordering
 pair_cmp = then_cmp (λ p q. nat_cmp p.0 q.0) (λ p q. slice_cmp nat_cmp p.1 q.1)
 
 pair_total : IsTotalOrder pair_cmp
-pair_total = then_total (on_total (λ (p : ℕ × List ℕ). p.0) nat_cmp_total) (on_total (λ (p : ℕ × List ℕ). p.1) nat_list_cmp_total)
+pair_total =
+    then_total (on_total (λ (p : ℕ × List ℕ). p.0) nat_cmp_total)
+    (on_total (λ (p : ℕ × List ℕ). p.1) nat_list_cmp_total)
 
-pub key_order : {Z : Type 0} (x y : String Z) → head_cmp (head_of (string_bytes x)) (string_bytes x) (string_bytes y) ≡ string_cmp x y
-key_order x y = head_order (string_bytes x) (string_bytes y) (IsUtf8-string_bytes x) (IsUtf8-string_bytes y)
+-- a key as the number of its first bytes and its text
+abbrev key_of : {Z : Type 0} → String Z → ℕ × List ℕ
+key_of x = (head_of (string_bytes x), string_bytes x)
 
-pub respects : {Z : Type 0} (head : ℕ) (text : List ℕ) (x y : String Z) → head_cmp head text (string_bytes x) ≡ Equal → head_cmp head text (string_bytes y) ≡ string_cmp x y
+pub key_order : {Z : Type 0} (x y : String Z)
+    → head_cmp (head_of (string_bytes x)) (string_bytes x) (string_bytes y) ≡ string_cmp x y
+key_order x y =
+    head_order (string_bytes x) (string_bytes y) (IsUtf8-string_bytes x) (IsUtf8-string_bytes y)
+
+pub respects : {Z : Type 0} (head : ℕ) (text : List ℕ) (x y : String Z)
+    → head_cmp head text (string_bytes x) ≡ Equal
+    → head_cmp head text (string_bytes y) ≡ string_cmp x y
 respects head text x y same =
-    pair_total.congr (head, text) (head_of (string_bytes x), string_bytes x) (head_of (string_bytes y), string_bytes y) same ∙ key_order x y
+    pair_total.congr (head, text) (key_of x) (key_of y) same ∙ key_order x y
 
-pub below : {Z : Type 0} (head : ℕ) (text : List ℕ) (x y : String Z) → IsTrue (is_le (head_cmp head text (string_bytes x))) → string_cmp x y ≡ Less → head_cmp head text (string_bytes y) ≡ Less
+pub below : {Z : Type 0} (head : ℕ) (text : List ℕ) (x y : String Z)
+    → IsTrue (is_le (head_cmp head text (string_bytes x))) → string_cmp x y ≡ Less
+    → head_cmp head text (string_bytes y) ≡ Less
 below head text x y le less =
-    le_lt_trans pair_total (head, text) (head_of (string_bytes x), string_bytes x) (head_of (string_bytes y), string_bytes y) le (key_order x y ∙ less)
+    le_lt_trans pair_total (head, text) (key_of x) (key_of y) le (key_order x y ∙ less)

@@ -7,6 +7,7 @@ pub mod Gather
 pub mod Totals
 pub mod Told
 pub mod Walk
+pub mod Marks
 pub mod Clones
 pub mod Heads
 pub mod HeadOrder

@@ -22,6 +22,7 @@ mod kept;
 mod laws;
 mod leaner;
 mod manifest_postings;
+mod marks;
 mod merge;
 mod noted;
 mod places;

@@ -48,7 +48,7 @@ fn merge(alloc: Global, a: &[u32], b: &[u32]) -> Result<Vec<u32>, AllocError>
     Ok(places)
 }
 
-fn one_if(test: bool) -> usize
+pub(crate) fn one_if(test: bool) -> usize
     ensures { result ≡ (if test then 1 else 0) }
 {
     if test { 1 } else { 0 }

@@ -1,11 +1,16 @@
-ghost use Rattle.std.specs.Prelude.{◌≡◌, ◌+◌, ◌++◌, ◌<◌, ◌≤◌, ◌∷◌, [], IfOk, filter};
-ghost use Rattle.std.specs.Prelude.{if◌then◌else◌, vec_capacity, vec_len};
+ghost use Rattle.std.specs.Prelude.{◌≡◌, ◌<◌, IfOk, filter};
+ghost use Rattle.std.specs.List.{All};
 ghost use Rattle.an_slots.specs.Places.{Rises, has};
 ghost use Rattle.an_postings.specs.Walk.{is_first, not_below};
 
+use crate::marks::{common_by_marks, push_if};
 use std::alloc::{AllocError, Global};
 
-/// Those of the places that are among others. Both ascend, and are walked along once.
+/// A table is made where it has at most so many places for each that is looked at.
+const DENSE: usize = 8;
+
+/// Those of the places that are among others. Both ascend. They are looked up in a table where they
+/// are dense, and else walked along.
 pub(crate) fn common(
     alloc: Global,
     places: &[usize],
@@ -16,26 +21,39 @@ pub(crate) fn common(
     ensures common { IfOk result (λ common. common.items
         ≡ filter (λ place. has place others.now) places.now) }
 {
+    let end = end_of(others);
+    if end / DENSE > places.len() + others.len() {
+        return walked(alloc, places, others);
+    }
+    common_by_marks(alloc, places, others, end)
+}
+
+/// One more than the last of the places, which ascend.
+fn end_of(places: &[u32]) -> usize
+    requires rises { Rises 0 places.now }
+    ensures below { All (λ place. place < result) places.now }
+{
+    let count = places.len();
+    if count == 0 {
+        return 0;
+    }
+    places[count - 1] as usize + 1
+}
+
+/// The same by one walk along both.
+fn walked(alloc: Global, places: &[usize], others: &[u32]) -> Result<Vec<usize>, AllocError>
+    requires places { Rises 0 places.now }
+    requires others { Rises 0 others.now }
+    ensures common { IfOk result (λ common. common.items
+        ≡ filter (λ place. has place others.now) places.now) }
+{
     let mut common = Vec::with_capacity(alloc, places.len())?;
     let mut rest = others;
     for place in places {
         rest = not_below(rest, *place);
-        push_first(&mut common, rest, *place);
+        push_if(&mut common, *place, is_first(rest, *place));
     }
     Ok(common)
-}
-
-/// Adds the place, where it is the first of these.
-fn push_first(common: &mut Vec<usize>, rest: &[u32], place: usize)
-    requires room { vec_len common.old < vec_capacity common.old }
-    ensures items { common.new.items ≡ (if is_first place rest.now
-        then common.old.items ++ place ∷ [] else common.old.items) }
-    ensures len { vec_len common.new ≤ vec_len common.old + 1 }
-    ensures capacity { vec_capacity common.new ≡ vec_capacity common.old }
-{
-    if is_first(rest, place) {
-        common.push_reserved(place);
-    }
 }
 
 /// The places from the first on that isn't below this one.
