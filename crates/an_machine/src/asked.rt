@@ -14,7 +14,7 @@ ghost use Rattle.an_state.specs.Commands.{object_of};
 use crate::command::Refused;
 use an_base::{Name, Tree, TryCopy, copy_both};
 use an_manifest::{KeptSheet, SheetError, read_manifest};
-use an_model::{KeptNote, NoteError, read_note};
+use an_model::{KeptNote, NoteError};
 use an_policy::{Group, Inner, Reader, ReaderError, read_reader};
 use an_state::{Command, Object, object_of};
 use std::alloc::{AllocError, Global};
@@ -149,8 +149,7 @@ fn note_to_put(
         (note_of tree.now)) }
     ensures manifest { IfOk result (λ a. manifest_asked a ≡ Some manifest.now) }
 {
-    let note = read_note(alloc, tree.as_value())?;
-    let note = KeptNote::keep(alloc, &note)?;
+    let note = KeptNote::read(alloc, tree.as_value())?;
     let put = note_put(owner, name, version, manifest, group, note)?;
     Ok(Asked::Note(put))
 }

@@ -4,3 +4,4 @@ pub mod CutTextLemmas
 pub mod KeptNoteLemmas
 pub mod TargetLemmas
 pub mod WalkLemmas
+mod BetweenLemmas

@@ -136,3 +136,7 @@ note_occurrences tree = occurrences_from 0 (texts_of tree)
 -- the terms of an annotation, each as often as it occurs
 unfoldable pub note_terms : Data → List (List ℕ)
 note_terms tree = map (λ o. o.term) (note_occurrences tree)
+
+-- the terms of the words of a text, each as often as it occurs
+abbrev pub terms_in : List ℕ → List (List ℕ)
+terms_in text = map (λ o. o.term) (occurrences_of text)

@@ -36,7 +36,7 @@ pub(crate) struct CutText {
 
 /// The first members, each behind a comma, with the first cuts.
 #[derive(Drop)]
-struct Front {
+struct FirstMembers {
     text: Vec<u8>,
     context: u32,
     created: u32,
@@ -61,7 +61,7 @@ pub(crate) fn cut_text(alloc: Global, tree: &Value) -> Result<CutText, AllocErro
     }
 }
 
-fn write_front(alloc: Global, members: &Map<String, Value>) -> Result<Front, AllocError>
+fn write_front(alloc: Global, members: &Map<String, Value>) -> Result<FirstMembers, AllocError>
     requires whole { members_have_float (members_view members.now.entries) ≡ false }
     requires order { ascend (names (members_view members.now.entries)) ≡ true }
     ensures text { IfOk result (λ f. f.text.items
@@ -79,7 +79,7 @@ fn write_front(alloc: Global, members: &Map<String, Value>) -> Result<Front, All
     let created = to_u32(text.len())?;
     let text = push_members(alloc, text, members, "created", "creator")?;
     let creator = to_u32(text.len())?;
-    Ok(Front {
+    Ok(FirstMembers {
         text,
         context,
         created,
@@ -89,7 +89,7 @@ fn write_front(alloc: Global, members: &Map<String, Value>) -> Result<Front, All
 
 fn write_rest(
     alloc: Global,
-    front: Front,
+    front: FirstMembers,
     members: &Map<String, Value>,
 ) -> Result<CutText, AllocError>
     requires whole { members_have_float (members_view members.now.entries) ≡ false }
@@ -103,7 +103,7 @@ fn write_rest(
         ≡ compact_text (object (members_view members.now.entries))) }
     ensures cuts { IfOk result (λ t. HasCuts t.cuts (members_view members.now.entries)) }
 {
-    let Front {
+    let FirstMembers {
         text,
         context,
         created,

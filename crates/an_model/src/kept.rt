@@ -1,22 +1,28 @@
-ghost use Rattle.std.specs.Prelude.{◌≡◌, map, IfOk, IsTrue, None, true};
+ghost use Rattle.std.specs.Prelude.{◌≡◌, map, IfOk, IsTrue, None, OnOk, true};
+ghost use Rattle.std.specs.List.{flat_map};
 ghost use Rattle.serde_json.specs.View.{view};
 ghost use Rattle.serde_json.specs.Written.{compact_text};
-ghost use Rattle.an_base.specs.Cut.{members_in};
+ghost use Rattle.an_base.specs.Cut.{is_object, members_in};
+ghost use Rattle.an_base.specs.Outcome.{Gives};
 ghost use Rattle.an_base.specs.TextSet.{ascending, has_text};
-ghost use Rattle.an_base.specs.Totals.{totals_of};
+ghost use Rattle.an_base.specs.Totals.{Adds, totals_of};
 ghost use Rattle.an_base.specs.Tree.{is_tree};
-ghost use Rattle.an_model.specs.Bodies.{iris_of, note_terms, texts_of};
-ghost use Rattle.an_model.specs.Note.{is_bare, motivations_of, note_refusal};
+ghost use Rattle.an_model.specs.Bodies.{iris_of, note_terms, terms_in, texts_of};
+ghost use Rattle.an_model.specs.Note.{is_bare, kept, motivations_of, note_of, note_refusal};
 ghost use Rattle.an_model.specs.Cuts.{HasCuts};
 ghost use Rattle.an_model.specs.Targets.{kept_target, targets_of};
 
-use crate::body::read_texts;
+use crate::body::{read_iris, read_texts};
 use crate::cuts::{CutText, NoteCuts, cut_text};
-use crate::note::{Note, note_over};
-use crate::occurrence::NoteOccurrence;
+use crate::motivation::read_motivations;
+use crate::note::{Note, is_bare, keep, note_over};
+use crate::refusal::{NoteError, note_refusal};
 use crate::target::{Target, read_targets};
-use an_base::{KeptTree, List, TermList, TermTotals, Text, TextSet, Tree, TryCopy};
+use an_base::{
+    KeptTree, List, TermList, TermTotals, Text, TextSet, Tree, TryCopy, close_members, read_tree,
+};
 use an_selectors::Xywh;
+use an_terms::occurrences;
 use serde_json::Value;
 use std::alloc::{AllocError, Global};
 use std::marker::Model;
@@ -68,9 +74,35 @@ impl KeptNote {
     pub fn keep(alloc: Global, note: &Note) -> Result<KeptNote, AllocError>
         ensures value { IfOk result (λ k. k ≡ note.now) }
     {
-        let written = cut_text(alloc, note.tree())?;
+        KeptNote::of_tree(alloc, note.tree())
+    }
+
+    /// Keeps the annotation that a tree is, or the first of the refusals in their order, as
+    /// `read_note` has them: without the whole of it, which only showing it needs.
+    #[tactic(auto, unfolding(crate::specs::Note::note_of))]
+    pub fn read(alloc: Global, tree: &Value) -> Result<KeptNote, NoteError>
+        requires tree { IsTrue (is_tree (view tree.now)) }
+        ensures note { Gives (λ k. k) NoteError.Memory result (note_of (view tree.now)) }
+    {
+        match note_refusal(tree) {
+            Some(refusal) => Err(refusal),
+            None => match keep_tree(alloc, tree) {
+                Ok(kept) => Ok(kept),
+                Err(_) => Err(NoteError::Memory),
+            },
+        }
+    }
+
+    /// Keeps a tree that is an annotation and has none of the members that the server writes.
+    fn of_tree(alloc: Global, tree: &Value) -> Result<KeptNote, AllocError>
+        requires tree { IsTrue (is_tree (view tree.now)) }
+        requires note { note_refusal (view tree.now) ≡ None }
+        requires bare { is_bare (view tree.now) ≡ true }
+        ensures value { IfOk result (λ k. k ≡ view tree.now) }
+    {
+        let written = cut_text(alloc, tree)?;
         let CutText { text, cuts } = written;
-        let parts = note_parts(alloc, note, cuts)?;
+        let parts = note_parts(alloc, tree, cuts)?;
         let tree = KeptTree::from_text(text)?;
         let parts = Arc::new(alloc, parts)?;
         Ok(KeptNote { tree, parts })
@@ -89,8 +121,8 @@ impl KeptNote {
     pub fn texts(&self, alloc: Global) -> Result<List<Text>, AllocError>
         ensures texts { IfOk result (λ texts. texts ≡ texts_of self.now) }
     {
-        let tree = self.tree.to_value(alloc)?;
-        read_texts(alloc, &tree)
+        let bodies = read_bodies(alloc, &self.tree, self.parts.cuts)?;
+        read_texts(alloc, &bodies)
     }
 
     /// Its targets, in their order, read back with their selectors.
@@ -186,17 +218,50 @@ impl TryCopy for KeptNote {
     }
 }
 
-fn note_parts(alloc: Global, note: &Note, cuts: NoteCuts) -> Result<NoteParts, AllocError>
-    ensures cuts { IfOk result (λ p. p.cuts ≡ cuts) }
-    ensures terms { IfOk result (λ p. p.terms ≡ totals_of (note_terms note.now)) }
-    ensures motivations { IfOk result (λ p. p.motivations ≡ ascending (motivations_of note.now)) }
-    ensures iris { IfOk result (λ p. p.iris ≡ ascending (iris_of note.now)) }
-    ensures targets { IfOk result (λ p. p.targets ≡ map kept_target (targets_of note.now)) }
+/// The members that stand between `@context` and `created`, the bodies among them, as an object.
+/// The others, the targets among them, aren't read.
+fn read_bodies(alloc: Global, tree: &KeptTree, cuts: NoteCuts) -> Result<Value, AllocError>
+    requires cuts { HasCuts cuts (members_in tree.now) }
+    requires tree { IsTrue (is_tree tree.now) }
+    requires object { is_object tree.now ≡ true }
+    ensures texts { IfOk result (λ v. texts_of (view v) ≡ texts_of tree.now) }
 {
-    let terms = counted_terms(alloc, note.occurrences())?;
-    let motivations = TextSet::of(alloc, note.motivations())?;
-    let iris = TextSet::of(alloc, note.iris())?;
-    let targets = kept_targets(alloc, note.targets())?;
+    let from = cuts.context as usize;
+    let to = cuts.created as usize;
+    let text = Vec::with_capacity(alloc, to.saturating_sub(from).saturating_add(2))?;
+    let text = tree.push_between(text, from, to)?;
+    let text = close_members(text, 0)?;
+    match read_tree(alloc, text.as_slice()) {
+        Ok(members) => Ok(members),
+        Err(_) => Err(AllocError),
+    }
+}
+
+/// What is kept of a tree that is an annotation. A tree that a row keeps is kept as it is.
+fn keep_tree(alloc: Global, tree: &Value) -> Result<KeptNote, AllocError>
+    requires tree { IsTrue (is_tree (view tree.now)) }
+    requires note { note_refusal (view tree.now) ≡ None }
+    ensures { IfOk result (λ k. k ≡ kept (view tree.now)) }
+{
+    if is_bare(tree) {
+        KeptNote::of_tree(alloc, tree)
+    } else {
+        KeptNote::of_tree(alloc, &keep(tree.clone()?))
+    }
+}
+
+fn note_parts(alloc: Global, tree: &Value, cuts: NoteCuts) -> Result<NoteParts, AllocError>
+    ensures cuts { IfOk result (λ p. p.cuts ≡ cuts) }
+    ensures terms { IfOk result (λ p. p.terms ≡ totals_of (note_terms (view tree.now))) }
+    ensures motivations { IfOk result
+        (λ p. p.motivations ≡ ascending (motivations_of (view tree.now))) }
+    ensures iris { IfOk result (λ p. p.iris ≡ ascending (iris_of (view tree.now))) }
+    ensures targets { IfOk result (λ p. p.targets ≡ map kept_target (targets_of (view tree.now))) }
+{
+    let terms = terms_in(alloc, tree)?;
+    let motivations = motivations_in(alloc, tree)?;
+    let iris = iris_in(alloc, tree)?;
+    let targets = kept_targets(alloc, tree)?;
     Ok(NoteParts {
         cuts,
         terms,
@@ -206,31 +271,62 @@ fn note_parts(alloc: Global, note: &Note, cuts: NoteCuts) -> Result<NoteParts, A
     })
 }
 
-fn counted_terms(alloc: Global, occurrences: &[NoteOccurrence]) -> Result<TermList, AllocError>
-    ensures { IfOk result (λ terms. terms ≡ totals_of (map (λ o. o.term) occurrences.now)) }
+fn motivations_in(alloc: Global, tree: &Value) -> Result<TextSet, AllocError>
+    ensures { IfOk result (λ set. set ≡ ascending (motivations_of (view tree.now))) }
+{
+    let motivations = read_motivations(alloc, tree)?;
+    TextSet::of(alloc, motivations.as_slice())
+}
+
+fn iris_in(alloc: Global, tree: &Value) -> Result<TextSet, AllocError>
+    ensures { IfOk result (λ set. set ≡ ascending (iris_of (view tree.now))) }
+{
+    let iris = read_iris(alloc, tree)?;
+    TextSet::of(alloc, iris.as_slice())
+}
+
+fn terms_in(alloc: Global, tree: &Value) -> Result<TermList, AllocError>
+    ensures { IfOk result (λ terms. terms ≡ totals_of (note_terms (view tree.now))) }
+{
+    let texts = read_texts(alloc, tree)?;
+    counted_terms(alloc, texts.as_slice())
+}
+
+fn counted_terms(alloc: Global, texts: &[Text]) -> Result<TermList, AllocError>
+    ensures { IfOk result (λ terms. terms ≡ totals_of (flat_map terms_in texts.now)) }
 {
     let mut totals = TermTotals::new(alloc);
-    for occurrence in occurrences {
-        totals.add(occurrence.term.as_str())?;
+    for text in texts {
+        count_terms(alloc, &mut totals, text.as_str())?;
     }
     totals.into_list()
 }
 
-fn kept_targets(alloc: Global, targets: &[Target]) -> Result<List<KeptTarget>, AllocError>
-    ensures { IfOk result (λ kept. kept ≡ map kept_target targets.now) }
+/// Counts the terms of a text's words.
+fn count_terms(alloc: Global, totals: &mut TermTotals, text: &str) -> Result<(), AllocError>
+    ensures { OnOk result (Adds totals.old totals.new (terms_in text.now)) }
 {
-    let mut kept = Vec::with_capacity(alloc, targets.len())?;
-    for target in targets {
-        kept.push(kept_target(target)?)?;
+    let words = occurrences(alloc, text)?;
+    for word in words.as_slice() {
+        totals.add(word.term.as_str())?;
+    }
+    Ok(())
+}
+
+fn kept_targets(alloc: Global, tree: &Value) -> Result<List<KeptTarget>, AllocError>
+    ensures { IfOk result (λ kept. kept ≡ map kept_target (targets_of (view tree.now))) }
+{
+    let targets = read_targets(alloc, tree)?;
+    let mut kept = Vec::with_capacity(alloc, targets.as_slice().len())?;
+    for target in targets.into_vec() {
+        kept.push(kept_target(target))?;
     }
     Ok(List::from_vec(kept))
 }
 
-fn kept_target(target: &Target) -> Result<KeptTarget, AllocError>
-    ensures { IfOk result (λ kept. kept ≡ kept_target target.now) }
+fn kept_target(target: Target) -> KeptTarget
+    ensures { result ≡ kept_target target }
 {
-    Ok(KeptTarget {
-        source: target.source.copy()?,
-        region: target.region,
-    })
+    let Target { source, region, .. } = target;
+    KeptTarget { source, region }
 }

@@ -133,7 +133,7 @@ fn keep_note(alloc: Global, tree: &Value) -> Result<Note, AllocError>
 
 /// A tree without the members that the server writes itself.
 #[tactic(auto, unfolding(crate::specs::Note::kept))]
-fn keep(tree: Value) -> Value
+pub(crate) fn keep(tree: Value) -> Value
     requires { IsTrue (is_tree (view tree)) }
     ensures value { view result ≡ kept (view tree) }
     ensures tree { IsTrue (is_tree (view result)) }
@@ -143,6 +143,18 @@ fn keep(tree: Value) -> Value
     let tree = without_member(tree, "creator");
     let tree = without_member(tree, "created");
     without_member(tree, "modified")
+}
+
+/// Whether a tree has none of the members that the server writes itself.
+#[tactic(auto, unfolding(crate::specs::Note::is_bare))]
+pub(crate) fn is_bare(tree: &Value) -> bool
+    ensures bare { result ≡ is_bare (view tree.now) }
+{
+    tree.get("@context").is_none()
+        && tree.get("created").is_none()
+        && tree.get("creator").is_none()
+        && tree.get("id").is_none()
+        && tree.get("modified").is_none()
 }
 
 /// An annotation over the tree that is kept of it.

@@ -24,7 +24,7 @@ use crate::members::{push_flag, push_modified, push_moment, push_tree, push_vers
 use crate::refusal::RowError;
 use an_base::{Moment, Name, Shared, Text, push_text_member};
 use an_keyed::Keyed;
-use an_model::{KeptNote, NoteError, read_note};
+use an_model::{KeptNote, NoteError};
 use an_policy::Inner;
 use an_state::{LiveNote, NoteRow};
 use serde_json::Value;
@@ -303,11 +303,8 @@ pub(crate) fn note_of(alloc: Global, tree: &Value) -> Result<KeptNote, RowError>
     ensures note { Gives (λ n. n) RowError.Memory result
         (ok_or (result_ok (note_of (view tree.now))) RowError.Bytes) }
 {
-    match read_note(alloc, tree) {
-        Ok(note) => match KeptNote::keep(alloc, &note) {
-            Ok(kept) => Ok(kept),
-            Err(_) => Err(RowError::Memory),
-        },
+    match KeptNote::read(alloc, tree) {
+        Ok(kept) => Ok(kept),
         Err(NoteError::Memory) => Err(RowError::Memory),
         Err(_) => Err(RowError::Bytes),
     }
