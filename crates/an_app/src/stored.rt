@@ -162,7 +162,7 @@ fn session_into<L: Link, K: Keeper, C: Clock>(
     ensures bounded { ReadsRequests (L.traffic link.old) (L.traffic link.new) }
 {
     let mut desk = desk;
-    let _opened = desk.book();
+    desk.stands();
     let ended = session_at_desk(alloc, link, &mut desk, settings, clock);
     let keeper = desk.into_keeper();
     (ended, keeper)

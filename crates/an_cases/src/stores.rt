@@ -170,7 +170,7 @@ fn call_of_desk(
     if let Some(requests) = argument.strip_prefix("session ") {
         return serve(alloc, desk, requests);
     }
-    look_at(alloc, desk.book(), argument)
+    look_at(alloc, desk.look().book(), argument)
 }
 
 /// The status of an import, and what it prints.

@@ -55,7 +55,7 @@ pub fn harvest<L: Link, K: Keeper>(
         (L.traffic link.old) (L.traffic link.new) result }
     ensures bounded { ReadsLittle (L.traffic link.old) (L.traffic link.new) }
 {
-    let _book = desk.book();
+    desk.stands();
     match harvested(alloc, desk.look(), settings, by) {
         Ok(report) => tell_report(link, report.status, report.text.as_slice()),
         Err(_) => Status::Memory,

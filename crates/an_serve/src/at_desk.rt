@@ -48,9 +48,9 @@ pub fn session_at_desk<L: Link, K: Keeper, C: Clock>(
     ensures told { IsSome desk.new.told → IsSome desk.old.told }
     ensures cells { IfSome desk.new.told (λ found. found ≡ cells desk.new.state) }
 {
-    let _before = desk.book();
+    desk.stands();
     let ended = serve_link(alloc, link, desk, &Context { settings, clock });
-    let _behind = desk.book();
+    desk.stands();
     ended
 }
 

@@ -1,8 +1,8 @@
--- For private clauses: the look of a desk beside its book.
+-- For private clauses: the look of a desk.
 use Rattle.std.specs.Prelude.{◌≡◌, ◌⊎◌, ℕ, IfSome, IsTrue, Option, Some, None}
 use Rattle.an_keep.specs.Keeper.{Stays, Told}
 use Rattle.an_snapshot.specs.Fits.{fits}
-use Rattle.an_state.specs.Entries.{after, state_after}
+use Rattle.an_state.specs.Entries.{state_after}
 use Rattle.an_state.specs.State.{State}
 use Rattle.an_state.specs.declared.entry.Entry.{Entry}
 use Rattle.an_shelf.specs.Store.{Store}
@@ -29,9 +29,9 @@ abbrev pub CanShow : Option Entry → State → Type 0
 CanShow waiting s = IfSome waiting (λ entry. IsTrue (fits s entry))
 
 -- a desk of these parts
-abbrev pub desk_of : State → Shown → Told → ℕ → Store
-desk_of s front told faults = record {
-  state = s;
+abbrev pub desk_of : Shown → Told → ℕ → Store
+desk_of front told faults = record {
+  state = behind front;
   shown = front.state;
   waiting = front.waiting;
   told = told;
@@ -40,7 +40,7 @@ desk_of s front told faults = record {
 
 -- Where memory ran out and all of this state was shown, nothing was done; or all was but to show
 -- the entry, which waits.
-abbrev pub Stops : Option Entry → State → State → Shown → Told → Told → Type 0
-Stops entry s t front old new =
-    ((t ≡ s) × (front ≡ all_shown s) × Stays old new)
-    ⊎ ((its : Entry) × (entry ≡ Some its) × (t ≡ after s its) × (front ≡ lacking s its))
+abbrev pub Stops : Option Entry → State → Shown → Told → Told → Type 0
+Stops entry s front old new =
+    ((front.state ≡ s) × (front.waiting ≡ None) × Stays old new)
+    ⊎ ((its : Entry) × (entry ≡ Some its) × (front ≡ lacking s its))

@@ -14,14 +14,14 @@ ghost use Rattle.an_shelf.specs.Writing.{IsRefused, Leaves, RunsOut, Writes};
 
 use crate::error::{OpenError, WriteError};
 use crate::lagging_look::LaggingLook;
-use crate::opening::{Loaded, load};
+use crate::opening::load;
 use crate::writing::write;
 use an_base::Moment;
 use an_keep::Keeper;
 use an_machine::{Refused, WriteReply};
 use an_policy::Caller;
 use an_snapshot::Snapshot;
-use an_state::{Book, Command};
+use an_state::Command;
 use std::alloc::{AllocError, Global};
 use std::marker::Model;
 
@@ -32,7 +32,6 @@ use std::marker::Model;
 #[derive(Drop)]
 pub struct Desk<K: Keeper> {
     keeper: K,
-    book: Book,
     front: LaggingLook,
 }
 
@@ -47,10 +46,9 @@ impl<K: Keeper> Model for Desk<K> {
 
     ghost coded = { Prim.hlevel (codes, tree_code) };
 
-    ghost view = { λ d. desk_of d.book.state d.front (K.told d.keeper) (K.faults d.keeper) };
+    ghost view = { λ d. desk_of d.front (K.told d.keeper) (K.faults d.keeper) };
 
-    ghost invariant = { λ d. Stands (K.told d.keeper) d.book.state
-        × (d.book.state ≡ behind d.front) };
+    ghost invariant = { λ d. Stands (K.told d.keeper) (behind d.front) };
 }
 
 /// Why a keeper wasn't opened, and the keeper, no cell of which was changed.
@@ -95,22 +93,17 @@ impl<K: Keeper> Desk<K> {
         ensures nothing_waits { IfOk result (λ desk. desk.waiting ≡ None) }
     {
         match load(alloc, &mut keeper) {
-            Ok(loaded) => {
-                let Loaded { book, snapshot } = loaded;
+            Ok(snapshot) => {
                 let front = LaggingLook::new(snapshot);
-                Ok(Desk {
-                    keeper,
-                    book,
-                    front,
-                })
+                Ok(Desk { keeper, front })
             }
             Err(why) => Err(NotOpened { why, keeper }),
         }
     }
 
     /// Does a write, whose number is from 1 to 999,999,999 and whose group is a group: it is
-    /// decided, kept, applied, and then shown. Memory may run out behind the commit too: then the
-    /// write is done, and its entry waits to be shown.
+    /// decided, kept, and then shown. Memory may run out after the commit too: then the write is
+    /// done, and its entry waits to be shown.
     pub fn write(
         &mut self,
         alloc: Global,
@@ -147,7 +140,6 @@ impl<K: Keeper> Desk<K> {
         write(
             alloc,
             &mut self.keeper,
-            &mut self.book,
             &mut self.front,
             moment,
             caller,
@@ -173,16 +165,13 @@ impl<K: Keeper> Desk<K> {
         self.front.look()
     }
 
-    /// What the state is, also where an entry waits. It takes no memory.
-    pub fn book(&self) -> &Book
-        ensures state { result.now.state ≡ self.now.state }
-
-        // What holds of each desk.
+    /// What holds of each desk, also where an entry waits. It takes no memory.
+    pub fn stands(&self)
         ensures cells { IfSome self.now.told (λ found. found ≡ cells self.now.state) }
         ensures valid { IsTrue (is_valid self.now.state) }
         ensures sound { IsTrue (is_sound self.now.state) }
     {
-        &self.book
+        let _ = &self.front;
     }
 
     /// Gives the keeper back, whose cells are those of the state, and stand for it. It takes no
@@ -193,12 +182,7 @@ impl<K: Keeper> Desk<K> {
         ensures cells { IfSome self.told (λ found. found ≡ cells self.state) }
         ensures stand { StandFor self.told self.state }
     {
-        let Desk {
-            keeper,
-            book,
-            front,
-        } = self;
-        drop(book);
+        let Desk { keeper, front } = self;
         drop(front);
         keeper
     }

@@ -1,23 +1,22 @@
 //! How a write is decided and kept, for whatever shows its state.
 ghost use Rattle.std.specs.Prelude.{◌≡◌, ◌≤◌, Err, IfErr, IfOk, IfSome, IsTrue, Ok, OnErr, OnOk};
 ghost use Rattle.an_base.specs.Faults.{Rises};
-ghost use Rattle.an_keep.specs.Cells.{put_changes};
 ghost use Rattle.an_keep.specs.Keeper.{Stays, Turns};
 ghost use Rattle.an_machine.specs.Step.{step};
 ghost use Rattle.an_rows.specs.Cells.{cells};
-ghost use Rattle.an_rows.specs.Changes.{changes_of, is_settled};
+ghost use Rattle.an_rows.specs.Changes.{is_settled};
 ghost use Rattle.an_shelf.specs.Writing.{IsRefused, refusal_error};
 ghost use Rattle.an_state.specs.Commands.{is_sendable};
-ghost use Rattle.an_state.specs.Entries.{after, needs};
+ghost use Rattle.an_state.specs.Entries.{after};
 
 use crate::error::WriteError;
-use an_base::{Moment, TryCopy};
+use an_base::Moment;
 use an_keep::{KeepError, Keeper};
 use an_machine::{Decided, Refused};
 use an_policy::Caller;
 use an_rows::cells_of;
 use an_state::{Book, Command, Entry};
-use std::alloc::{AllocError, Global};
+use std::alloc::Global;
 
 /// Decides a write, which changes nothing. With an error the machine refused it, or memory ran out,
 /// which is no refusal of the machine.
@@ -52,54 +51,17 @@ fn refusal_error(refused: Refused) -> WriteError
     }
 }
 
-/// Keeps what an entry changes, and then applies it. Gives a copy of it, which is to be shown. With
-/// an error the state and the cells are as they were.
-pub fn put<K: Keeper>(
-    alloc: Global,
-    keeper: &mut K,
-    book: &mut Book,
-    entry: Entry,
-) -> Result<Entry, KeepError>
-    requires settled { IsTrue (is_settled book.old.state entry) }
-    requires cells { IfSome (K.told keeper.old) (λ found. found ≡ cells book.old.state) }
-    ensures copy { IfOk result (λ copy. copy ≡ entry) }
-    ensures told { Turns (λ found. cells book.new.state) (K.told keeper.old) (K.told keeper.new) }
-    ensures applied { OnOk result (book.new.state ≡ after book.old.state entry) }
-    ensures stays { OnErr result (Stays (K.told keeper.old) (K.told keeper.new)) }
-    ensures still { OnErr result (book.new.state ≡ book.old.state) }
-    ensures counted { result ≡ Err KeepError.Failed
-        → Rises (K.faults keeper.old) (K.faults keeper.new) }
-    ensures faults_kept { K.faults keeper.old ≤ K.faults keeper.new }
-{
-    let copy = room(book, &entry)?;
-    match keep(alloc, keeper, book, &entry) {
-        Ok(()) => {
-            book.apply(entry);
-            Ok(copy)
-        }
-        Err(error) => Err(error),
-    }
-}
-
-/// Takes the memory to apply an entry, of which it gives a copy.
-fn room(book: &mut Book, entry: &Entry) -> Result<Entry, AllocError>
-    ensures copy { IfOk result (λ copy. copy ≡ entry.now) }
-    ensures room { OnOk result (needs entry.now ≤ book.new.room) }
-    ensures still { book.new.state ≡ book.old.state }
-{
-    book.room(entry)?;
-    entry.copy()
-}
-
-/// Keeps what an entry changes.
-fn keep<K: Keeper>(
+/// Keeps what an entry changes, after which the cells are those of the state with it. With an error
+/// they are as they were.
+pub fn keep<K: Keeper>(
     alloc: Global,
     keeper: &mut K,
     book: &Book,
     entry: &Entry,
 ) -> Result<(), KeepError>
     requires settled { IsTrue (is_settled book.now.state entry.now) }
-    ensures kept { OnOk result (Turns (put_changes (changes_of book.now.state entry.now))
+    requires cells { IfSome (K.told keeper.old) (λ found. found ≡ cells book.now.state) }
+    ensures told { OnOk result (Turns (λ found. cells (after book.now.state entry.now))
         (K.told keeper.old) (K.told keeper.new)) }
     ensures stays { OnErr result (Stays (K.told keeper.old) (K.told keeper.new)) }
     ensures counted { result ≡ Err KeepError.Failed

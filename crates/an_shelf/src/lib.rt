@@ -11,8 +11,8 @@
 pub use closing::reopen;
 pub use desk::{Desk, NotOpened};
 pub use error::{OpenError, WriteError};
-pub use keeping::{decide, put};
-pub use opening::{Loaded, load};
+pub use keeping::{decide, keep};
+pub use opening::load;
 
 mod closing;
 mod desk;

@@ -22,37 +22,25 @@ use std::alloc::Global;
 /// The keys of a table end below this, so that no store has as many rows.
 const MOST_ROWS: u64 = 4_611_686_018_427_387_904;
 
-/// The book of a keeper's cells, and a look at its state.
-#[derive(Drop)]
-pub struct Loaded {
-    pub book: Book,
-    pub snapshot: Snapshot,
+/// A look at the state of no cell. It takes no memory.
+fn empty_look(alloc: Global) -> Snapshot
+    ensures empty { result.state ≡ empty }
+{
+    Snapshot::new(alloc)
 }
 
-impl Loaded {
-    /// Those of no cell. It takes no memory.
-    fn new(alloc: Global) -> Loaded
-        ensures empty { result.book.state ≡ empty }
-        ensures shown { result.snapshot.state ≡ result.book.state }
-    {
-        let book = Book::new(alloc);
-        let snapshot = Snapshot::new(alloc);
-        Loaded { book, snapshot }
-    }
-}
-
-/// The state that a keeper's cells stand for, or which of them is damaged, the first in their
-/// order. Cells of the first format are turned into today's, by one commit that is made once all
-/// are read: it holds the new texts of all annotations and activities at once. Cells of today's
+/// A look at the state that a keeper's cells stand for, or which of them is damaged, the first in
+/// their order. Cells of the first format are turned into today's, by one commit that is made once
+/// all are read: it holds the new texts of all annotations and activities at once. Cells of today's
 /// format stay, and so do all where the answer is an error.
-pub fn load<K: Keeper>(alloc: Global, keeper: &mut K) -> Result<Loaded, OpenError>
-    ensures state { IfOk result (λ its. StandFor (K.told keeper.new) its.book.state) }
+pub fn load<K: Keeper>(alloc: Global, keeper: &mut K) -> Result<Snapshot, OpenError>
+    ensures state { IfOk result (λ its. StandFor (K.told keeper.new) its.state) }
     ensures opened { IfOk result
-        (λ its. WasOpened (K.told keeper.old) (K.told keeper.new) its.book.state) }
+        (λ its. WasOpened (K.told keeper.old) (K.told keeper.new) its.state) }
     ensures renewed { IfOk result
-        (λ its. RenewsOrBegins its.book.state (K.told keeper.old) (K.told keeper.new)) }
+        (λ its. RenewsOrBegins its.state (K.told keeper.old) (K.told keeper.new)) }
     ensures never { IfOk result (λ its. K.may_begin ≡ false
-        → Turns (renewed its.book.state) (K.told keeper.old) (K.told keeper.new)) }
+        → Turns (renewed its.state) (K.told keeper.old) (K.told keeper.new)) }
 
     // Where it is refused.
     ensures damaged { IfErr result (IsDamagedBy (K.told keeper.new)) }
@@ -65,33 +53,29 @@ pub fn load<K: Keeper>(alloc: Global, keeper: &mut K) -> Result<Loaded, OpenErro
 
     // The cells are those of the state, and whether they are told or not it is valid and sound.
     ensures cells { IfOk result (λ its. IfSome (K.told keeper.new)
-        (λ found. found ≡ cells its.book.state)) }
-    ensures valid { IfOk result (λ its. IsTrue (is_valid its.book.state)) }
-    ensures sound { IfOk result (λ its. IsTrue (is_sound its.book.state)) }
-
-    // The look shows the state.
-    ensures shown { IfOk result (λ its. its.snapshot.state ≡ its.book.state) }
+        (λ found. found ≡ cells its.state)) }
+    ensures valid { IfOk result (λ its. IsTrue (is_valid its.state)) }
+    ensures sound { IfOk result (λ its. IsTrue (is_sound its.state)) }
 {
     match keeper.first()? {
         Some(cell) => load_from(alloc, keeper, &cell),
-        None => Ok(Loaded::new(alloc)),
+        None => Ok(empty_look(alloc)),
     }
 }
 
 /// The state that the cells stand for of which this is the first, and which are renewed.
-fn load_from<K: Keeper>(alloc: Global, keeper: &mut K, first: &Cell) -> Result<Loaded, OpenError>
+fn load_from<K: Keeper>(alloc: Global, keeper: &mut K, first: &Cell) -> Result<Snapshot, OpenError>
     requires first { IfSome (K.told keeper.old) (λ cells. Some first.now ≡ first_of cells) }
     requires ascend { IfSome (K.told keeper.old) Ascend }
-    ensures state { IfOk result (λ its. StandFor (K.told keeper.new) its.book.state) }
+    ensures state { IfOk result (λ its. StandFor (K.told keeper.new) its.state) }
     ensures opened { IfOk result
-        (λ its. WasOpened (K.told keeper.old) (K.told keeper.new) its.book.state) }
+        (λ its. WasOpened (K.told keeper.old) (K.told keeper.new) its.state) }
     ensures renewed { IfOk result
-        (λ its. Turns (renewed its.book.state) (K.told keeper.old) (K.told keeper.new)) }
+        (λ its. Turns (renewed its.state) (K.told keeper.old) (K.told keeper.new)) }
     ensures cells { IfOk result (λ its. IfSome (K.told keeper.new)
-        (λ found. found ≡ cells its.book.state)) }
-    ensures valid { IfOk result (λ its. IsTrue (is_valid its.book.state)) }
-    ensures sound { IfOk result (λ its. IsTrue (is_sound its.book.state)) }
-    ensures shown { IfOk result (λ its. its.snapshot.state ≡ its.book.state) }
+        (λ found. found ≡ cells its.state)) }
+    ensures valid { IfOk result (λ its. IsTrue (is_valid its.state)) }
+    ensures sound { IfOk result (λ its. IsTrue (is_sound its.state)) }
     ensures damaged { IfErr result (IsDamagedBy (K.told keeper.new)) }
     ensures stays { IfErr result (λ error. Stays (K.told keeper.old) (K.told keeper.new)) }
     ensures counted { result ≡ Err OpenError.Keeper
@@ -111,29 +95,28 @@ fn load_in<K: Keeper>(
     keeper: &mut K,
     format: Format,
     first: &Cell,
-) -> Result<Loaded, OpenError>
+) -> Result<Snapshot, OpenError>
     requires format { format_of first.now ≡ Some format }
     requires first { IfSome (K.told keeper.old) (λ cells. Some first.now ≡ first_of cells) }
     requires ascend { IfSome (K.told keeper.old) Ascend }
-    ensures state { IfOk result (λ its. StandFor (K.told keeper.new) its.book.state) }
+    ensures state { IfOk result (λ its. StandFor (K.told keeper.new) its.state) }
     ensures opened { IfOk result
-        (λ its. WasOpened (K.told keeper.old) (K.told keeper.new) its.book.state) }
+        (λ its. WasOpened (K.told keeper.old) (K.told keeper.new) its.state) }
     ensures renewed { IfOk result
-        (λ its. Turns (renewed its.book.state) (K.told keeper.old) (K.told keeper.new)) }
+        (λ its. Turns (renewed its.state) (K.told keeper.old) (K.told keeper.new)) }
     ensures cells { IfOk result (λ its. IfSome (K.told keeper.new)
-        (λ found. found ≡ cells its.book.state)) }
-    ensures valid { IfOk result (λ its. IsTrue (is_valid its.book.state)) }
-    ensures sound { IfOk result (λ its. IsTrue (is_sound its.book.state)) }
-    ensures shown { IfOk result (λ its. its.snapshot.state ≡ its.book.state) }
+        (λ found. found ≡ cells its.state)) }
+    ensures valid { IfOk result (λ its. IsTrue (is_valid its.state)) }
+    ensures sound { IfOk result (λ its. IsTrue (is_sound its.state)) }
     ensures damaged { IfErr result (IsDamagedBy (K.told keeper.new)) }
     ensures stays { IfErr result (λ error. Stays (K.told keeper.old) (K.told keeper.new)) }
     ensures counted { result ≡ Err OpenError.Keeper
         → Rises (K.faults keeper.old) (K.faults keeper.new) }
     ensures faults_kept { K.faults keeper.old ≤ K.faults keeper.new }
 {
-    let loaded = read_from(alloc, keeper, format, first)?;
-    renew(alloc, keeper, format, &loaded.book)?;
-    Ok(loaded)
+    let snapshot = read_from(alloc, keeper, format, first)?;
+    renew(alloc, keeper, format, snapshot.book())?;
+    Ok(snapshot)
 }
 
 /// Turns the cells of the book's state into today's format. It calls the keeper only where they
@@ -168,16 +151,15 @@ fn read_from<K: Keeper>(
     keeper: &mut K,
     format: Format,
     first: &Cell,
-) -> Result<Loaded, OpenError>
+) -> Result<Snapshot, OpenError>
     requires format { format_of first.now ≡ Some format }
     requires first { IfSome (K.told keeper.old) (λ cells. Some first.now ≡ first_of cells) }
     requires ascend { IfSome (K.told keeper.old) Ascend }
-    ensures state { IfOk result (λ its. StandFor (K.told keeper.new) its.book.state) }
+    ensures state { IfOk result (λ its. StandFor (K.told keeper.new) its.state) }
     ensures read { IfOk result (λ its. IfSome (K.told keeper.new)
-        (WasRead format its.book.state)) }
-    ensures valid { IfOk result (λ its. IsTrue (is_valid its.book.state)) }
-    ensures sound { IfOk result (λ its. IsTrue (is_sound its.book.state)) }
-    ensures shown { IfOk result (λ its. its.snapshot.state ≡ its.book.state) }
+        (WasRead format its.state)) }
+    ensures valid { IfOk result (λ its. IsTrue (is_valid its.state)) }
+    ensures sound { IfOk result (λ its. IsTrue (is_sound its.state)) }
     ensures damaged { IfErr result (IsDamagedBy (K.told keeper.new)) }
     ensures stays { Stays (K.told keeper.old) (K.told keeper.new) }
     ensures counted { result ≡ Err OpenError.Keeper
@@ -196,44 +178,41 @@ fn read_rows<K: Keeper>(
     keeper: &mut K,
     format: Format,
     cell: Cell,
-) -> Result<Loaded, OpenError>
+) -> Result<Snapshot, OpenError>
     requires next { IfSome (K.told keeper.old) (ComesNext format [] cell) }
-    ensures state { IfOk result (λ its. StandFor (K.told keeper.new) its.book.state) }
+    ensures state { IfOk result (λ its. StandFor (K.told keeper.new) its.state) }
     ensures read { IfOk result (λ its. IfSome (K.told keeper.new)
-        (WasRead format its.book.state)) }
-    ensures valid { IfOk result (λ its. IsTrue (is_valid its.book.state)) }
-    ensures sound { IfOk result (λ its. IsTrue (is_sound its.book.state)) }
-    ensures shown { IfOk result (λ its. its.snapshot.state ≡ its.book.state) }
+        (WasRead format its.state)) }
+    ensures valid { IfOk result (λ its. IsTrue (is_valid its.state)) }
+    ensures sound { IfOk result (λ its. IsTrue (is_sound its.state)) }
     ensures damaged { IfErr result (IsDamagedBy (K.told keeper.new)) }
     ensures stays { Stays (K.told keeper.old) (K.told keeper.new) }
     ensures counted { result ≡ Err OpenError.Keeper
         → Rises (K.faults keeper.old) (K.faults keeper.new) }
     ensures faults_kept { K.faults keeper.old ≤ K.faults keeper.new }
 {
-    let mut loaded = Loaded::new(alloc);
-    match restore_rows(alloc, keeper, &mut loaded, format, cell) {
-        Ok(()) => Ok(loaded),
+    let mut snapshot = empty_look(alloc);
+    match restore_rows(alloc, keeper, &mut snapshot, format, cell) {
+        Ok(()) => Ok(snapshot),
         Err(error) => Err(error),
     }
 }
 
-/// Puts the rows of this cell and of those behind it into an empty book, and shows them.
+/// Puts the rows of this cell and of those after it into an empty look.
 fn restore_rows<K: Keeper>(
     alloc: Global,
     keeper: &mut K,
-    loaded: &mut Loaded,
+    snapshot: &mut Snapshot,
     format: Format,
     cell: Cell,
 ) -> Result<(), OpenError>
     requires next { IfSome (K.told keeper.old) (ComesNext format [] cell) }
-    requires empty { loaded.old.book.state ≡ empty }
-    requires shown { loaded.old.snapshot.state ≡ loaded.old.book.state }
-    ensures state { OnOk result (StandFor (K.told keeper.new) loaded.new.book.state) }
+    requires empty { snapshot.old.state ≡ empty }
+    ensures state { OnOk result (StandFor (K.told keeper.new) snapshot.new.state) }
     ensures read { OnOk result (IfSome (K.told keeper.new)
-        (WasRead format loaded.new.book.state)) }
-    ensures valid { OnOk result (IsTrue (is_valid loaded.new.book.state)) }
-    ensures sound { OnOk result (IsTrue (is_sound loaded.new.book.state)) }
-    ensures shown { OnOk result (loaded.new.snapshot.state ≡ loaded.new.book.state) }
+        (WasRead format snapshot.new.state)) }
+    ensures valid { OnOk result (IsTrue (is_valid snapshot.new.state)) }
+    ensures sound { OnOk result (IsTrue (is_sound snapshot.new.state)) }
     ensures damaged { IfErr result (IsDamagedBy (K.told keeper.new)) }
     ensures stays { Stays (K.told keeper.old) (K.told keeper.new) }
     ensures counted { result ≡ Err OpenError.Keeper
@@ -242,7 +221,7 @@ fn restore_rows<K: Keeper>(
 {
     let mut cell = cell;
     for _ in 0..MOST_ROWS {
-        restore(alloc, loaded, format, &cell)?;
+        restore(alloc, snapshot, format, &cell)?;
         match keeper.next_after(cell.tab, cell.key)? {
             Some(next) => cell = next,
             None => return Ok(()),

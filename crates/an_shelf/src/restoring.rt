@@ -1,9 +1,9 @@
-//! The row of a cell, put behind those of a book, and shown.
+//! The row of a cell, put after those of a look.
 ghost use Rattle.std.specs.Prelude.{◌≡◌, ◌+◌, ◌<◌, ◌≤◌, ◌^◌, bytes_eq, IfErr, IfOk, IsTrue};
 ghost use Rattle.std.specs.Prelude.{OnOk, Ok};
 ghost use Rattle.std.specs.List.{list_any};
 ghost use Rattle.an_snapshot.specs.Fits.{fits};
-ghost use Rattle.an_state.specs.Entries.{after, needs};
+ghost use Rattle.an_state.specs.Entries.{after};
 ghost use Rattle.an_state.specs.Sound.{is_live_manifest, stands_on_live};
 ghost use Rattle.an_state.specs.State.{live_readers, manifest_key, note_key, reader_key};
 ghost use Rattle.an_rows.specs.Cells.{has_its_token, has_key, if_next, may_follow, row_behind};
@@ -13,7 +13,6 @@ ghost use Rattle.an_shelf.specs.Restoring.{IsDamage, Reads, RowFits, read_error,
 ghost use Rattle.an_shelf.specs.Restoring.{state_behind};
 
 use crate::error::OpenError;
-use crate::opening::Loaded;
 use an_base::{Name, Text, TryCopy};
 use an_keep::Cell;
 use an_keyed::Keyed;
@@ -23,48 +22,31 @@ use an_snapshot::Snapshot;
 use an_state::{Activity, Book, Entry, Look, ManifestRow, NoteRow, ReaderRow, Row};
 use std::alloc::{AllocError, Global};
 
-/// Puts the row of a cell behind those of the book, and shows it.
+/// Puts the row of a cell after those of the look.
 pub(crate) fn restore(
     alloc: Global,
-    loaded: &mut Loaded,
+    snapshot: &mut Snapshot,
     format: Format,
     cell: &Cell,
 ) -> Result<(), OpenError>
-    requires few { row_count loaded.old.book.state < 2 ^ 62 }
-    requires fits { RowFits format loaded.old.book.state cell.now }
-    requires shown { loaded.old.snapshot.state ≡ loaded.old.book.state }
+    requires few { row_count snapshot.old.state < 2 ^ 62 }
+    requires fits { RowFits format snapshot.old.state cell.now }
     ensures row { OnOk result
-        (state_behind format loaded.old.book.state cell.now ≡ Ok loaded.new.book.state) }
-    ensures damaged { IfErr result (IsDamage (state_behind format loaded.old.book.state cell.now)) }
+        (state_behind format snapshot.old.state cell.now ≡ Ok snapshot.new.state) }
+    ensures damaged { IfErr result (IsDamage (state_behind format snapshot.old.state cell.now)) }
     ensures one { OnOk result
-        (row_count loaded.new.book.state ≤ row_count loaded.old.book.state + 1) }
-    ensures shown { OnOk result (loaded.new.snapshot.state ≡ loaded.new.book.state) }
+        (row_count snapshot.new.state ≤ row_count snapshot.old.state + 1) }
 {
-    let row = row_behind(alloc, &loaded.book, format, cell)?;
-    put(&mut loaded.book, &mut loaded.snapshot, Entry::Restored(row))?;
+    let row = row_behind(alloc, snapshot.book(), format, cell)?;
+    show(snapshot, &Entry::Restored(row))?;
     Ok(())
 }
 
-/// Puts an entry that fits, and shows it.
-fn put(book: &mut Book, snapshot: &mut Snapshot, entry: Entry) -> Result<(), AllocError>
-    requires fits { IsTrue (fits book.old.state entry) }
-    requires shown { snapshot.old.state ≡ book.old.state }
-    ensures put { OnOk result (book.new.state ≡ after book.old.state entry) }
-    ensures shown { OnOk result (snapshot.new.state ≡ book.new.state) }
-{
-    show(book, snapshot, &entry)?;
-    book.apply(entry);
-    Ok(())
-}
-
-/// Takes the memory to put an entry that fits, and shows it.
-fn show(book: &mut Book, snapshot: &mut Snapshot, entry: &Entry) -> Result<(), AllocError>
+/// Shows an entry that fits.
+fn show(snapshot: &mut Snapshot, entry: &Entry) -> Result<(), AllocError>
     requires fits { IsTrue (fits snapshot.old.state entry.now) }
-    ensures room { OnOk result (needs entry.now ≤ book.new.room) }
-    ensures still { book.new.state ≡ book.old.state }
     ensures shown { OnOk result (snapshot.new.state ≡ after snapshot.old.state entry.now) }
 {
-    book.room(entry)?;
     snapshot.apply(entry)?;
     Ok(())
 }

@@ -8,54 +8,53 @@ ghost use Rattle.an_state.specs.Entries.{state_after};
 ghost use Rattle.an_machine.specs.Step.{step};
 ghost use Rattle.an_rows.specs.Cells.{cells};
 ghost use Rattle.an_rows.specs.Changes.{is_settled};
-ghost use Rattle.an_shelf.specs.Front.{CanShow, Stops, all_shown, behind, desk_of};
+ghost use Rattle.an_shelf.specs.Front.{CanShow, Stops, behind, desk_of};
 ghost use Rattle.an_shelf.specs.Store.{Stands};
 ghost use Rattle.an_shelf.specs.Writing.{IsRefused, RunsOut, Writes};
 
 use crate::error::WriteError;
-use crate::keeping::{decide, put};
+use crate::keeping::{decide, keep};
 use crate::lagging_look::LaggingLook;
 use an_base::Moment;
 use an_keep::Keeper;
 use an_machine::{Decided, Refused, WriteReply};
 use an_policy::Caller;
-use an_state::{Book, Command, typed_writes};
+use an_state::{Command, typed_writes};
 use std::alloc::Global;
 
-/// Does a write on a keeper, the book of its cells and the look beside it, which first shows an
-/// entry that waits.
+/// Does a write on a keeper and the look at the state of its cells, which first shows an entry that
+/// waits.
 pub(crate) fn write<K: Keeper>(
     alloc: Global,
     keeper: &mut K,
-    book: &mut Book,
     front: &mut LaggingLook,
     moment: Moment,
     caller: &Caller,
     command: &Command,
 ) -> Result<WriteReply, WriteError>
     requires sendable { IsTrue (is_sendable command.now) }
-    requires stands { Stands (K.told keeper.old) book.old.state }
-    requires lacks { book.old.state ≡ behind front.old }
-    ensures stands { Stands (K.told keeper.new) book.new.state }
-    ensures lacks { book.new.state ≡ behind front.new }
+    requires stands { Stands (K.told keeper.old) (behind front.old) }
+    ensures stands { Stands (K.told keeper.new) (behind front.new) }
     ensures written { IfOk result (λ reply. Writes
-        (step book.old.state moment caller.now command.now) book.old.state reply book.new.state) }
+        (step (behind front.old) moment caller.now command.now)
+        (behind front.old) reply (behind front.new)) }
     ensures refused { IfErr result
-        (IsRefused (step book.old.state moment caller.now command.now)) }
+        (IsRefused (step (behind front.old) moment caller.now command.now)) }
     ensures no_memory { ¬ (result ≡ Err (WriteError.Refused Refused.Memory)) }
-    ensures told { Turns (λ found. cells book.new.state) (K.told keeper.old) (K.told keeper.new) }
+    ensures told { Turns (λ found. cells (behind front.new))
+        (K.told keeper.old) (K.told keeper.new) }
     ensures still { IfErr result
-        (λ error. ¬ (error ≡ WriteError.Memory) → book.new.state ≡ book.old.state) }
+        (λ error. ¬ (error ≡ WriteError.Memory) → behind front.new ≡ behind front.old) }
     ensures stays { IfErr result
         (λ error. ¬ (error ≡ WriteError.Memory) → Stays (K.told keeper.old) (K.told keeper.new)) }
     ensures memory { result ≡ Err WriteError.Memory
-        → RunsOut (step book.old.state moment caller.now command.now)
-        (desk_of book.old.state front.old (K.told keeper.old) (K.faults keeper.old))
-        (desk_of book.new.state front.new (K.told keeper.new) (K.faults keeper.new)) }
-    ensures shown { ¬ (result ≡ Err WriteError.Memory) → front.new ≡ all_shown book.new.state }
+        → RunsOut (step (behind front.old) moment caller.now command.now)
+        (desk_of front.old (K.told keeper.old) (K.faults keeper.old))
+        (desk_of front.new (K.told keeper.new) (K.faults keeper.new)) }
+    ensures nothing_waits { ¬ (result ≡ Err WriteError.Memory) → front.new.waiting ≡ None }
     ensures repeated { IfOk result (λ reply. IsTrue reply.repeat → keeper.new ≡ keeper.old) }
     ensures repeats { IfOk result
-        (λ reply. IsTrue reply.repeat → book.new.state ≡ book.old.state) }
+        (λ reply. IsTrue reply.repeat → behind front.new ≡ behind front.old) }
     ensures passed { (refusal : Refused) → result ≡ Err (WriteError.Refused refusal)
         → keeper.new ≡ keeper.old }
     ensures counted { result ≡ Err WriteError.Keeper
@@ -64,42 +63,42 @@ pub(crate) fn write<K: Keeper>(
     ensures sure { IsTrue K.is_sure → ¬ (result ≡ Err WriteError.Keeper) }
 {
     front.settle()?;
-    write_settled(alloc, keeper, book, front, moment, caller, command)
+    write_settled(alloc, keeper, front, moment, caller, command)
 }
 
 /// Does a write where all is shown.
 fn write_settled<K: Keeper>(
     alloc: Global,
     keeper: &mut K,
-    book: &mut Book,
     front: &mut LaggingLook,
     moment: Moment,
     caller: &Caller,
     command: &Command,
 ) -> Result<WriteReply, WriteError>
     requires sendable { IsTrue (is_sendable command.now) }
-    requires stands { Stands (K.told keeper.old) book.old.state }
-    requires shown { front.old ≡ all_shown book.old.state }
-    ensures stands { Stands (K.told keeper.new) book.new.state }
-    ensures lacks { book.new.state ≡ behind front.new }
+    requires stands { Stands (K.told keeper.old) front.old.state }
+    requires nothing_waits { front.old.waiting ≡ None }
+    ensures stands { Stands (K.told keeper.new) (behind front.new) }
     ensures written { IfOk result (λ reply. Writes
-        (step book.old.state moment caller.now command.now) book.old.state reply book.new.state) }
+        (step front.old.state moment caller.now command.now)
+        front.old.state reply (behind front.new)) }
     ensures refused { IfErr result
-        (IsRefused (step book.old.state moment caller.now command.now)) }
+        (IsRefused (step front.old.state moment caller.now command.now)) }
     ensures no_memory { ¬ (result ≡ Err (WriteError.Refused Refused.Memory)) }
-    ensures told { Turns (λ found. cells book.new.state) (K.told keeper.old) (K.told keeper.new) }
+    ensures told { Turns (λ found. cells (behind front.new))
+        (K.told keeper.old) (K.told keeper.new) }
     ensures still { IfErr result
-        (λ error. ¬ (error ≡ WriteError.Memory) → book.new.state ≡ book.old.state) }
+        (λ error. ¬ (error ≡ WriteError.Memory) → behind front.new ≡ front.old.state) }
     ensures stays { IfErr result
         (λ error. ¬ (error ≡ WriteError.Memory) → Stays (K.told keeper.old) (K.told keeper.new)) }
     ensures memory { result ≡ Err WriteError.Memory
-        → RunsOut (step book.old.state moment caller.now command.now)
-        (desk_of book.old.state front.old (K.told keeper.old) (K.faults keeper.old))
-        (desk_of book.new.state front.new (K.told keeper.new) (K.faults keeper.new)) }
-    ensures shown { ¬ (result ≡ Err WriteError.Memory) → front.new ≡ all_shown book.new.state }
+        → RunsOut (step front.old.state moment caller.now command.now)
+        (desk_of front.old (K.told keeper.old) (K.faults keeper.old))
+        (desk_of front.new (K.told keeper.new) (K.faults keeper.new)) }
+    ensures nothing_waits { ¬ (result ≡ Err WriteError.Memory) → front.new.waiting ≡ None }
     ensures repeated { IfOk result (λ reply. IsTrue reply.repeat → keeper.new ≡ keeper.old) }
     ensures repeats { IfOk result
-        (λ reply. IsTrue reply.repeat → book.new.state ≡ book.old.state) }
+        (λ reply. IsTrue reply.repeat → behind front.new ≡ front.old.state) }
     ensures passed { (refusal : Refused) → result ≡ Err (WriteError.Refused refusal)
         → keeper.new ≡ keeper.old }
     ensures counted { result ≡ Err WriteError.Keeper
@@ -108,34 +107,33 @@ fn write_settled<K: Keeper>(
     ensures sure { IsTrue K.is_sure → ¬ (result ≡ Err WriteError.Keeper) }
 {
     typed_writes(moment, command);
-    let decided = decide(alloc, book, moment, caller, command)?;
-    carry_out(alloc, keeper, book, front, decided)
+    let decided = decide(alloc, front.look().book(), moment, caller, command)?;
+    carry_out(alloc, keeper, front, decided)
 }
 
 /// Does what was decided, where all is shown.
 fn carry_out<K: Keeper>(
     alloc: Global,
     keeper: &mut K,
-    book: &mut Book,
     front: &mut LaggingLook,
     decided: Decided,
 ) -> Result<WriteReply, WriteError>
-    requires settled { IfSome decided.entry (λ entry. IsTrue (is_settled book.old.state entry)) }
-    requires cells { IfSome (K.told keeper.old) (λ found. found ≡ cells book.old.state) }
-    requires can_show { CanShow decided.entry book.old.state }
-    requires shown { front.old ≡ all_shown book.old.state }
+    requires settled { IfSome decided.entry (λ entry. IsTrue (is_settled front.old.state entry)) }
+    requires cells { IfSome (K.told keeper.old) (λ found. found ≡ cells front.old.state) }
+    requires can_show { CanShow decided.entry front.old.state }
+    requires nothing_waits { front.old.waiting ≡ None }
     ensures replies { IfOk result (λ reply. reply ≡ decided.reply) }
-    ensures leads { OnOk result (book.new.state ≡ state_after book.old.state decided.entry) }
+    ensures leads { OnOk result (behind front.new ≡ state_after front.old.state decided.entry) }
     ensures no_refusal { (refusal : Refused) → ¬ (result ≡ Err (WriteError.Refused refusal)) }
     ensures accepted { result ≡ Err WriteError.Keeper → IsSome decided.entry }
-    ensures told { Turns (λ found. cells book.new.state) (K.told keeper.old) (K.told keeper.new) }
-    ensures still { result ≡ Err WriteError.Keeper → book.new.state ≡ book.old.state }
+    ensures told { Turns (λ found. cells (behind front.new))
+        (K.told keeper.old) (K.told keeper.new) }
+    ensures still { result ≡ Err WriteError.Keeper → behind front.new ≡ front.old.state }
     ensures stays { result ≡ Err WriteError.Keeper
         → Stays (K.told keeper.old) (K.told keeper.new) }
-    ensures shown { ¬ (result ≡ Err WriteError.Memory) → front.new ≡ all_shown book.new.state }
+    ensures nothing_waits { ¬ (result ≡ Err WriteError.Memory) → front.new.waiting ≡ None }
     ensures memory { result ≡ Err WriteError.Memory
-        → Stops decided.entry book.old.state book.new.state front.new
-        (K.told keeper.old) (K.told keeper.new) }
+        → Stops decided.entry front.old.state front.new (K.told keeper.old) (K.told keeper.new) }
     ensures repeated { decided.entry ≡ None → keeper.new ≡ keeper.old }
     ensures counted { result ≡ Err WriteError.Keeper
         → Rises (K.faults keeper.old) (K.faults keeper.new) }
@@ -144,8 +142,8 @@ fn carry_out<K: Keeper>(
     let Decided { entry, reply } = decided;
     match entry {
         Some(entry) => {
-            let copy = put(alloc, keeper, book, entry)?;
-            front.show(copy)?;
+            keep(alloc, keeper, front.look().book(), &entry)?;
+            front.show(entry)?;
             Ok(reply)
         }
         None => Ok(reply),

@@ -41,7 +41,7 @@ fn added_by(alloc: Global, entry: &Entry) -> Result<Vec<Shared<Activity>>, Alloc
 {
     let mut added = Vec::new(alloc);
     match entry {
-        Entry::Restored(row) => add_terms_of(&mut added, row)?,
+        Entry::Restored(row) => add_row(&mut added, row)?,
         Entry::Done {
             rows,
             activities,
@@ -54,7 +54,7 @@ fn added_by(alloc: Global, entry: &Entry) -> Result<Vec<Shared<Activity>>, Alloc
     Ok(added)
 }
 
-fn add_terms_of(added: &mut Vec<Shared<Activity>>, row: &Row) -> Result<(), AllocError>
+fn add_row(added: &mut Vec<Shared<Activity>>, row: &Row) -> Result<(), AllocError>
     ensures { OnOk result (added.new.items ≡ added.old.items ++ added_by_row row.now) }
 {
     match row {
@@ -69,7 +69,7 @@ fn add_rows(added: &mut Vec<Shared<Activity>>, rows: &[Row]) -> Result<(), Alloc
     ensures { OnOk result (added.new.items ≡ added.old.items ++ flat_map added_by_row rows.now) }
 {
     for row in rows {
-        add_terms_of(added, row)?;
+        add_row(added, row)?;
     }
     Ok(())
 }

@@ -1,7 +1,7 @@
 //! A snapshot: a look at a state that is answered from lists.
 //!
 //! ```text
-//! snapshot.apply(&entry)  Ok(()): the state with the entry; Err: out of memory, and nothing changes
+//! snapshot.apply(&entry)  Ok(()): the state with the entry; Err: out of memory, nothing changes
 //! snapshot.count()        1: how many entries were applied, also those that didn't fit
 //! snapshot.readable(alloc, &who, &manifest)  Ok(places of annotations that the caller may read)
 //! ```

@@ -102,7 +102,8 @@ impl Snapshot {
         Ok(())
     }
 
-    pub(crate) fn book(&self) -> &Book
+    /// Its state, as writes are decided over it. It takes no memory.
+    pub fn book(&self) -> &Book
         ensures state { result.now.state ≡ self.now.state }
     {
         &self.book

@@ -25,9 +25,9 @@ pub record Start : Type 0 where
   pub told : Told
   pub faults : ℕ
 
--- There is a legal list, which goes on from the one that was seen, and each of whose writes was kept
--- as it came, the last of them still. The cells, where the keeper tells them, are those of its state
--- and stand for it.
+-- There is a legal list, which goes on from the one that was seen, and each of whose writes was
+-- kept as it came, the last of them still. The cells, where the keeper tells them, are those of its
+-- state and stand for it.
 pub record Closes (seen : List Event) (told : Told) : Type 0 where
   pub list : List Event
   pub later : IsPrefix seen list
@@ -36,15 +36,14 @@ pub record Closes (seen : List Event) (told : Told) : Type 0 where
   pub cells : IfSome told (λ found. found ≡ cells (state_at list))
   pub stand : StandFor told (state_at list)
 
--- For private clauses: what holds of the parts of a store that was opened with this state. Nothing
--- pends, the writer knows what is shown, and the list has the opening alone.
+-- For private clauses: what holds of the parts of a store that was opened. Nothing pends, the
+-- writer knows what is shown, and the list has only the opening, with the state that is shown.
 pub record Begun (v : Known) (head : Named) (pending : List Addition) (shown : Published)
-    (s : State) (told : Told) : Type 0 where
+    (told : Told) : Type 0 where
   pub none : pending ≡ []
   pub knows : v ≡ notice shown
   pub is_head : head ≡ head_of shown.mark.book
-  pub list : shown.mark.list ≡ Opened s told ∷ []
-  pub state : shown.snapshot.state ≡ s
+  pub list : shown.mark.list ≡ Opened shown.snapshot.state told ∷ []
 
 -- For private clauses: the state is valid, sound and kept, and all seats are new ones.
 pub record IsStart (start : Start) : Type 0 where

@@ -2,7 +2,6 @@
 use Rattle.std.specs.Prelude.{◌≡◌, ℕ, List}
 use Rattle.logbook.specs.Pages.{Book, Named}
 use Rattle.an_keep.specs.Keeper.{Told}
-use Rattle.an_state.specs.State.{State}
 use Rattle.an_laws.specs.Events.{state_at}
 use Rattle.an_published.specs.History.{head_of}
 use Rattle.an_published.specs.Rule.{ComeBehind, accepted}
@@ -10,12 +9,12 @@ use Rattle.an_store.specs.Stock.{Stock, Stocked}
 use Rattle.an_published.specs.declared.published.Published.{Published}
 use Rattle.an_published.specs.declared.published.Addition.{Addition}
 
--- a stock of these parts
-abbrev pub stock_of : Published → List Addition → State → Told → ℕ → Stock
-stock_of shown more s told faults = record {
+-- a stock of these parts, whose state is that of all that was accepted
+abbrev pub stock_of : Published → List Addition → Told → ℕ → Stock
+stock_of shown more told faults = record {
   published = shown.mark.list;
   accepted = accepted shown more;
-  state = s;
+  state = state_at (accepted shown more);
   told = told;
   faults = faults;
 }

@@ -19,16 +19,14 @@ use crate::under_lock::UnderLock;
 use an_base::TryCopy;
 use an_keep::Keeper;
 use an_published::{Head, Naming, Published, Seat, StoreWriter, begin, publish};
-use an_shelf::{Loaded, NotOpened, OpenError, load};
+use an_shelf::{NotOpened, OpenError, load};
 use an_snapshot::Snapshot;
-use an_state::Book;
 use std::alloc::{AllocError, Global};
 use std::marker::Model;
 use std::sync::Wait;
 
 /// A store that was opened, which has no name yet, and its seats. It isn't `Drop`.
 pub struct Opened<K: Keeper> {
-    book: Book,
     keeper: K,
     head: Head,
     writer: StoreWriter,
@@ -50,19 +48,19 @@ impl<K: Keeper> Model for Opened<K> {
       book = o.writer.desk.shown.value.mark.book;
       list = o.writer.desk.shown.value.mark.list;
       seats = o.seats.items;
-      state = o.book.state;
+      state = o.writer.desk.shown.value.snapshot.state;
       told = K.told o.keeper;
       faults = K.faults o.keeper;
     } };
 
     ghost invariant = { λ o. Begun (known o.writer.desk.place) o.head
         (drop o.writer.behind o.writer.log.items) o.writer.desk.shown.value
-        o.book.state (K.told o.keeper)
+        (K.told o.keeper)
         × IsStart (record {
           book = o.writer.desk.shown.value.mark.book;
           list = o.writer.desk.shown.value.mark.list;
           seats = o.seats.items;
-          state = o.book.state;
+          state = o.writer.desk.shown.value.snapshot.state;
           told = K.told o.keeper;
           faults = K.faults o.keeper;
         }) };
@@ -110,7 +108,7 @@ pub fn open_store<K: Keeper, R: Wait>(
         (λ seat. seat ≡ newly_seated store.book store.list) store.seats) }
 {
     match load(alloc, &mut keeper) {
-        Ok(loaded) => match begin_store(rt, alloc, keeper, loaded, seats) {
+        Ok(snapshot) => match begin_store(rt, alloc, keeper, snapshot, seats) {
             Ok(store) => Ok(store),
             Err(keeper) => Err(NotOpened {
                 why: OpenError::Memory,
@@ -126,14 +124,13 @@ fn begin_store<K: Keeper, R: Wait>(
     rt: &R,
     alloc: Global,
     keeper: K,
-    loaded: Loaded,
+    snapshot: Snapshot,
     seats: u32,
 ) -> Result<Opened<K>, K>
     requires some { 1 ≤ seats }
     requires few { seats ≤ 64 }
-    requires stands { Stands (K.told keeper) loaded.book.state }
-    requires shown { loaded.snapshot.state ≡ loaded.book.state }
-    ensures state { IfOk result (λ store. store.state ≡ loaded.book.state) }
+    requires stands { Stands (K.told keeper) snapshot.state }
+    ensures state { IfOk result (λ store. store.state ≡ snapshot.state) }
     ensures told { IfOk result (λ store. store.told ≡ K.told keeper) }
     ensures faults { IfOk result (λ store. store.faults ≡ K.faults keeper) }
     ensures list { IfOk result (λ store. store.list ≡ Begins store.state store.told ∷ []) }
@@ -142,17 +139,12 @@ fn begin_store<K: Keeper, R: Wait>(
         (λ seat. seat ≡ newly_seated store.book store.list) store.seats) }
     ensures same { IfErr result (λ its. K.told its ≡ K.told keeper) }
 {
-    let Loaded { book, snapshot } = loaded;
-    let (head, mut writer) = match begin_writer(rt, alloc, &keeper, &book, snapshot, seats) {
+    let (head, mut writer) = match begin_writer(rt, alloc, &keeper, snapshot, seats) {
         Ok(begun) => begun,
-        Err(_) => {
-            drop(book);
-            return Err(keeper);
-        }
+        Err(_) => return Err(keeper),
     };
     match make_seats(alloc, &mut writer, seats) {
         Ok(seats) => Ok(Opened {
-            book,
             keeper,
             head,
             writer,
@@ -160,7 +152,6 @@ fn begin_store<K: Keeper, R: Wait>(
         }),
         Err(_) => {
             drop(writer.take(rt));
-            drop(book);
             Err(keeper)
         }
     }
@@ -171,17 +162,16 @@ fn begin_writer<K: Keeper, R: Wait>(
     rt: &R,
     alloc: Global,
     keeper: &K,
-    book: &Book,
     snapshot: Snapshot,
     seats: u32,
 ) -> Result<(Head, StoreWriter), AllocError>
     requires some { 1 ≤ seats }
     requires few { seats ≤ 64 }
-    requires stands { Stands (K.told keeper.now) book.now.state }
-    requires shown { snapshot.state ≡ book.now.state }
+    requires stands { Stands (K.told keeper.now) snapshot.state }
     ensures begun { IfOk result (λ made. Begun (view made.1.desk.place) made.0
-        (drop made.1.behind made.1.log.items) made.1.desk.shown.value
-        book.now.state (K.told keeper.now)) }
+        (drop made.1.behind made.1.log.items) made.1.desk.shown.value (K.told keeper.now)) }
+    ensures state { IfOk result
+        (λ made. made.1.desk.shown.value.snapshot.state ≡ snapshot.state) }
 {
     let other = match snapshot.copy() {
         Ok(other) => other,
@@ -190,7 +180,7 @@ fn begin_writer<K: Keeper, R: Wait>(
             return Err(error);
         }
     };
-    let (head, mark) = begin(book, keeper);
+    let (head, mark) = begin(snapshot.book(), keeper);
     let first = Published {
         snapshot,
         mark: mark.again(),
@@ -250,15 +240,11 @@ impl<K: Keeper> Opened<K> {
         ensures seated { All (λ seat. seat ≡ newly_seated J.book self.list) result.1.items }
     {
         let Opened {
-            book,
             keeper,
             head,
             writer,
             seats,
         } = self;
-        (
-            Store::over(UnderLock::new(book, keeper, head, writer)),
-            seats,
-        )
+        (Store::over(UnderLock::new(keeper, head, writer)), seats)
     }
 }

@@ -19,18 +19,17 @@ use an_policy::Caller;
 use an_published::{
     Addition, Head, KeptEvent, Naming, Seat, StoreWriter, align, earn, extend, publish,
 };
-use an_shelf::{WriteError, decide, put};
+use an_shelf::{WriteError, decide, keep};
 use an_state::{Book, Command, Entry, typed_writes};
 use std::alloc::{AllocError, Global};
 use std::marker::{Model, PhantomData};
 use std::sync::Wait;
 
 /// What a store of the name J holds under its lock. Whenever that is free, what was accepted is
-/// legal and leads to the state that writes are decided in, and the cells, where the keeper tells
-/// them, are those of this state. All of it is published but at most one write, which waits. It
-/// isn't `Drop`.
+/// legal, and the cells, where the keeper tells them, are those of the state that it leads to. All
+/// of it is published but at most one write, which waits. So once that is published too, writes are
+/// decided over what readers are shown. It isn't `Drop`.
 pub struct UnderLock<K: Keeper, J: Naming> {
-    book: Book,
     keeper: K,
     head: Head,
     writer: StoreWriter,
@@ -51,24 +50,23 @@ impl<K: Keeper, J: Naming> Model for UnderLock<K, J> {
 
     ghost view = { λ s. stock_of s.writer.desk.shown.value
         (drop s.writer.behind s.writer.log.items ++ option_to_list s.waiting)
-        s.book.state (K.told s.keeper) (K.faults s.keeper) };
+        (K.told s.keeper) (K.faults s.keeper) };
 
     ghost invariant = { λ s. Sided (stock_of s.writer.desk.shown.value
         (drop s.writer.behind s.writer.log.items ++ option_to_list s.waiting)
-        s.book.state (K.told s.keeper) (K.faults s.keeper))
+        (K.told s.keeper) (K.faults s.keeper))
         J.book s.head s.writer.desk.shown.value
         (drop s.writer.behind s.writer.log.items ++ option_to_list s.waiting) };
 }
 
 impl<K: Keeper, J: Naming> UnderLock<K, J> {
     /// All is published.
-    pub(crate) fn new(book: Book, keeper: K, head: Head, writer: StoreWriter) -> UnderLock<K, J>
+    pub(crate) fn new(keeper: K, head: Head, writer: StoreWriter) -> UnderLock<K, J>
         requires sided { Sided (stock_of writer.desk.shown.value
-            (drop writer.behind writer.log.items) book.state (K.told keeper) (K.faults keeper))
+            (drop writer.behind writer.log.items) (K.told keeper) (K.faults keeper))
             J.book head writer.desk.shown.value (drop writer.behind writer.log.items) }
     {
         UnderLock {
-            book,
             keeper,
             head,
             writer,
@@ -83,21 +81,19 @@ impl<K: Keeper, J: Naming> UnderLock<K, J> {
         ensures stocked { Stocked self }
     {
         let UnderLock {
-            book,
             keeper,
             head: _,
             writer,
             waiting,
             of: _,
         } = self;
-        drop(book);
         drop(waiting);
         drop(writer.take(rt));
         keeper
     }
 
-    /// Does a write: a write that waits is published first; then this one is decided, kept, applied
-    /// and published. Memory may run out behind the commit too: then it waits to be published.
+    /// Does a write: a write that waits is published first; then this one is decided, kept and
+    /// published. Memory may run out after the commit too: then it waits to be published.
     pub fn take<R: Wait>(
         &mut self,
         rt: &R,
@@ -175,6 +171,15 @@ impl<K: Keeper, J: Naming> UnderLock<K, J> {
         }
     }
 
+    /// The book of the state, where all is published.
+    fn book(&self) -> &Book
+        requires settled { self.now.published ≡ self.now.accepted }
+        ensures state { result.now.state ≡ self.now.state }
+        ensures stocked { Stocked self.now }
+    {
+        self.writer.published().snapshot.book()
+    }
+
     /// Does a write where all is published.
     fn take_settled<R: Wait>(
         &mut self,
@@ -197,7 +202,7 @@ impl<K: Keeper, J: Naming> UnderLock<K, J> {
         ensures sure { IsTrue K.is_sure → ¬ (result ≡ Err WriteError.Keeper) }
     {
         typed_writes(moment, command);
-        let Decided { entry, reply } = decide(alloc, &self.book, moment, caller, command)?;
+        let Decided { entry, reply } = decide(alloc, self.book(), moment, caller, command)?;
         match entry {
             Some(entry) => {
                 self.carry_out(rt, alloc, moment, caller, command, entry)?;
@@ -207,7 +212,7 @@ impl<K: Keeper, J: Naming> UnderLock<K, J> {
         }
     }
 
-    /// Keeps, applies and publishes a write that was decided, where all is published.
+    /// Keeps and publishes a write that was decided, where all is published.
     fn carry_out<R: Wait>(
         &mut self,
         rt: &R,
@@ -236,10 +241,11 @@ impl<K: Keeper, J: Naming> UnderLock<K, J> {
             drop(entry);
             return Err(WriteError::Memory);
         };
-        let copy = put(alloc, &mut self.keeper, &mut self.book, entry)?;
-        let kept = KeptEvent::new(moment, caller, command, &copy, &self.keeper);
+        let book = self.writer.published().snapshot.book();
+        keep(alloc, &mut self.keeper, book, &entry)?;
+        let kept = KeptEvent::new(moment, caller, command, &entry, &self.keeper);
         let mark = extend(rt, &self.head, &self.writer.published().mark, next, &kept);
-        wait(&mut self.waiting, Addition { entry: copy, mark });
+        wait(&mut self.waiting, Addition { entry, mark });
         self.settle(rt)?;
         Ok(())
     }

@@ -6,5 +6,7 @@ returns-clause-session g c = desk-connection _ _ _ _ _ _ _ _ c.serve_link-ended.
 
 pub returns-clause-bounded : goal.returns-clause-bounded
 returns-clause-bounded g c =
-    let before = c.book-before.ensures in
-    desk-reads _ _ _ _ _ _ _ _ (record { cells_are = before.cells; valid = before.valid; sound = before.sound }) c.serve_link-ended.ensures.session
+    let before = c.stands.ensures in
+    desk-reads _ _ _ _ _ _ _ _
+    (record { cells_are = before.cells; valid = before.valid; sound = before.sound })
+    c.serve_link-ended.ensures.session

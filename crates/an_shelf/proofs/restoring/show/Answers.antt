@@ -1,5 +1,9 @@
 use Rattle.an_shelf.proofs.FrontLemmas.{shows}
 use Rattle.an_shelf.proofs.restoring.show.Goals as goal
 
-pub returns-clause-shown : goal.returns-clause-shown
-returns-clause-shown c = shows c.args.snapshot.now c.apply.new.self c.args.entry.now c.requires.fits c.in_ok-apply.ensures.ok
+pub returns : goal.returns
+returns c = record {
+  shown =
+      shows c.args.snapshot.now c.apply.new.self c.args.entry.now c.requires.fits
+      c.in_ok-apply.ensures.ok;
+}

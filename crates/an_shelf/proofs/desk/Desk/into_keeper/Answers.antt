@@ -10,7 +10,7 @@ pub returns-clause-faults : goal.returns-clause-faults
 returns-clause-faults g c = ap (λ (d : Store). d.faults) c.self.view_is
 
 pub returns-clause-cells : goal.returns-clause-cells
-returns-clause-cells g c = rw (← c.self.view_is) c.self.invariant.0.cells_are
+returns-clause-cells g c = rw (← c.self.view_is) c.self.invariant.cells_are
 
 pub returns-clause-stand : goal.returns-clause-stand
-returns-clause-stand g c = rw (← c.self.view_is) (stand-for _ _ c.self.invariant.0)
+returns-clause-stand g c = rw (← c.self.view_is) (stand-for _ _ c.self.invariant)

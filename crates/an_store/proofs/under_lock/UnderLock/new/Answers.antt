@@ -4,4 +4,4 @@ use Rattle.an_store.proofs.Sides.{same}
 use Rattle.an_store.proofs.under_lock.UnderLock.new.Goals as goal
 
 pub invariant_of-result : goal.invariant_of-result
-invariant_of-result g c = same _ _ _ _ _ _ _ _ _ c.requires.sided refl (append-nil _)
+invariant_of-result g c = same _ _ _ _ _ _ _ _ c.requires.sided refl (append-nil _)
