@@ -27,9 +27,9 @@ impl From<AllocError> for KeepError {
 /// What keeps cells, each under a table and a key.
 ///
 /// A keeper may tell its cells or not. One that doesn't begins to tell them in a call of `first`
-/// only, whatever that answers, and only where keepers of its kind may begin to. It may stop telling
-/// them in any call. A call answers `Failed` only where the count of faults rises, and the count
-/// never falls. It stands still at `u64::MAX`.
+/// only, whatever that answers, and only where keepers of its kind may begin to. It may stop
+/// telling them in any call. A call answers `Failed` only where the count of faults rises, and the
+/// count never falls. It stands still at `u64::MAX`.
 pub trait Keeper: Drop {
     ghost use Rattle.std.specs.Prelude.{Bool, ℕ};
     ghost use Rattle.an_keep.specs.Keeper.{Told};

@@ -25,7 +25,7 @@ fn add_answers<A: Answers>(
     for row in rows.lines() {
         let argument = argument_of(row);
         let answer = answers.answer(alloc, argument);
-        add_terms_of(found, argument, answer_text(&answer))?;
+        add_row(found, argument, answer_text(&answer))?;
     }
     Ok(())
 }
@@ -45,7 +45,7 @@ fn answer_text(answer: &Result<String, RowError>) -> &str {
     }
 }
 
-fn add_terms_of(rows: &mut Vec<u8>, argument: &str, answer: &str) -> Result<(), AllocError>
+fn add_row(rows: &mut Vec<u8>, argument: &str, answer: &str) -> Result<(), AllocError>
     ensures { OnOk result (rows.new.items
         ≡ rows.old.items ++ argument.now ++ codes " -> " ++ answer.now ++ codes "\n") }
 {
