@@ -15,7 +15,7 @@ use Rattle.percent_encoding.specs.Percent.{percent_decode}
 use Rattle.an_base.specs.Decimal.{is_decimal}
 use Rattle.an_base.specs.Outcome.{only_if}
 use Rattle.an_code.specs.declared.parameter.Parameter.TheVariants.{Page}
-use Rattle.an_feed.proofs.ServedLemmas.{ascii}
+use Rattle.an_feed.proofs.ActivityLemmas.{ascii}
 use Rattle.an_feed.specs.Told.{page_target}
 use Rattle.an_http.specs.declared.method.Method.TheVariants.{Get}
 use Rattle.an_query.specs.Given.{number_in}

@@ -31,7 +31,8 @@ use Rattle.an_feed.specs.Served.{Serves, IsServed, HasAll}
 use Rattle.an_feed.specs.Told.{IsNamed, IsTold, iri_of}
 use Rattle.an_feed.proofs.NameLemmas.{name-ascii}
 use Rattle.an_feed.proofs.ServedLemmas as served
-use Rattle.an_feed.proofs.ServedLemmas.{ascii, if_whole, if_shallow, page-read, stream-read, items-whole, activities-shallow, recursion-drop, recursion-take}
+use Rattle.an_feed.proofs.ActivityLemmas.{ascii, items-whole, activities-shallow}
+use Rattle.an_feed.proofs.ServedLemmas.{if_whole, if_shallow, page-read, stream-read, recursion-drop, recursion-take}
 
 -- ---- texts
 

@@ -1,4 +1,5 @@
 pub mod NameLemmas
 pub mod IriLemmas
+pub mod ActivityLemmas
 pub mod ServedLemmas
 pub mod HarvestLemmas
