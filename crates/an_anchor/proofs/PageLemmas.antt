@@ -11,7 +11,7 @@ use Rattle.an_list.specs.Page.{page_iri, page_of, paging_of, start_of}
 use Rattle.an_list.specs.Site.{Site}
 use Rattle.an_list.specs.declared.error.ReadError.{ReadError}
 use Rattle.an_list.specs.declared.page.Paging.{Paging}
-use Rattle.an_list.specs.declared.page.Whole.{Whole}
+use Rattle.an_list.specs.declared.page.PagedList.{PagedList}
 use Rattle.an_anchor.specs.Comments.{anchor_item, anchors_text, anchors_tree, orphan_item, orphans_text, orphans_tree}
 use Rattle.an_anchor.specs.Walk.{HasCounted, count_members}
 use Rattle.an_anchor.specs.declared.comment.Comment.{Comment}
@@ -20,14 +20,14 @@ use Rattle.an_anchor.specs.declared.counted.Window.{Window}
 
 -- ---- members
 
-pub anchors-is : (whole : Whole) (paging : Paging) (list : List Data)
+pub anchors-is : (whole : PagedList) (paging : Paging) (list : List Data)
     → object (member (codes "anchors") (array (items_of list))
     (member (codes "id") (string (page_iri whole paging.page)) (count_members paging)))
     ≡ anchors_tree whole paging.page paging.size paging.total list
 unfolding anchors_tree
 anchors-is whole paging list = refl
 
-pub orphans-is : (whole : Whole) (paging : Paging) (list : List Data)
+pub orphans-is : (whole : PagedList) (paging : Paging) (list : List Data)
     → object (member (codes "id") (string (page_iri whole paging.page))
     (member (codes "orphans") (array (items_of list)) (count_members paging)))
     ≡ orphans_tree whole paging.page paging.size paging.total list
@@ -50,8 +50,8 @@ module _ (item : Comment → Data) (site : Site) (page : ℕ) (comments : List C
       (λ n. item_commas (items_of (map item (take n (drop (start_of page site.size) comments)))))
       size
 
-module _ (site : Site) (whole : Whole) (page : ℕ) (texts : List (List ℕ)) (comments : List Comment)
-    (total : ℕ) (total_is : total ≡ length comments) where
+module _ (site : Site) (whole : PagedList) (page : ℕ) (texts : List (List ℕ))
+    (comments : List Comment) (total : ℕ) (total_is : total ≡ length comments) where
   pub past_anchors : (error : ReadError) → Err error ≡ paging_of site page total
       → anchors_text site whole page texts comments ≡ Err error
   unfolding anchors_text
@@ -74,7 +74,7 @@ module _ (site : Site) (whole : Whole) (page : ℕ) (texts : List (List ℕ)) (c
       (map (anchor_item site.base texts) (page_of page site.size comments)))) there
       ∙ ap Ok (sym (rw asked at is))
 
-module _ (site : Site) (whole : Whole) (page : ℕ) (orphans : List Comment) (total : ℕ)
+module _ (site : Site) (whole : PagedList) (page : ℕ) (orphans : List Comment) (total : ℕ)
     (total_is : total ≡ length orphans) where
   pub past_orphans : (error : ReadError) → Err error ≡ paging_of site page total
       → orphans_text site whole page orphans ≡ Err error

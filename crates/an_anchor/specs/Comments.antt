@@ -21,7 +21,7 @@ use Rattle.an_list.specs.Page.{on_page, page_count, page_iri, page_of}
 use Rattle.an_list.specs.Site.{Site}
 use Rattle.an_list.specs.declared.error.ReadError.{ReadError}
 use Rattle.an_list.specs.declared.error.ReadError.TheVariants.{Absent}
-use Rattle.an_list.specs.declared.page.Whole.{Whole}
+use Rattle.an_list.specs.declared.page.PagedList.{PagedList}
 use Rattle.an_pages.specs.Bodies.{missing_note}
 use Rattle.an_pages.specs.Container.{notes_on}
 use Rattle.an_anchor.specs.Resolve.{resolved}
@@ -128,7 +128,7 @@ orphan_item base comment =
 -- ---- pages
 
 -- a page of the comments on an annotation, which are so many
-unfoldable pub anchors_tree : Whole → ℕ → ℕ → ℕ → List Data → Data
+unfoldable pub anchors_tree : PagedList → ℕ → ℕ → ℕ → List Data → Data
 anchors_tree whole page size total items =
     object (member (codes "anchors") (array (items_of items))
     (member (codes "id") (string (page_iri whole page))
@@ -136,7 +136,7 @@ anchors_tree whole page size total items =
     (member (codes "total") (number (unsigned total)) no_members))))
 
 -- a page of the comments on a manifest that have lost what they are about
-unfoldable pub orphans_tree : Whole → ℕ → ℕ → ℕ → List Data → Data
+unfoldable pub orphans_tree : PagedList → ℕ → ℕ → ℕ → List Data → Data
 orphans_tree whole page size total items =
     object (member (codes "id") (string (page_iri whole page))
     (member (codes "orphans") (array (items_of items))
@@ -145,16 +145,16 @@ orphans_tree whole page size total items =
 
 -- ---- the answers, from the caller's view only
 
-abbrev pub anchors_whole : List ℕ → List ℕ → List ℕ → Whole
+abbrev pub anchors_whole : List ℕ → List ℕ → List ℕ → PagedList
 anchors_whole base owner name =
     record { path = anchors_iri base owner name; parameters = [] }
 
-abbrev pub orphans_whole : List ℕ → List ℕ → Whole
+abbrev pub orphans_whole : List ℕ → List ℕ → PagedList
 orphans_whole base manifest = record { path = orphans_iri base manifest; parameters = [] }
 
 -- the page of this number of these comments on an annotation with these texts
 unfoldable pub anchors_text
-    : Site → Whole → ℕ → List (List ℕ) → List Comment → Result (List ℕ) ReadError
+    : Site → PagedList → ℕ → List (List ℕ) → List Comment → Result (List ℕ) ReadError
 anchors_text site whole page texts comments =
     on_page site page (length comments)
     (compact_text (anchors_tree whole page site.size (length comments)
@@ -172,7 +172,7 @@ anchors_of site view owner name page =
     (live_anchors site view owner name page)
 
 -- the page of this number of these orphans
-unfoldable pub orphans_text : Site → Whole → ℕ → List Comment → Result (List ℕ) ReadError
+unfoldable pub orphans_text : Site → PagedList → ℕ → List Comment → Result (List ℕ) ReadError
 orphans_text site whole page orphans =
     on_page site page (length orphans)
     (compact_text (orphans_tree whole page site.size (length orphans)

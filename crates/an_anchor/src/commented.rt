@@ -22,7 +22,7 @@ use crate::counting::{Asked, count_on};
 use crate::written::anchors_text;
 use an_base::{Bytes, Name, Steps, Text};
 use an_iri::{anchors_iri, note_iri};
-use an_list::{Paging, ReadError, Site, Whole};
+use an_list::{PagedList, Paging, ReadError, Site};
 use an_pages::missing_note;
 use an_policy::Who;
 use an_state::{LiveNote, Look, NoteRow, shown_note};
@@ -117,11 +117,16 @@ fn live_anchors<T: Look, L: Ledger>(
     anchors_page(alloc, site, &whole, page, &counted)
 }
 
-fn anchors_whole(alloc: Global, base: &str, owner: &Name, name: &Name) -> Result<Whole, AllocError>
+fn anchors_whole(
+    alloc: Global,
+    base: &str,
+    owner: &Name,
+    name: &Name,
+) -> Result<PagedList, AllocError>
     ensures { IfOk result (λ whole. whole ≡ anchors_whole base.now owner.now name.now) }
 {
     let path = anchors_iri(alloc, base, owner, name)?;
-    Ok(Whole {
+    Ok(PagedList {
         path: Text::from_string(path),
         parameters: Text::from_string(String::new(alloc)),
     })
@@ -131,7 +136,7 @@ fn anchors_whole(alloc: Global, base: &str, owner: &Name, name: &Name) -> Result
 fn anchors_page(
     alloc: Global,
     site: &Site,
-    whole: &Whole,
+    whole: &PagedList,
     page: u32,
     counted: &Counted,
 ) -> Result<Bytes, ReadError>

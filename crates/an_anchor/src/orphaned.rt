@@ -21,7 +21,7 @@ use crate::targets::comments_on;
 use crate::written::orphans_text;
 use an_base::{Bytes, Name, Steps, Text};
 use an_iri::orphans_iri;
-use an_list::{Paging, ReadError, Site, Whole};
+use an_list::{PagedList, Paging, ReadError, Site};
 use an_policy::Who;
 use an_state::{Look, shown_manifest};
 use std::alloc::{AllocError, Global};
@@ -79,11 +79,11 @@ fn orphans_shown<T: Look, L: Ledger>(
     orphans_page(alloc, site, &whole, page, &counted)
 }
 
-fn orphans_whole(alloc: Global, base: &str, manifest: &Name) -> Result<Whole, AllocError>
+fn orphans_whole(alloc: Global, base: &str, manifest: &Name) -> Result<PagedList, AllocError>
     ensures { IfOk result (λ whole. whole ≡ orphans_whole base.now manifest.now) }
 {
     let path = orphans_iri(alloc, base, manifest.as_str())?;
-    Ok(Whole {
+    Ok(PagedList {
         path: Text::from_string(path),
         parameters: Text::from_string(String::new(alloc)),
     })
@@ -93,7 +93,7 @@ fn orphans_whole(alloc: Global, base: &str, manifest: &Name) -> Result<Whole, Al
 fn orphans_page(
     alloc: Global,
     site: &Site,
-    whole: &Whole,
+    whole: &PagedList,
     page: u32,
     counted: &Counted,
 ) -> Result<Bytes, ReadError>

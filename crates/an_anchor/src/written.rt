@@ -12,7 +12,7 @@ use an_base::{
     Bytes, close_items, close_members, push_array_member, push_comma, push_name,
     push_number_member, push_text_member,
 };
-use an_list::{Paging, Whole, page_iri};
+use an_list::{PagedList, Paging, page_iri};
 use std::alloc::{AllocError, Global};
 
 /// Writes a comment as an item of a page, with a comma before it: the target of this number of the
@@ -108,7 +108,7 @@ fn push_place(out: Vec<u8>, place: AnchorPlace) -> Result<Vec<u8>, AllocError>
 /// The text of a page of comments with these items, its members in the order of their names.
 pub(crate) fn anchors_text(
     alloc: Global,
-    whole: &Whole,
+    whole: &PagedList,
     paging: Paging,
     items: &[u8],
 ) -> Result<Bytes, AllocError>
@@ -128,7 +128,7 @@ pub(crate) fn anchors_text(
 /// The same of a page of orphans.
 pub(crate) fn orphans_text(
     alloc: Global,
-    whole: &Whole,
+    whole: &PagedList,
     paging: Paging,
     items: &[u8],
 ) -> Result<Bytes, AllocError>

@@ -31,7 +31,7 @@ use Rattle.an_iri.specs.Names.{names_in}
 use Rattle.an_search.specs.Search.{found_text, hits, hits_where, search_of, whole_of}
 use Rattle.an_list.specs.Site.{Site}
 use Rattle.an_search.specs.Wanted.{given_pieces, matches, wanted_of}
-use Rattle.an_list.specs.declared.page.Whole.{Whole}
+use Rattle.an_list.specs.declared.page.PagedList.{PagedList}
 use Rattle.an_search.specs.declared.wanted.Wanted.{Wanted}
 use Rattle.an_selectors.specs.declared.region.Xywh.{Xywh}
 use Rattle.an_state.proofs.FormerLemmas.{filter_map-map, viewed-alike}
@@ -123,7 +123,7 @@ flat-same {A} made same (row ∷ rows) =
     ap₂ (λ (one others : List A). one ++ others) (same row) (flat-same made same rows)
 
 -- the page of them that is asked for
-text-same : (site : Site) (context : List ℕ) (whole : Whole) (page : ℕ)
+text-same : (site : Site) (context : List ℕ) (whole : PagedList) (page : ℕ)
     (terms ignored : List (List ℕ)) (notes : List NoteState)
     → notes_text site context whole page terms ignored (map blotted notes)
     ≡ notes_text site context whole page terms ignored notes
@@ -153,7 +153,7 @@ hits-same : (view : View) (manifest : List ℕ) (wanted : Wanted)
 unfolding hits
 hits-same view manifest wanted = chosen-same (matches wanted) (matches-same wanted) view manifest
 
-found-same : (site : Site) (whole : Whole) (query : QueryRecord) (found : List NoteState)
+found-same : (site : Site) (whole : PagedList) (query : QueryRecord) (found : List NoteState)
     → found_text site whole query (map blotted found) ≡ found_text site whole query found
 unfolding found_text
 found-same site whole query found = text-same site _ whole query.page _ _ found
@@ -273,7 +273,7 @@ page-items-same base true page size notes =
     ∙ iris-same base (page_of page size notes))
 page-items-same base false page size notes = ap items_of (items-same base page size notes)
 
-container-body-same : (site : Site) (whole : Whole) (prefer : Prefer) (notes : List NoteState)
+container-body-same : (site : Site) (whole : PagedList) (prefer : Prefer) (notes : List NoteState)
     → container_body site whole prefer (map blotted notes) ≡ container_body site whole prefer notes
 container-body-same site whole prefer notes =
     rw (length-map notes blotted, page-items-same site.base prefer.iris 1 site.size notes) refl
@@ -288,7 +288,7 @@ container-same site view name prefer =
           (notes_on view name),
     ) refl
 
-own-same : (site : Site) (whole : Whole) (iris : Bool) (page : ℕ) (notes : List NoteState)
+own-same : (site : Site) (whole : PagedList) (iris : Bool) (page : ℕ) (notes : List NoteState)
     → own_text site whole iris page (map blotted notes) ≡ own_text site whole iris page notes
 unfolding own_text
 own-same site whole iris page notes =

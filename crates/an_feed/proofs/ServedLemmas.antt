@@ -37,7 +37,7 @@ use Rattle.an_base.specs.Front.{after_front}
 use Rattle.an_base.proofs.FrontLemmas.{front-there}
 use Rattle.an_list.specs.Page.{page_link, link_before, link_after, page_count, start_of, page_of, page_iri}
 use Rattle.an_list.specs.declared.page.PageForm.TheVariants as form
-use Rattle.an_list.specs.declared.page.Whole.{Whole}
+use Rattle.an_list.specs.declared.page.PagedList.{PagedList}
 use Rattle.an_state.specs.declared.activity.Seen.{Seen}
 use Rattle.an_stream.specs.Activity.{activity}
 use Rattle.an_stream.specs.Stream.{changes_context, changes_whole, stream_page, stream_page_members, stream_tree}
@@ -55,7 +55,7 @@ if_shallow (Some tree) = depth tree ≤ 1
 -- ---- a page
 
 -- what a page tells, with what stands before and after it
-module _ (whole : Whole) (page start : ℕ) (items : Items) where
+module _ (whole : PagedList) (page start : ℕ) (items : Items) where
   abbrev with_links : Option Data → Option Data → Data
   with_links before after =
       with_member_if (codes "prev") before
@@ -231,7 +231,7 @@ pub page-ends : {A : Type 0} (start size : ℕ) (items : List A) → start ≤ l
 page-ends start size items within = simp (length-take, length-drop) (omega arith)
 
 -- the stream's own body is a tree too, so its text reads back
-pub stream-read : (whole : Whole) (pages total : ℕ) → is_utf8 whole.path ≡ true
+pub stream-read : (whole : PagedList) (pages total : ℕ) → is_utf8 whole.path ≡ true
     → is_utf8 (page_iri whole 1) ≡ true → is_utf8 (page_iri whole pages) ≡ true
     → nat_lt total (2 ^ 64) ≡ true
     → tree_of (compact_text (stream_tree whole pages total)) ≡ Ok (stream_tree whole pages total)

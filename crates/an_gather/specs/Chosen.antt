@@ -6,7 +6,7 @@ use Rattle.an_code.specs.declared.parameter.Parameter.TheVariants as parameter
 use Rattle.an_iri.specs.Iris.{gather_complete_iri, gather_search_iri}
 use Rattle.an_list.specs.Site.{Site}
 use Rattle.an_list.specs.declared.error.ReadError.{ReadError}
-use Rattle.an_list.specs.declared.page.Whole.{Whole}
+use Rattle.an_list.specs.declared.page.PagedList.{PagedList}
 use Rattle.an_query.specs.Form.{form_of}
 use Rattle.an_search.specs.Gathered.{hits_on}
 use Rattle.an_search.specs.declared.gathered.Scope.{Scope}
@@ -36,7 +36,7 @@ gather_form gather =
     form_of ((parameter.Manifests, gather.manifests) ∷ query_parameters gather.query)
 
 -- all that the search finds
-abbrev pub gather_whole : List ℕ → GatherRecord → Whole
+abbrev pub gather_whole : List ℕ → GatherRecord → PagedList
 gather_whole base gather =
     record { path = gather_search_iri base; parameters = gather_form gather }
 

@@ -11,7 +11,7 @@ use crate::gather::Gather;
 use an_base::{Bytes, Steps, Text};
 use an_code::Parameter;
 use an_iri::gather_search_iri;
-use an_list::{ReadError, Site, Whole};
+use an_list::{PagedList, ReadError, Site};
 use an_policy::Who;
 use an_query::append_given;
 use an_search::{append_query, search_on};
@@ -56,12 +56,12 @@ pub fn gather_search<T: Look, L: Ledger>(
 }
 
 /// All that the search finds.
-fn gather_whole(alloc: Global, base: &str, gather: &Gather) -> Result<Whole, AllocError>
+fn gather_whole(alloc: Global, base: &str, gather: &Gather) -> Result<PagedList, AllocError>
     ensures { IfOk result (λ whole. whole ≡ gather_whole base.now gather.now) }
 {
     let path = gather_search_iri(alloc, base)?;
     let parameters = gather_form(alloc, gather)?;
-    Ok(Whole {
+    Ok(PagedList {
         path: Text::from_string(path),
         parameters: Text::from_string(parameters),
     })

@@ -18,7 +18,7 @@ use Rattle.an_iri.specs.Iris.{note_iri}
 use Rattle.an_list.specs.Listed.{HasListed, StandAt, listed_note, marks_of, row_marks}
 use Rattle.an_list.specs.Marks.{highlights_of}
 use Rattle.an_list.specs.Page.{page_of, start_of}
-use Rattle.an_list.specs.declared.items.Listed.{Listed}
+use Rattle.an_list.specs.declared.items.PageItems.{PageItems}
 
 -- tests that agree pass the same
 pub filter_same : {A : Type 0} (p q : A → Bool) → ((row : A) → p row ≡ q row) → (rows : List A)
@@ -134,7 +134,7 @@ no_marks base page number row = by row.live
 -- ---- what was written
 
 module _ (base : List ℕ) (terms : List (List ℕ)) (page : List ℕ) (rows : List NoteState)
-    (row : NoteState) (old new : Listed) (has : HasListed base terms page rows old) where
+    (row : NoteState) (old new : PageItems) (has : HasListed base terms page rows old) where
   pub HasListed-more : new.items.items
       ≡ old.items.items ++ item_commas (items_of (filter_map (listed_note base) (row ∷ [])))
       → new.marks.text.items
@@ -210,7 +210,7 @@ marks_of-ascending base terms page number (row ∷ rows) =
 
 -- what was written for the terms in order was written for the terms
 pub HasListed-sought : (base : List ℕ) (terms sought : List (List ℕ)) (page : List ℕ)
-    (rows : List NoteState) (listed : Listed) → sought ≡ ascending terms
+    (rows : List NoteState) (listed : PageItems) → sought ≡ ascending terms
     → HasListed base sought page rows listed → HasListed base terms page rows listed
 HasListed-sought base terms sought page rows listed is has =
     let same =

@@ -10,11 +10,11 @@ use Rattle.an_list.specs.Page.{list_page, page_iri, page_of, paging_of}
 use Rattle.an_list.specs.Site.{Site}
 use Rattle.an_list.specs.declared.error.ReadError.{ReadError}
 use Rattle.an_list.specs.declared.page.Paging.{Paging}
-use Rattle.an_list.specs.declared.page.Whole.{Whole}
+use Rattle.an_list.specs.declared.page.PagedList.{PagedList}
 use Rattle.an_list.proofs.PageLemmas.{paging_is, shown_past, shown_there}
 
-module _ (site : Site) (context : List ℕ) (whole : Whole) (page : ℕ) (terms ignored : List (List ℕ))
-    (rows : List NoteState) (total : ℕ) (total_is : total ≡ length rows) where
+module _ (site : Site) (context : List ℕ) (whole : PagedList) (page : ℕ)
+    (terms ignored : List (List ℕ)) (rows : List NoteState) (total : ℕ) (total_is : total ≡ length rows) where
   pub past_notes : (error : ReadError) → Err error ≡ paging_of site page total
       → notes_text site context whole page terms ignored rows ≡ Err error
   unfolding notes_text

@@ -6,14 +6,14 @@ use Rattle.json.specs.Print.{escape_byte}
 use Rattle.serde_json.specs.Data.{string, object, Items, no_items, item, member, no_members}
 use Rattle.serde_json.specs.Written.{compact_text}
 use Rattle.an_list.specs.Page.{whole_iri, page_iri, list_page}
-use Rattle.an_list.specs.declared.page.Whole.{Whole}
+use Rattle.an_list.specs.declared.page.PagedList.{PagedList}
 
 -- ---- the IRIs of a list with parameters, and of one without
 
-herons : Whole
+herons : PagedList
 herons = record { path = codes "http://a.example/search/m1"; parameters = codes "q=heron" }
 
-birds : Whole
+birds : PagedList
 birds = record { path = codes "http://a.example/p/1"; parameters = [] }
 
 row-search : whole_iri herons ≡ codes "http://a.example/search/m1?q=heron"

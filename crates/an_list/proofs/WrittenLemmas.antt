@@ -9,7 +9,7 @@ use Rattle.an_model.specs.Targets.{is_empty}
 use Rattle.an_list.specs.Page.{page_count, start_of, page_iri, whole_link, link_after, link_before, marks_beside, texts_beside, list_page}
 use Rattle.an_list.specs.PageText.{head_text, content_text, member_if, text_if, place_members, content_members, written_members}
 use Rattle.an_list.specs.declared.page.PageForm.TheVariants as form
-use Rattle.an_list.specs.declared.page.Whole.{Whole}
+use Rattle.an_list.specs.declared.page.PagedList.{PagedList}
 
 -- ---- pieces join
 
@@ -50,7 +50,7 @@ grows before after more is = omega (arith, ap length is, length-append before mo
 
 -- ---- the members' texts
 
-pub place_text : (whole : Whole) (page size total : ℕ)
+pub place_text : (whole : PagedList) (page size total : ℕ)
     → member_text (codes "partOf") (whole_link whole (page_count total size) total)
     ++ (text_if (codes "prev") (link_before form.Annotations whole page)
     ++ (member_text (codes "startIndex") (number (unsigned (start_of page size)))
@@ -72,7 +72,7 @@ between before after first last y others =
     ∙ ap (λ all. text_if before first ++ all) (append_assoc y (text_if after last) (commas others)
     ∙ ap (λ all. y ++ all) (sym (commas-member_if after last others)))
 
-content_then : (whole : Whole) (page size total : ℕ) (items : Items) (ignored : List (List ℕ))
+content_then : (whole : PagedList) (page size total : ℕ) (items : Items) (ignored : List (List ℕ))
     → content_text whole page size total items ignored
     ++ commas (place_members whole page size total)
     ≡ commas (content_members whole page size total items ignored)
@@ -84,7 +84,7 @@ content_then whole page size total items ignored =
     ∙ sym (commas-member_if (codes "ignored") (texts_beside ignored)
     (member (codes "items") (array items) (member_if (codes "next") after place)))
 
-head_then : (context : List ℕ) (whole : Whole) (page : ℕ) (marks : Items) (others : Members)
+head_then : (context : List ℕ) (whole : PagedList) (page : ℕ) (marks : Items) (others : Members)
     → head_text context whole page marks ++ commas others
     ≡ commas (member (codes "@context") (string context)
     (member_if (codes "annotations") (marks_beside (page_iri whole page) marks)
@@ -99,7 +99,7 @@ head_then context whole page marks others =
     ∙ sym (commas-member_if (codes "annotations") beside
     (member (codes "id") (string (page_iri whole page)) others)))
 
-module _ (context : List ℕ) (whole : Whole) (page size total : ℕ) (items marks : Items)
+module _ (context : List ℕ) (whole : PagedList) (page size total : ℕ) (items marks : Items)
     (ignored : List (List ℕ)) where
   pub all_pieces : (out head content text : List ℕ)
       → head ≡ out ++ head_text context whole page marks
@@ -148,8 +148,8 @@ with_marks None (Some ignored) context id items others = refl
 with_marks (Some marks) None context id items others = refl
 with_marks (Some marks) (Some ignored) context id items others = refl
 
-pub written_page : (context : List ℕ) (whole : Whole) (page size total : ℕ) (items marks : Items)
-    (ignored : List (List ℕ))
+pub written_page : (context : List ℕ) (whole : PagedList) (page size total : ℕ)
+    (items marks : Items) (ignored : List (List ℕ))
     → object (written_members context whole page size total items marks ignored)
     ≡ list_page context whole page size total items marks ignored
 unfolding list_page

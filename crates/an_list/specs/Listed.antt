@@ -9,7 +9,7 @@ use Rattle.an_iri.specs.Iris.{note_iri}
 use Rattle.an_served.specs.Note.{dressed}
 use Rattle.an_state.specs.State.{NoteState, LiveNote}
 use Rattle.an_list.specs.Marks.{highlights_of}
-use Rattle.an_list.specs.declared.items.Listed.{Listed}
+use Rattle.an_list.specs.declared.items.PageItems.{PageItems}
 
 -- the tree that is kept, as it is served
 abbrev pub listed_live : List ℕ → NoteState → LiveNote → Data
@@ -45,7 +45,7 @@ StandAt notes places rows = map (slice_get notes) places ≡ map Some rows
 -- these annotations were written as items, each behind a comma, and so were their marks for these
 -- terms on this page
 pub record HasListed (base : List ℕ) (terms : List (List ℕ)) (page : List ℕ)
-    (rows : List NoteState) (listed : Listed) : Type 0 where
+    (rows : List NoteState) (listed : PageItems) : Type 0 where
   pub items : listed.items.items ≡ item_commas (items_of (filter_map (listed_note base) rows))
   pub marks : listed.marks.text.items ≡ item_commas (items_of (marks_of base terms page 1 rows))
   pub count : listed.marks.count ≡ length (marks_of base terms page 1 rows)

@@ -9,12 +9,12 @@ use Rattle.an_list.specs.Listed.{listed_note, marks_of}
 use Rattle.an_list.specs.Page.{list_page, on_page, page_iri, page_of}
 use Rattle.an_list.specs.Site.{Site}
 use Rattle.an_list.specs.declared.error.ReadError.{ReadError}
-use Rattle.an_list.specs.declared.page.Whole.{Whole}
+use Rattle.an_list.specs.declared.page.PagedList.{PagedList}
 
 -- the page of this number of a list of annotations, with the marks of the words that have these
 -- terms, and the names of parameters that were ignored
 abbrev pub notes_page
-    : Site → List ℕ → Whole → ℕ → List (List ℕ) → List (List ℕ) → List NoteState → Data
+    : Site → List ℕ → PagedList → ℕ → List (List ℕ) → List (List ℕ) → List NoteState → Data
 notes_page site context whole page terms ignored notes =
     let shown = page_of page site.size notes in
     list_page context whole page site.size (length notes)
@@ -23,7 +23,7 @@ notes_page site context whole page terms ignored notes =
 
 -- the same as text, where the list has a page of this number
 unfoldable pub notes_text
-    : Site → List ℕ → Whole → ℕ → List (List ℕ) → List (List ℕ) → List NoteState
+    : Site → List ℕ → PagedList → ℕ → List (List ℕ) → List (List ℕ) → List NoteState
     → Result (List ℕ) ReadError
 notes_text site context whole page terms ignored notes =
     on_page site page (length notes)

@@ -14,7 +14,7 @@ use Rattle.an_list.specs.declared.error.ReadError.TheVariants.{NoPage}
 use Rattle.an_list.specs.declared.page.PageForm.{PageForm}
 use Rattle.an_list.specs.declared.page.PageForm.TheVariants as form
 use Rattle.an_list.specs.declared.page.Paging.{Paging}
-use Rattle.an_list.specs.declared.page.Whole.{Whole}
+use Rattle.an_list.specs.declared.page.PagedList.{PagedList}
 
 -- ---- which items stand on a page
 
@@ -54,17 +54,17 @@ page_of page size items = take size (drop (start_of page size) items)
 
 -- ---- IRIs
 
--- `Whole` is a list that is served in pages: its IRI without parameters, and its parameters as a
--- form writes them, of which there may be none
+-- `PagedList` is a list that is served in pages: its IRI without parameters, and its parameters as
+-- a form writes them, of which there may be none
 
 -- the IRI of the list: PATH, or PATH?PARAMETERS
-abbrev pub whole_iri : Whole → List ℕ
+abbrev pub whole_iri : PagedList → List ℕ
 whole_iri whole =
     if length whole.parameters == 0 then whole.path
     else whole.path ++ (codes "?" ++ whole.parameters)
 
 -- that of a page, its number the last parameter: PATH?page=PAGE, or PATH?PARAMETERS&page=PAGE
-abbrev pub page_iri : Whole → ℕ → List ℕ
+abbrev pub page_iri : PagedList → ℕ → List ℕ
 page_iri whole page =
     if length whole.parameters == 0 then whole.path ++ (codes "?page=" ++ decimal page)
     else whole.path ++ (codes "?" ++ (whole.parameters ++ (codes "&page=" ++ decimal page)))
@@ -83,18 +83,18 @@ page_named form.Annotations iri = thing iri (codes "AnnotationPage")
 page_named form.Changes iri = thing iri (codes "OrderedCollectionPage")
 
 -- the page of this number, as another names it
-abbrev pub page_link : PageForm → Whole → ℕ → Data
+abbrev pub page_link : PageForm → PagedList → ℕ → Data
 page_link form whole page = page_named form (page_iri whole page)
 
 -- the page after this one, of so many, and the one before it, where there is one
-abbrev pub link_after : PageForm → Whole → ℕ → ℕ → Option Data
+abbrev pub link_after : PageForm → PagedList → ℕ → ℕ → Option Data
 link_after form whole pages page = option_map (page_link form whole) (page_after pages page)
 
-abbrev pub link_before : PageForm → Whole → ℕ → Option Data
+abbrev pub link_before : PageForm → PagedList → ℕ → Option Data
 link_before form whole page = option_map (page_link form whole) (page_before page)
 
 -- the whole, as a page of it names it
-abbrev pub whole_link : Whole → ℕ → ℕ → Data
+abbrev pub whole_link : PagedList → ℕ → ℕ → Data
 whole_link whole pages total =
     object (member (codes "first") (page_link form.Annotations whole 1)
     (member (codes "id") (string (whole_iri whole))
@@ -123,7 +123,7 @@ texts_beside texts = if length texts == 0 then None else Some (array (items_of (
 -- ---- a page
 
 -- the members that every page has
-abbrev pub page_members : List ℕ → Whole → ℕ → ℕ → ℕ → Items → Data
+abbrev pub page_members : List ℕ → PagedList → ℕ → ℕ → ℕ → Items → Data
 page_members context whole page size total items =
     object (member (codes "@context") (string context)
     (member (codes "id") (string (page_iri whole page))
@@ -135,7 +135,7 @@ page_members context whole page size total items =
 -- a page of a list of so many items: those of them that it has, the marks of what was found in
 -- these, and the names of the parameters that were ignored
 unfoldable pub list_page
-    : List ℕ → Whole → ℕ → ℕ → ℕ → Items → Items → List (List ℕ) → Data
+    : List ℕ → PagedList → ℕ → ℕ → ℕ → Items → Items → List (List ℕ) → Data
 list_page context whole page size total items marks ignored =
     with_member_if (codes "annotations") (marks_beside (page_iri whole page) marks)
     (with_member_if (codes "ignored") (texts_beside ignored)

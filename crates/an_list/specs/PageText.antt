@@ -6,7 +6,7 @@ use Rattle.an_base.specs.Write.{member_text}
 use Rattle.an_list.specs.Page.{page_count, start_of, page_iri, whole_link, link_after}
 use Rattle.an_list.specs.Page.{link_before, marks_beside, texts_beside}
 use Rattle.an_list.specs.declared.page.PageForm.TheVariants as form
-use Rattle.an_list.specs.declared.page.Whole.{Whole}
+use Rattle.an_list.specs.declared.page.PagedList.{PagedList}
 
 -- the member, where there is a value, before others
 abbrev pub member_if : List ℕ → Option Data → Members → Members
@@ -19,21 +19,21 @@ text_if name None = []
 text_if name (Some value) = member_text name value
 
 -- the text of its first members, up to its IRI
-abbrev pub head_text : List ℕ → Whole → ℕ → Items → List ℕ
+abbrev pub head_text : List ℕ → PagedList → ℕ → Items → List ℕ
 head_text context whole page marks =
     member_text (codes "@context") (string context)
     ++ (text_if (codes "annotations") (marks_beside (page_iri whole page) marks)
     ++ member_text (codes "id") (string (page_iri whole page)))
 
 -- the text of those behind, up to the page after it
-abbrev pub content_text : Whole → ℕ → ℕ → ℕ → Items → List (List ℕ) → List ℕ
+abbrev pub content_text : PagedList → ℕ → ℕ → ℕ → Items → List (List ℕ) → List ℕ
 content_text whole page size total items ignored =
     text_if (codes "ignored") (texts_beside ignored)
     ++ (member_text (codes "items") (array items)
     ++ text_if (codes "next") (link_after form.Annotations whole (page_count total size) page))
 
 -- the members of a page from its place in the list on
-abbrev pub place_members : Whole → ℕ → ℕ → ℕ → Members
+abbrev pub place_members : PagedList → ℕ → ℕ → ℕ → Members
 place_members whole page size total =
     member (codes "partOf") (whole_link whole (page_count total size) total)
     (member_if (codes "prev") (link_before form.Annotations whole page)
@@ -41,7 +41,7 @@ place_members whole page size total =
     (member (codes "type") (string (codes "AnnotationPage")) no_members)))
 
 -- those from its parameters that were ignored on
-abbrev pub content_members : Whole → ℕ → ℕ → ℕ → Items → List (List ℕ) → Members
+abbrev pub content_members : PagedList → ℕ → ℕ → ℕ → Items → List (List ℕ) → Members
 content_members whole page size total items ignored =
     member_if (codes "ignored") (texts_beside ignored)
     (member (codes "items") (array items)
@@ -50,7 +50,7 @@ content_members whole page size total items ignored =
 
 -- all members of a page
 abbrev pub written_members
-    : List ℕ → Whole → ℕ → ℕ → ℕ → Items → Items → List (List ℕ) → Members
+    : List ℕ → PagedList → ℕ → ℕ → ℕ → Items → Items → List (List ℕ) → Members
 written_members context whole page size total items marks ignored =
     member (codes "@context") (string context)
     (member_if (codes "annotations") (marks_beside (page_iri whole page) marks)

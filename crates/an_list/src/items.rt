@@ -21,7 +21,7 @@ const USUAL: usize = 1024;
 
 /// The annotations of a page as lists give them, each behind a comma, and the marks in them.
 #[derive(Drop)]
-pub struct Listed {
+pub struct PageItems {
     pub items: Vec<u8>,
     pub marks: Marks,
 }
@@ -36,7 +36,7 @@ pub fn list_items<T: Look, L: Ledger>(
     base: &str,
     page: &str,
     steps: &mut Steps<L>,
-) -> Result<Listed, AllocError>
+) -> Result<PageItems, AllocError>
     requires few { length places.now ≤ 100 }
     ensures listed { IfOk result (λ listed. (rows : List NoteState)
         → StandAt (T.state look.now).notes places.now rows
@@ -57,7 +57,7 @@ fn list_rows<T: Look, L: Ledger>(
     base: &str,
     page: &str,
     steps: &mut Steps<L>,
-) -> Result<Listed, AllocError>
+) -> Result<PageItems, AllocError>
     requires few { length places.now ≤ 100 }
     ensures listed { IfOk result (λ listed. (rows : List NoteState)
         → StandAt (T.state look.now).notes places.now rows
@@ -79,14 +79,14 @@ fn list_rows<T: Look, L: Ledger>(
 }
 
 /// Nothing yet, with room for items and for marks.
-fn nothing_listed(alloc: Global, items: usize, marks: usize) -> Result<Listed, AllocError>
+fn nothing_listed(alloc: Global, items: usize, marks: usize) -> Result<PageItems, AllocError>
     ensures nothing { (base : List ℕ) (terms : List (List ℕ)) (page : List ℕ)
         → IfOk result (λ listed. HasListed base terms page [] listed) }
     ensures none { IfOk result (λ listed. listed.marks.count ≡ 0) }
 {
     let items = Vec::with_capacity(alloc, items)?;
     let text = Vec::with_capacity(alloc, marks)?;
-    Ok(Listed {
+    Ok(PageItems {
         items,
         marks: Marks { text, count: 0 },
     })
@@ -94,22 +94,22 @@ fn nothing_listed(alloc: Global, items: usize, marks: usize) -> Result<Listed, A
 
 fn list_row(
     alloc: Global,
-    listed: Listed,
+    listed: PageItems,
     row: &NoteRow,
     terms: &TextSet,
     base: &str,
     page: &str,
-) -> Result<Listed, AllocError>
+) -> Result<PageItems, AllocError>
     requires numbers { listed.marks.count + 11 < 2 ^ 64 }
     ensures row { IfOk result (λ new. (rows : List NoteState)
         → HasListed base.now terms.now page.now rows listed
         → HasListed base.now terms.now page.now (rows ++ row.now ∷ []) new) }
     ensures few { IfOk result (λ new. new.marks.count ≤ listed.marks.count + 10) }
 {
-    let Listed { items, marks } = listed;
+    let PageItems { items, marks } = listed;
     let items = push_listed(alloc, items, base, row)?;
     let marks = push_marks(alloc, marks, row, terms, base, page)?;
-    Ok(Listed { items, marks })
+    Ok(PageItems { items, marks })
 }
 
 /// Adds the marks in an annotation, numbered on. Without terms nothing is marked.

@@ -11,11 +11,11 @@
 #![tactic(auto)]
 
 pub use error::ReadError;
-pub use items::{Listed, list_items};
+pub use items::{PageItems, list_items};
 pub use marked::{Marks, highlight};
 pub use notes::{NoteList, page_of_notes};
 pub use page::{
-    PageForm, Paging, Whole, page_iri, page_of, page_text, push_ignored, push_link_member,
+    PageForm, PagedList, Paging, page_iri, page_of, page_text, push_ignored, push_link_member,
     push_next, push_prev, push_text_item, push_thing_member,
 };
 pub use site::{Site, SiteError, read_site};

@@ -11,7 +11,7 @@ ghost use Rattle.an_list.specs.Page.{list_page, page_iri};
 
 use crate::error::ReadError;
 use crate::items::list_items;
-use crate::page::{Paging, Whole, page_iri, page_of, page_text};
+use crate::page::{PagedList, Paging, page_iri, page_of, page_text};
 use crate::site::Site;
 use an_base::{Bytes, Steps, Text};
 use an_state::Look;
@@ -21,7 +21,7 @@ use std::sync::ledger::Ledger;
 /// A list of annotations that is served in pages, and what its pages say besides.
 #[derive(Clone, Copy)]
 pub struct NoteList<'a> {
-    pub whole: &'a Whole,
+    pub whole: &'a PagedList,
     /// The context of its pages.
     pub context: &'a str,
     /// The terms whose words are marked.

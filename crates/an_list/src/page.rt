@@ -25,7 +25,7 @@ const FRAME: usize = 1024;
 
 /// A list that is served in pages.
 #[derive(Drop)]
-pub struct Whole {
+pub struct PagedList {
     /// Its IRI without parameters.
     pub path: Text,
     /// Its parameters as a form writes them, of which there may be none.
@@ -132,7 +132,7 @@ pub enum PageForm {
 pub fn page_text(
     alloc: Global,
     context: &str,
-    whole: &Whole,
+    whole: &PagedList,
     paging: Paging,
     items: &[u8],
     marks: &[u8],
@@ -158,7 +158,7 @@ fn push_head(
     alloc: Global,
     out: Vec<u8>,
     context: &str,
-    whole: &Whole,
+    whole: &PagedList,
     paging: Paging,
     marks: &[u8],
 ) -> Result<Vec<u8>, AllocError>
@@ -241,7 +241,7 @@ fn push_marks_items(out: Vec<u8>, marks: &[u8]) -> Result<Vec<u8>, AllocError>
 fn push_content(
     alloc: Global,
     out: Vec<u8>,
-    whole: &Whole,
+    whole: &PagedList,
     paging: Paging,
     items: &[u8],
     ignored: &[Text],
@@ -307,7 +307,7 @@ pub fn push_text_item(out: Vec<u8>, text: &str) -> Result<Vec<u8>, AllocError>
 fn push_place(
     alloc: Global,
     out: Vec<u8>,
-    whole: &Whole,
+    whole: &PagedList,
     paging: Paging,
 ) -> Result<Vec<u8>, AllocError>
     requires page { 1 ≤ paging.page }
@@ -327,7 +327,7 @@ fn push_place(
 fn push_whole(
     alloc: Global,
     out: Vec<u8>,
-    whole: &Whole,
+    whole: &PagedList,
     pages: usize,
     total: usize,
 ) -> Result<Vec<u8>, AllocError>
@@ -344,7 +344,7 @@ fn push_whole(
     Ok(out)
 }
 
-fn push_whole_id(alloc: Global, out: Vec<u8>, whole: &Whole) -> Result<Vec<u8>, AllocError>
+fn push_whole_id(alloc: Global, out: Vec<u8>, whole: &PagedList) -> Result<Vec<u8>, AllocError>
     ensures text { IfOk result (λ v. v.items
         ≡ out.items ++ member_text (codes "id") (string (whole_iri whole.now))) }
 {
@@ -359,7 +359,7 @@ fn push_whole_id(alloc: Global, out: Vec<u8>, whole: &Whole) -> Result<Vec<u8>, 
 pub fn push_next(
     alloc: Global,
     out: Vec<u8>,
-    whole: &Whole,
+    whole: &PagedList,
     form: PageForm,
     paging: Paging,
 ) -> Result<Vec<u8>, AllocError>
@@ -377,7 +377,7 @@ pub fn push_next(
 pub fn push_prev(
     alloc: Global,
     out: Vec<u8>,
-    whole: &Whole,
+    whole: &PagedList,
     form: PageForm,
     paging: Paging,
 ) -> Result<Vec<u8>, AllocError>
@@ -395,7 +395,7 @@ pub fn push_link_member(
     alloc: Global,
     out: Vec<u8>,
     name: &str,
-    whole: &Whole,
+    whole: &PagedList,
     form: PageForm,
     number: usize,
 ) -> Result<Vec<u8>, AllocError>
@@ -451,7 +451,7 @@ fn push_thing(out: Vec<u8>, iri: &str, kind: &str) -> Result<Vec<u8>, AllocError
 }
 
 /// The IRI of the list.
-pub(crate) fn whole_iri(alloc: Global, whole: &Whole) -> Result<String, AllocError>
+pub(crate) fn whole_iri(alloc: Global, whole: &PagedList) -> Result<String, AllocError>
     ensures iri { IfOk result (λ iri. string_bytes iri ≡ whole_iri whole.now) }
 {
     let path = whole.path.as_str();
@@ -464,7 +464,7 @@ pub(crate) fn whole_iri(alloc: Global, whole: &Whole) -> Result<String, AllocErr
 }
 
 /// The IRI of a page of the list.
-pub fn page_iri(alloc: Global, whole: &Whole, number: usize) -> Result<String, AllocError>
+pub fn page_iri(alloc: Global, whole: &PagedList, number: usize) -> Result<String, AllocError>
     ensures iri { IfOk result (λ iri. string_bytes iri ≡ page_iri whole.now number) }
 {
     let path = whole.path.as_str();

@@ -22,7 +22,7 @@ use Rattle.an_list.specs.Site.{Site}
 use Rattle.an_list.specs.declared.page.PageForm.TheVariants as form
 use Rattle.an_list.specs.declared.error.ReadError.{ReadError}
 use Rattle.an_list.specs.declared.page.Paging.{Paging}
-use Rattle.an_list.specs.declared.page.Whole.{Whole}
+use Rattle.an_list.specs.declared.page.PagedList.{PagedList}
 use Rattle.an_list.proofs.PageLemmas.{paging_is, shown_past, shown_there}
 use Rattle.an_pages.specs.Bodies.{note_context}
 use Rattle.an_pages.specs.Container.{container_contexts, container_link, container_tree, container_body, container_types, first_page, held_page, iri_item, items_on, notes_on, own_page, own_text}
@@ -78,8 +78,8 @@ iris_on base iris notes places rows is stand =
 
 -- ---- which page
 
-module _ (site : Site) (whole : Whole) (iris : Bool) (page : ℕ) (rows : List NoteState) (total : ℕ)
-    (total_is : total ≡ length rows) where
+module _ (site : Site) (whole : PagedList) (iris : Bool) (page : ℕ) (rows : List NoteState)
+    (total : ℕ) (total_is : total ≡ length rows) where
   pub past_own_page : (error : ReadError) → Err error ≡ paging_of site page total
       → own_text site whole iris page rows ≡ Err error
   unfolding own_text
@@ -110,22 +110,22 @@ end_members page size =
     member (codes "startIndex") (number (unsigned (start_of page size)))
     (member (codes "type") (string (codes "AnnotationPage")) no_members)
 
-abbrev content_members : Whole → ℕ → ℕ → ℕ → Items → Members → Members
+abbrev content_members : PagedList → ℕ → ℕ → ℕ → Items → Members → Members
 content_members whole page size total items others =
     member (codes "id") (string (page_iri whole page))
     (member (codes "items") (array items)
     (member_if (codes "next") (link_after form.Iri whole (page_count total size) page) others))
 
-abbrev part_members : Whole → ℕ → ℕ → Members → Members
+abbrev part_members : PagedList → ℕ → ℕ → Members → Members
 part_members whole page total others =
     member (codes "partOf") (container_link whole total)
     (member_if (codes "prev") (link_before form.Iri whole page) others)
 
-abbrev pub held_members : Whole → ℕ → ℕ → ℕ → Items → Members
+abbrev pub held_members : PagedList → ℕ → ℕ → ℕ → Items → Members
 held_members whole page size total items =
     content_members whole page size total items (end_members page size)
 
-abbrev pub own_members : Whole → ℕ → ℕ → ℕ → Items → Members
+abbrev pub own_members : PagedList → ℕ → ℕ → ℕ → Items → Members
 own_members whole page size total items =
     member (codes "@context") (string note_context)
     (content_members whole page size total items
@@ -136,7 +136,7 @@ end_is page size =
     ap (λ last. member_text (codes "startIndex") (number (unsigned (start_of page size))) ++ last)
     (sym (append-nil (member_text (codes "type") (string (codes "AnnotationPage")))))
 
-content_then : (whole : Whole) (page size total : ℕ) (items : Items) (others : Members)
+content_then : (whole : PagedList) (page size total : ℕ) (items : Items) (others : Members)
     → content_text whole page size total items ++ commas others
     ≡ commas (content_members whole page size total items others)
 content_then whole page size total items others =
@@ -147,7 +147,7 @@ content_then whole page size total items others =
     ∙ ap (λ all. id ++ all) (append_assoc list (text_if (codes "next") after) (commas others)
     ∙ ap (λ all. list ++ all) (sym (commas-member_if (codes "next") after others)))
 
-part_then : (whole : Whole) (page total : ℕ) (others : Members)
+part_then : (whole : PagedList) (page total : ℕ) (others : Members)
     → part_text whole page total ++ commas others ≡ commas (part_members whole page total others)
 part_then whole page total others =
     let part = member_text (codes "partOf") (container_link whole total) in
@@ -155,14 +155,14 @@ part_then whole page total others =
     append_assoc part (text_if (codes "prev") before) (commas others)
     ∙ ap (λ all. part ++ all) (sym (commas-member_if (codes "prev") before others))
 
-pub held_pieces : (whole : Whole) (page size total : ℕ) (items : Items)
+pub held_pieces : (whole : PagedList) (page size total : ℕ) (items : Items)
     → content_text whole page size total items ++ end_text page size
     ≡ commas (held_members whole page size total items)
 held_pieces whole page size total items =
     ap (λ last. content_text whole page size total items ++ last) (end_is page size)
     ∙ content_then whole page size total items (end_members page size)
 
-pub own_pieces : (whole : Whole) (page size total : ℕ) (items : Items)
+pub own_pieces : (whole : PagedList) (page size total : ℕ) (items : Items)
     → member_text (codes "@context") (string note_context)
     ++ (content_text whole page size total items
     ++ (part_text whole page total ++ end_text page size))
@@ -207,7 +207,7 @@ with_links None (Some before) context id items part start type = refl
 with_links (Some after) None context id items part start type = refl
 with_links (Some after) (Some before) context id items part start type = refl
 
-pub held_is : (whole : Whole) (page size total : ℕ) (items : Items)
+pub held_is : (whole : PagedList) (page size total : ℕ) (items : Items)
     → object (held_members whole page size total items) ≡ held_page whole page size total items
 unfolding held_page
 held_is whole page size total items =
@@ -215,7 +215,7 @@ held_is whole page size total items =
     (string (page_iri whole page)) (array items) (number (unsigned (start_of page size)))
     (string (codes "AnnotationPage"))
 
-pub own_is : (whole : Whole) (page size total : ℕ) (items : Items)
+pub own_is : (whole : PagedList) (page size total : ℕ) (items : Items)
     → object (own_members whole page size total items) ≡ own_page whole page size total items
 unfolding own_page held_page
 own_is whole page size total items =
@@ -227,19 +227,19 @@ own_is whole page size total items =
 
 -- ---- the container
 
-abbrev pub whole_members : Whole → ℕ → ℕ → Members
+abbrev pub whole_members : PagedList → ℕ → ℕ → Members
 whole_members whole size total =
     member (codes "id") (string whole.path)
     (member (codes "last") (string (page_iri whole (page_count total size)))
     (member (codes "total") (number (unsigned total))
     (member (codes "type") container_types no_members)))
 
-abbrev pub container_members : Whole → Data → ℕ → ℕ → Members
+abbrev pub container_members : PagedList → Data → ℕ → ℕ → Members
 container_members whole first size total =
     member (codes "@context") container_contexts
     (member (codes "first") first (whole_members whole size total))
 
-pub container_pieces : (whole : Whole) (first : Data) (size total : ℕ)
+pub container_pieces : (whole : PagedList) (first : Data) (size total : ℕ)
     → member_text (codes "@context") container_contexts
     ++ (member_text (codes "first") first ++ whole_text whole size total)
     ≡ commas (container_members whole first size total)
@@ -251,12 +251,12 @@ container_pieces whole first size total =
     ++ (member_text (codes "first") first ++ (id ++ (last ++ (count ++ end)))))
     (sym (append-nil (member_text (codes "type") container_types)))
 
-pub container_is : (whole : Whole) (first : Data) (size total : ℕ)
+pub container_is : (whole : PagedList) (first : Data) (size total : ℕ)
     → object (container_members whole first size total) ≡ container_tree whole first size total
 unfolding container_tree
 container_is whole first size total = refl
 
-pub container_found : (site : Site) (whole : Whole) (prefer : Prefer) (rows : List NoteState)
+pub container_found : (site : Site) (whole : PagedList) (prefer : Prefer) (rows : List NoteState)
     (base body : List ℕ) (total size : ℕ) → base ≡ site.base → total ≡ length rows
     → size ≡ site.size
     → body ≡ compact_text (container_tree whole

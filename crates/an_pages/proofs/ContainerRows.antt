@@ -7,7 +7,7 @@ use Rattle.serde_json.specs.Data.{no_items, item, string}
 use Rattle.serde_json.specs.Written.{compact_text}
 use Rattle.an_selectors.specs.declared.region.Xywh.{Xywh}
 use Rattle.an_list.specs.Page.{page_iri}
-use Rattle.an_list.specs.declared.page.Whole.{Whole}
+use Rattle.an_list.specs.declared.page.PagedList.{PagedList}
 use Rattle.an_pages.specs.Canvas.{canvas_at, canvas_whole, meets, overlap}
 use Rattle.an_pages.specs.Container.{container_tree, container_whole, first_page, held_page, own_page}
 
@@ -62,7 +62,7 @@ row-page_of_a_canvas = refl
 
 -- ---- a container of three annotations, two on a page
 
-birds : Bool → Whole
+birds : Bool → PagedList
 birds iris = container_whole (codes "http://a.example") (codes "m1") iris
 
 row-minimal :

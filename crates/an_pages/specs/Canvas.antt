@@ -16,7 +16,7 @@ use Rattle.an_state.specs.State.{ManifestState, NoteState}
 use Rattle.an_state.specs.View.{View, is_on, manifest_in}
 use Rattle.an_list.specs.Notes.{notes_text}
 use Rattle.an_list.specs.Site.{Site}
-use Rattle.an_list.specs.declared.page.Whole.{Whole}
+use Rattle.an_list.specs.declared.page.PagedList.{PagedList}
 use Rattle.an_list.specs.declared.error.ReadError.{ReadError}
 use Rattle.an_list.specs.declared.error.ReadError.TheVariants.{Absent}
 
@@ -84,7 +84,7 @@ region_form (Some region) =
     ++ (decimal region.w ++ (codes "%2C" ++ decimal region.h))))))
 
 -- all annotations on the canvas, or on the region
-abbrev pub canvas_whole : List ℕ → List ℕ → ℕ → Option Xywh → Whole
+abbrev pub canvas_whole : List ℕ → List ℕ → ℕ → Option Xywh → PagedList
 canvas_whole base name canvas region = record {
   path = canvas_iri base name canvas;
   parameters = region_form region;

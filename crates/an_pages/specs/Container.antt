@@ -17,7 +17,7 @@ use Rattle.an_list.specs.Page.{on_page, page_count, page_iri, page_of, start_of}
 use Rattle.an_list.specs.Page.{link_after, link_before}
 use Rattle.an_list.specs.Site.{Site}
 use Rattle.an_list.specs.declared.page.PageForm.TheVariants as form
-use Rattle.an_list.specs.declared.page.Whole.{Whole}
+use Rattle.an_list.specs.declared.page.PagedList.{PagedList}
 use Rattle.an_pages.specs.Bodies.{note_context}
 use Rattle.an_list.specs.declared.error.ReadError.{ReadError}
 use Rattle.an_list.specs.declared.error.ReadError.TheVariants.{Absent}
@@ -28,7 +28,7 @@ use Rattle.an_list.specs.declared.error.ReadError.TheVariants.{Absent}
 abbrev pub iris_form : Bool → List ℕ
 iris_form iris = if iris then codes "iris=1" else []
 
-abbrev pub container_whole : List ℕ → List ℕ → Bool → Whole
+abbrev pub container_whole : List ℕ → List ℕ → Bool → PagedList
 container_whole base name iris = record {
   path = container_iri base name;
   parameters = iris_form iris;
@@ -56,7 +56,7 @@ container_types =
     (item (string (codes "AnnotationCollection")) no_items))
 
 -- the container, as a page of its own names it
-abbrev pub container_link : Whole → ℕ → Data
+abbrev pub container_link : PagedList → ℕ → Data
 container_link whole total =
     object (member (codes "id") (string whole.path)
     (member (codes "total") (number (unsigned total))
@@ -65,7 +65,7 @@ container_link whole total =
 -- ---- pages
 
 -- a page as the container holds it (Web Annotation Protocol, section 4.2.2)
-unfoldable pub held_page : Whole → ℕ → ℕ → ℕ → Items → Data
+unfoldable pub held_page : PagedList → ℕ → ℕ → ℕ → Items → Data
 held_page whole page size total items =
     with_member_if (codes "next") (link_after form.Iri whole (page_count total size) page)
     (object (member (codes "id") (string (page_iri whole page))
@@ -74,7 +74,7 @@ held_page whole page size total items =
     (member (codes "type") (string (codes "AnnotationPage")) no_members)))))
 
 -- the same as it is served on its own: with its context, what it is part of, and the page before
-unfoldable pub own_page : Whole → ℕ → ℕ → ℕ → Items → Data
+unfoldable pub own_page : PagedList → ℕ → ℕ → ℕ → Items → Data
 own_page whole page size total items =
     with_member (codes "@context") (string note_context)
     (with_member (codes "partOf") (container_link whole total)
@@ -89,12 +89,12 @@ container_contexts =
     (item (string (codes "http://www.w3.org/ns/ldp.jsonld")) no_items))
 
 -- its first page; where the container alone is preferred, that page's IRI
-abbrev pub first_page : Whole → Bool → ℕ → ℕ → Items → Data
+abbrev pub first_page : PagedList → Bool → ℕ → ℕ → Items → Data
 first_page whole minimal size total items =
     if minimal then string (page_iri whole 1) else held_page whole 1 size total items
 
 -- the container with this first page
-unfoldable pub container_tree : Whole → Data → ℕ → ℕ → Data
+unfoldable pub container_tree : PagedList → Data → ℕ → ℕ → Data
 container_tree whole first size total =
     object (member (codes "@context") container_contexts
     (member (codes "first") first
@@ -106,7 +106,7 @@ container_tree whole first size total =
 -- ---- the answers, from the caller's view alone
 
 -- the container of these annotations
-abbrev pub container_body : Site → Whole → Prefer → List NoteState → List ℕ
+abbrev pub container_body : Site → PagedList → Prefer → List NoteState → List ℕ
 container_body site whole prefer notes =
     compact_text (container_tree whole
     (first_page whole prefer.minimal site.size (length notes)
@@ -121,7 +121,7 @@ container_of site view name prefer =
     else Err Absent
 
 -- a page of these annotations, where there is one of this number
-unfoldable pub own_text : Site → Whole → Bool → ℕ → List NoteState → Result (List ℕ) ReadError
+unfoldable pub own_text : Site → PagedList → Bool → ℕ → List NoteState → Result (List ℕ) ReadError
 own_text site whole iris page notes =
     on_page site page (length notes)
     (compact_text (own_page whole page site.size (length notes)

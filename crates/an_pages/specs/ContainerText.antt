@@ -5,18 +5,18 @@ use Rattle.an_base.specs.Write.{member_text}
 use Rattle.an_list.specs.Page.{page_count, page_iri, start_of, link_after, link_before}
 use Rattle.an_list.specs.PageText.{text_if}
 use Rattle.an_list.specs.declared.page.PageForm.TheVariants as form
-use Rattle.an_list.specs.declared.page.Whole.{Whole}
+use Rattle.an_list.specs.declared.page.PagedList.{PagedList}
 use Rattle.an_pages.specs.Container.{container_link, container_types}
 
 -- the text of the members from its IRI to the page after it
-abbrev pub content_text : Whole → ℕ → ℕ → ℕ → Items → List ℕ
+abbrev pub content_text : PagedList → ℕ → ℕ → ℕ → Items → List ℕ
 content_text whole page size total items =
     member_text (codes "id") (string (page_iri whole page))
     ++ (member_text (codes "items") (array items)
     ++ text_if (codes "next") (link_after form.Iri whole (page_count total size) page))
 
 -- that of what it is part of, and of the page before it
-abbrev pub part_text : Whole → ℕ → ℕ → List ℕ
+abbrev pub part_text : PagedList → ℕ → ℕ → List ℕ
 part_text whole page total =
     member_text (codes "partOf") (container_link whole total)
     ++ text_if (codes "prev") (link_before form.Iri whole page)
@@ -28,7 +28,7 @@ end_text page size =
     ++ member_text (codes "type") (string (codes "AnnotationPage"))
 
 -- that of the members of a container behind its first page
-abbrev pub whole_text : Whole → ℕ → ℕ → List ℕ
+abbrev pub whole_text : PagedList → ℕ → ℕ → List ℕ
 whole_text whole size total =
     member_text (codes "id") (string whole.path)
     ++ (member_text (codes "last") (string (page_iri whole (page_count total size)))

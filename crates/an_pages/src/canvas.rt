@@ -13,7 +13,7 @@ ghost use Rattle.an_pages.specs.Cost.{about_cost, canvas_page_cost};
 use crate::about::places_about;
 use an_base::{Bytes, Name, Steps, Text};
 use an_iri::canvas_iri;
-use an_list::{NoteList, ReadError, Site, Whole, page_of_notes};
+use an_list::{NoteList, PagedList, ReadError, Site, page_of_notes};
 use an_manifest::KeptSheet;
 use an_policy::Who;
 use an_selectors::Xywh;
@@ -113,7 +113,7 @@ fn page_about<T: Look, L: Ledger>(
     name: &Name,
     canvas: &str,
     region: Option<Xywh>,
-    whole: &Whole,
+    whole: &PagedList,
     page: u32,
     site: &Site,
     steps: &mut Steps<L>,
@@ -146,12 +146,12 @@ fn canvas_whole(
     name: &Name,
     canvas: u32,
     region: Option<Xywh>,
-) -> Result<Whole, AllocError>
+) -> Result<PagedList, AllocError>
     ensures { IfOk result (λ whole. whole ≡ canvas_whole base.now name.now canvas region) }
 {
     let path = canvas_iri(alloc, base, name.as_str(), canvas)?;
     let parameters = region_form(alloc, region)?;
-    Ok(Whole {
+    Ok(PagedList {
         path: Text::from_string(path),
         parameters: Text::from_string(parameters),
     })

@@ -18,7 +18,7 @@ use crate::items::items_at;
 use crate::written::{container_text, held_text, own_text};
 use an_base::{Bytes, Name, Prefer, Steps, Text, push_text};
 use an_iri::container_iri;
-use an_list::{Paging, ReadError, Site, Whole, page_iri, page_of};
+use an_list::{PagedList, Paging, ReadError, Site, page_iri, page_of};
 use an_policy::Who;
 use an_state::{Look, shown_manifest};
 use std::alloc::{AllocError, Global};
@@ -83,7 +83,7 @@ fn container_body<T: Look, L: Ledger>(
 fn container_at<T: Look, L: Ledger>(
     alloc: Global,
     look: &T,
-    whole: &Whole,
+    whole: &PagedList,
     prefer: Prefer,
     places: &[usize],
     site: &Site,
@@ -113,7 +113,7 @@ fn container_at<T: Look, L: Ledger>(
 fn first_text<T: Look, L: Ledger>(
     alloc: Global,
     look: &T,
-    whole: &Whole,
+    whole: &PagedList,
     paging: Paging,
     places: &[usize],
     base: &str,
@@ -142,7 +142,7 @@ fn first_text<T: Look, L: Ledger>(
     }
 }
 
-fn first_iri(alloc: Global, whole: &Whole) -> Result<Vec<u8>, AllocError>
+fn first_iri(alloc: Global, whole: &PagedList) -> Result<Vec<u8>, AllocError>
     ensures { IfOk result (λ text. text.items ≡ compact_text (string (page_iri whole.now 1))) }
 {
     let iri = page_iri(alloc, whole, 1)?;
@@ -218,7 +218,7 @@ fn page_shown<T: Look, L: Ledger>(
 fn page_at<T: Look, L: Ledger>(
     alloc: Global,
     look: &T,
-    whole: &Whole,
+    whole: &PagedList,
     iris: bool,
     page: u32,
     places: &[usize],
@@ -247,7 +247,7 @@ fn page_at<T: Look, L: Ledger>(
 fn write_page<T: Look, L: Ledger>(
     alloc: Global,
     look: &T,
-    whole: &Whole,
+    whole: &PagedList,
     paging: Paging,
     places: &[usize],
     base: &str,
@@ -272,12 +272,17 @@ fn write_page<T: Look, L: Ledger>(
 }
 
 /// The container's list, of whole annotations or of their IRIs.
-fn container_whole(alloc: Global, base: &str, name: &Name, iris: bool) -> Result<Whole, AllocError>
+fn container_whole(
+    alloc: Global,
+    base: &str,
+    name: &Name,
+    iris: bool,
+) -> Result<PagedList, AllocError>
     ensures { IfOk result (λ whole. whole ≡ container_whole base.now name.now iris) }
 {
     let path = container_iri(alloc, base, name.as_str())?;
     let parameters = Text::new(alloc, iris_form(iris))?;
-    Ok(Whole {
+    Ok(PagedList {
         path: Text::from_string(path),
         parameters,
     })

@@ -10,7 +10,7 @@ ghost use Rattle.an_pages.specs.Container.{iri_item, items_on};
 use an_base::Steps;
 use an_iri::note_iri;
 use an_keyed::Keyed;
-use an_list::{Listed, list_items, push_text_item};
+use an_list::{PageItems, list_items, push_text_item};
 use an_state::{Look, NoteRow};
 use std::alloc::{AllocError, Global};
 use std::sync::ledger::Ledger;
@@ -40,7 +40,7 @@ pub(crate) fn items_at<T: Look, L: Ledger>(
         Ok(items)
     } else {
         let listed = list_items(alloc, look, places, &[], base, "", steps)?;
-        let Listed { items, marks } = listed;
+        let PageItems { items, marks } = listed;
         drop(marks);
         Ok(items)
     }

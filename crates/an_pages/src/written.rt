@@ -11,7 +11,9 @@ use crate::note::NOTE_CONTEXT;
 use an_base::{
     Bytes, close_members, push_array_member, push_name, push_number_member, push_text_member,
 };
-use an_list::{PageForm, Paging, Whole, push_link_member, push_next, push_prev, push_text_item};
+use an_list::{
+    PageForm, PagedList, Paging, push_link_member, push_next, push_prev, push_text_item,
+};
 use std::alloc::{AllocError, Global};
 
 /// The context of containers (Linked Data Platform 1.0).
@@ -25,7 +27,7 @@ const PAGE_ROOM: usize = 1024;
 /// are the texts of the page's items, each behind a comma.
 pub(crate) fn held_text(
     alloc: Global,
-    whole: &Whole,
+    whole: &PagedList,
     paging: Paging,
     items: &[u8],
 ) -> Result<Vec<u8>, AllocError>
@@ -44,7 +46,7 @@ pub(crate) fn held_text(
 /// The text of a page as it is served on its own.
 pub(crate) fn own_text(
     alloc: Global,
-    whole: &Whole,
+    whole: &PagedList,
     paging: Paging,
     items: &[u8],
 ) -> Result<Bytes, AllocError>
@@ -66,7 +68,7 @@ pub(crate) fn own_text(
 fn push_content(
     alloc: Global,
     out: Vec<u8>,
-    whole: &Whole,
+    whole: &PagedList,
     paging: Paging,
     items: &[u8],
 ) -> Result<Vec<u8>, AllocError>
@@ -85,7 +87,7 @@ fn push_content(
 fn push_part(
     alloc: Global,
     out: Vec<u8>,
-    whole: &Whole,
+    whole: &PagedList,
     paging: Paging,
 ) -> Result<Vec<u8>, AllocError>
     ensures text { IfOk result
@@ -101,7 +103,7 @@ fn push_part(
 fn push_link(
     alloc: Global,
     out: Vec<u8>,
-    whole: &Whole,
+    whole: &PagedList,
     total: usize,
 ) -> Result<Vec<u8>, AllocError>
     ensures text { IfOk result
@@ -128,7 +130,7 @@ fn push_end(out: Vec<u8>, paging: Paging) -> Result<Vec<u8>, AllocError>
 /// The text of the container with its first page, of which this is the text.
 pub(crate) fn container_text(
     alloc: Global,
-    whole: &Whole,
+    whole: &PagedList,
     paging: Paging,
     first: &[u8],
 ) -> Result<Bytes, AllocError>
@@ -158,7 +160,7 @@ fn push_first(out: Vec<u8>, first: &[u8]) -> Result<Vec<u8>, AllocError>
 fn push_whole(
     alloc: Global,
     out: Vec<u8>,
-    whole: &Whole,
+    whole: &PagedList,
     paging: Paging,
 ) -> Result<Vec<u8>, AllocError>
     requires size { 1 ≤ paging.size }

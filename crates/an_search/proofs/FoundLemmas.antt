@@ -9,7 +9,7 @@ use Rattle.an_list.specs.Notes.{notes_text}
 use Rattle.an_list.specs.Site.{Site}
 use Rattle.an_list.specs.declared.error.ReadError.{ReadError}
 use Rattle.an_list.specs.declared.error.ReadError.TheVariants.{Memory}
-use Rattle.an_list.specs.declared.page.Whole.{Whole}
+use Rattle.an_list.specs.declared.page.PagedList.{PagedList}
 use Rattle.an_query.specs.Query.{QueryRecord}
 use Rattle.an_search.specs.Found.{is_wanted_at}
 use Rattle.an_search.specs.Search.{found_text, search_context}
@@ -47,7 +47,7 @@ stand-wanted notes wanted (place ∷ places) =
 
 -- ---- the page that is asked for
 
-pub found_by : (site : Site) (whole : Whole) (query : QueryRecord) (rows : List NoteState)
+pub found_by : (site : Site) (whole : PagedList) (query : QueryRecord) (rows : List NoteState)
     (page : ℕ) (terms ignored : List (List ℕ)) {A : Type 0} (view : A → List ℕ)
     (result : Result A ReadError)
     → page ≡ query.page → terms ≡ wanted_terms query.q → ignored ≡ query.ignored

@@ -13,7 +13,7 @@ use Rattle.an_list.specs.Notes.{notes_text}
 use Rattle.an_list.specs.Site.{Site}
 use Rattle.an_list.specs.declared.error.ReadError.{ReadError}
 use Rattle.an_list.specs.declared.error.ReadError.TheVariants.{Absent}
-use Rattle.an_list.specs.declared.page.Whole.{Whole}
+use Rattle.an_list.specs.declared.page.PagedList.{PagedList}
 use Rattle.an_search.specs.Wanted.{matches, wanted_of, wanted_terms}
 use Rattle.an_search.specs.declared.wanted.Wanted.{Wanted}
 
@@ -42,14 +42,15 @@ abbrev pub search_context : List ℕ
 search_context = codes "http://iiif.io/api/search/2/context.json"
 
 -- all that a search finds
-abbrev pub whole_of : List ℕ → List ℕ → QueryRecord → Whole
+abbrev pub whole_of : List ℕ → List ℕ → QueryRecord → PagedList
 whole_of base manifest query = record {
   path = search_iri base manifest;
   parameters = query_form query;
 }
 
 -- the page of what was found that the query asks for
-unfoldable pub found_text : Site → Whole → QueryRecord → List NoteState → Result (List ℕ) ReadError
+unfoldable pub found_text
+    : Site → PagedList → QueryRecord → List NoteState → Result (List ℕ) ReadError
 found_text site whole query found =
     notes_text site search_context whole query.page (wanted_terms query.q) query.ignored found
 

@@ -15,7 +15,7 @@ use crate::hits::{hit_places, hits_within};
 use crate::searching::page_at;
 use crate::wanted::{Wanted, wanted_of};
 use an_base::{Bytes, Name, Steps};
-use an_list::{ReadError, Site, Whole};
+use an_list::{PagedList, ReadError, Site};
 use an_policy::Who;
 use an_query::Query;
 use an_slots::merge;
@@ -41,7 +41,7 @@ pub fn search_on<T: Look, L: Ledger>(
     who: &Who<'_>,
     scope: Scope,
     manifests: &[&Name],
-    whole: &Whole,
+    whole: &PagedList,
     query: &Query,
     site: &Site,
     steps: &mut Steps<L>,

@@ -17,7 +17,7 @@ use crate::wanted::wanted_of;
 use an_base::{Bytes, Name, Steps, Text};
 use an_code::Parameter;
 use an_iri::search_iri;
-use an_list::{NoteList, ReadError, Site, Whole, page_of_notes};
+use an_list::{NoteList, PagedList, ReadError, Site, page_of_notes};
 use an_policy::Who;
 use an_query::{Query, append_filters, append_given};
 use an_state::{Look, shown_manifest};
@@ -117,7 +117,7 @@ fn search_shown<T: Look, L: Ledger>(
 pub(crate) fn page_at<T: Look, L: Ledger>(
     alloc: Global,
     look: &T,
-    whole: &Whole,
+    whole: &PagedList,
     query: &Query,
     site: &Site,
     places: &[usize],
@@ -144,12 +144,17 @@ pub(crate) fn page_at<T: Look, L: Ledger>(
 }
 
 /// All that a search finds.
-fn whole_of(alloc: Global, base: &str, manifest: &Name, query: &Query) -> Result<Whole, AllocError>
+fn whole_of(
+    alloc: Global,
+    base: &str,
+    manifest: &Name,
+    query: &Query,
+) -> Result<PagedList, AllocError>
     ensures { IfOk result (λ whole. whole ≡ whole_of base.now manifest.now query.now) }
 {
     let path = search_iri(alloc, base, manifest.as_str())?;
     let parameters = query_form(alloc, query)?;
-    Ok(Whole {
+    Ok(PagedList {
         path: Text::from_string(path),
         parameters: Text::from_string(parameters),
     })

@@ -9,7 +9,7 @@ use Rattle.an_list.proofs.WrittenLemmas.{commas-member_if, piece_then, last_piec
 use Rattle.an_list.specs.PageText.{member_if, text_if}
 use Rattle.an_list.specs.Page.{page_iri, thing, link_after, link_before}
 use Rattle.an_list.specs.declared.page.PageForm.TheVariants as form
-use Rattle.an_list.specs.declared.page.Whole.{Whole}
+use Rattle.an_list.specs.declared.page.PagedList.{PagedList}
 use Rattle.an_stream.specs.Activity.{activity, kind_text, thing_of}
 use Rattle.an_stream.specs.Stream.{changes_context, stream_page}
 use Rattle.an_stream.specs.PageText.{head_text, place_members}
@@ -53,14 +53,14 @@ activity_pieces base seen out first second text moment changed kind =
 -- ---- a page
 
 -- its members in the order in which they are written
-abbrev pub page_members : Whole → ℕ → ℕ → ℕ → Items → Members
+abbrev pub page_members : PagedList → ℕ → ℕ → ℕ → Items → Members
 page_members whole pages page start items =
     member (codes "@context") (string changes_context)
     (member (codes "id") (string (page_iri whole page))
     (member_if (codes "next") (link_after form.Changes whole pages page)
     (member (codes "orderedItems") (array items) (place_members whole page start))))
 
-pub place_text : (whole : Whole) (page start : ℕ)
+pub place_text : (whole : PagedList) (page start : ℕ)
     → member_text (codes "partOf") (thing whole.path (codes "OrderedCollection"))
     ++ (text_if (codes "prev") (link_before form.Changes whole page)
     ++ (member_text (codes "startIndex") (number (unsigned start))
@@ -72,7 +72,7 @@ place_text whole page start =
     (member (codes "startIndex") (number (unsigned start))
     (member (codes "type") (string (codes "OrderedCollectionPage")) no_members))))
 
-head_then : (whole : Whole) (pages page : ℕ) (others : Members)
+head_then : (whole : PagedList) (pages page : ℕ) (others : Members)
     → head_text whole pages page ++ commas others
     ≡ commas (member (codes "@context") (string changes_context)
     (member (codes "id") (string (page_iri whole page))
@@ -86,7 +86,7 @@ head_then whole pages page others =
     ∙ ap (λ all. id ++ all)
     (sym (commas-member_if (codes "next") (link_after form.Changes whole pages page) others)))
 
-pub page_pieces : (whole : Whole) (pages page start : ℕ) (items : Items)
+pub page_pieces : (whole : PagedList) (pages page start : ℕ) (items : Items)
     (out head content text : List ℕ)
     → head ≡ out ++ head_text whole pages page
     → content ≡ head ++ member_text (codes "orderedItems") (array items)
@@ -113,7 +113,7 @@ with_links None (Some before) context id items part start type = refl
 with_links (Some after) None context id items part start type = refl
 with_links (Some after) (Some before) context id items part start type = refl
 
-pub written_page : (whole : Whole) (pages page start : ℕ) (items : Items)
+pub written_page : (whole : PagedList) (pages page start : ℕ) (items : Items)
     → object (page_members whole pages page start items) ≡ stream_page whole pages page start items
 unfolding stream_page
 written_page whole pages page start items =

@@ -13,7 +13,7 @@ use Rattle.an_list.specs.Page.{on_page, page_count, page_of, start_of, page_iri,
 use Rattle.an_list.specs.Page.{page_link, link_after, link_before}
 use Rattle.an_list.specs.Site.{Site}
 use Rattle.an_list.specs.declared.page.PageForm.TheVariants as form
-use Rattle.an_list.specs.declared.page.Whole.{Whole}
+use Rattle.an_list.specs.declared.page.PagedList.{PagedList}
 use Rattle.an_stream.specs.Activity.{activity}
 use Rattle.an_list.specs.declared.error.ReadError.{ReadError}
 
@@ -22,13 +22,13 @@ abbrev pub changes_context : List ℕ
 changes_context = codes "http://iiif.io/api/discovery/1/context.json"
 
 -- the stream as a list that is served in pages
-abbrev pub changes_whole : List ℕ → Whole
+abbrev pub changes_whole : List ℕ → PagedList
 changes_whole base = record { path = changes_iri base; parameters = [] }
 
 -- ---- the stream
 
 -- a stream of so many pages and activities
-abbrev pub stream_tree : Whole → ℕ → ℕ → Data
+abbrev pub stream_tree : PagedList → ℕ → ℕ → Data
 stream_tree whole pages total =
     object (member (codes "@context") (string changes_context)
     (member (codes "first") (page_link form.Changes whole 1)
@@ -46,7 +46,7 @@ changes_of site view =
 -- ---- its pages
 
 -- the members that every page has
-abbrev pub stream_page_members : Whole → ℕ → ℕ → Items → Data
+abbrev pub stream_page_members : PagedList → ℕ → ℕ → Items → Data
 stream_page_members whole page start items =
     object (member (codes "@context") (string changes_context)
     (member (codes "id") (string (page_iri whole page))
@@ -56,7 +56,7 @@ stream_page_members whole page start items =
     (member (codes "type") (string (codes "OrderedCollectionPage")) no_members))))))
 
 -- a page of a stream of so many pages, behind so many activities
-unfoldable pub stream_page : Whole → ℕ → ℕ → ℕ → Items → Data
+unfoldable pub stream_page : PagedList → ℕ → ℕ → ℕ → Items → Data
 stream_page whole pages page start items =
     with_member_if (codes "prev") (link_before form.Changes whole page)
     (with_member_if (codes "next") (link_after form.Changes whole pages page)

@@ -13,7 +13,9 @@ use an_base::{
     Bytes, Text, close_members, push_array_member, push_number_member, push_text_member,
 };
 use an_iri::changes_iri;
-use an_list::{PageForm, Paging, Whole, push_link_member, push_next, push_prev, push_thing_member};
+use an_list::{
+    PageForm, PagedList, Paging, push_link_member, push_next, push_prev, push_thing_member,
+};
 use an_state::Seen;
 use std::alloc::{AllocError, Global};
 
@@ -27,11 +29,11 @@ const ACTIVITY_ROOM: usize = 256;
 const PAGE_ROOM: usize = 1024;
 
 /// The stream as a list that is served in pages.
-pub(crate) fn changes_whole(alloc: Global, base: &str) -> Result<Whole, AllocError>
+pub(crate) fn changes_whole(alloc: Global, base: &str) -> Result<PagedList, AllocError>
     ensures whole { IfOk result (λ whole. whole ≡ changes_whole base.now) }
 {
     let path = changes_iri(alloc, base)?;
-    Ok(Whole {
+    Ok(PagedList {
         path: Text::from_string(path),
         parameters: Text::from_string(String::new(alloc)),
     })
@@ -40,7 +42,7 @@ pub(crate) fn changes_whole(alloc: Global, base: &str) -> Result<Whole, AllocErr
 /// The text of a stream of so many pages and activities, its members in the order of their names.
 pub(crate) fn stream_text(
     alloc: Global,
-    whole: &Whole,
+    whole: &PagedList,
     pages: usize,
     total: usize,
 ) -> Result<Bytes, AllocError>
@@ -63,7 +65,7 @@ pub(crate) fn stream_text(
 pub(crate) fn page_text(
     alloc: Global,
     base: &str,
-    whole: &Whole,
+    whole: &PagedList,
     paging: Paging,
     activities: &[Seen],
 ) -> Result<Bytes, AllocError>
@@ -87,7 +89,7 @@ pub(crate) fn page_text(
 fn push_head(
     alloc: Global,
     out: Vec<u8>,
-    whole: &Whole,
+    whole: &PagedList,
     paging: Paging,
 ) -> Result<Vec<u8>, AllocError>
     requires size { 1 ≤ paging.size }
@@ -106,7 +108,7 @@ fn push_head(
 fn push_place(
     alloc: Global,
     out: Vec<u8>,
-    whole: &Whole,
+    whole: &PagedList,
     paging: Paging,
 ) -> Result<Vec<u8>, AllocError>
     requires page { 1 ≤ paging.page }

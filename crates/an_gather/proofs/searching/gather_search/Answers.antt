@@ -4,7 +4,7 @@ use Rattle.an_policy.specs.Audience.{identity}
 use Rattle.an_state.specs.View.{view_of}
 use Rattle.an_list.specs.Cost.{Takes}
 use Rattle.an_list.specs.declared.error.ReadError.TheVariants.{Memory}
-use Rattle.an_list.specs.declared.page.Whole.{Whole}
+use Rattle.an_list.specs.declared.page.PagedList.{PagedList}
 use Rattle.an_query.specs.Query.{QueryRecord}
 use Rattle.an_search.specs.Gathered.{hits_on, search_cost_on, searched}
 use Rattle.an_search.specs.Search.{found_text}
@@ -28,7 +28,7 @@ returns-clause-answer g c =
     (found_text c.args.site.now (gather_whole c.args.site.now.base c.args.gather.now) query
     (hits_on view (searched view c.in_ok-chosen.chosen.scope c.as_slice.result.now)
     (wanted_of query)))) c.query.ensures.value
-    (subst (λ (whole : Whole). Gives (λ page. page) Memory c.search_on.result
+    (subst (λ (whole : PagedList). Gives (λ page. page) Memory c.search_on.result
     (found_text c.args.site.now whole c.query.result.now
     (hits_on view (searched view c.in_ok-chosen.chosen.scope c.as_slice.result.now)
     (wanted_of c.query.result.now)))) whole c.search_on.ensures.answer))
