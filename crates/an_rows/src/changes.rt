@@ -138,8 +138,11 @@ fn change_of(alloc: Global, row: &Row, book: &Book) -> Result<Change, AllocError
     })
 }
 
-fn table_of(row: &Row) -> u8
-    ensures { result ≡ table_of row.now }
+/// The table that has a row's cell.
+pub fn table_of(row: &Row) -> u8
+    ensures table { result ≡ table_of row.now }
+    ensures first { 1 ≤ result }
+    ensures last { result ≤ 4 }
 {
     match row {
         Row::Reader(_) => 1,

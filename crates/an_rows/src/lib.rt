@@ -11,7 +11,7 @@
 //! `migration` is what turns the cells of a store from the first into the second.
 #![tactic(auto)]
 
-pub use changes::cells_of;
+pub use changes::{cells_of, table_of};
 pub use format::{Format, format_of};
 pub use laws::{
     cells_read_back, changes_lead_on, former_cells_read_back, migration_leads_on,

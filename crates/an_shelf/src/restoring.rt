@@ -8,7 +8,6 @@ ghost use Rattle.an_state.specs.Sound.{is_live_manifest, stands_on_live};
 ghost use Rattle.an_state.specs.State.{live_readers, manifest_key, note_key, reader_key};
 ghost use Rattle.an_rows.specs.Cells.{has_its_token, has_key, if_next, may_follow, row_behind};
 ghost use Rattle.an_rows.specs.Cells.{rows_before};
-ghost use Rattle.an_rows.specs.RowTree.{table_of};
 ghost use Rattle.an_shelf.specs.Restoring.{IsDamage, Reads, RowFits, read_error, row_count};
 ghost use Rattle.an_shelf.specs.Restoring.{state_behind};
 
@@ -17,7 +16,7 @@ use an_base::{Name, Text, TryCopy};
 use an_keep::Cell;
 use an_keyed::Keyed;
 use an_policy::Caller;
-use an_rows::{Format, RowError, read_row};
+use an_rows::{Format, RowError, read_row, table_of};
 use an_snapshot::Snapshot;
 use an_state::{Activity, Book, Entry, Look, ManifestRow, NoteRow, ReaderRow, Row};
 use std::alloc::{AllocError, Global};
@@ -99,19 +98,6 @@ fn rows_before(book: &Book, row: &Row) -> u64
     ensures { result ≡ rows_before book.now.state row.now }
 {
     book.length(table_of(row)) as u64
-}
-
-fn table_of(row: &Row) -> u8
-    ensures table { result ≡ table_of row.now }
-    ensures first { 1 ≤ result }
-    ensures last { result ≤ 4 }
-{
-    match row {
-        Row::Reader(_) => 1,
-        Row::Manifest(_) => 2,
-        Row::Note(_) => 3,
-        Row::Activity(_) => 4,
-    }
 }
 
 /// Whether the row may stand behind those of the book.
